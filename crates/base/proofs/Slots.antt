@@ -1,0 +1,41 @@
+-- Rows of 64 slots, of which row k uses the first `count k`: what is taken together over the used slots, slot by slot, is what is taken
+-- together row by row.
+use mathlib.Core.Path.{_≡_, refl, sym, _∙_, ap}
+use mathlib.Core.Bool.{Bool, true, _&&_, and-assoc, and-true}
+use mathlib.Core.List.{List, [], _++_, append-assoc, append-nil}
+use Prim.Native.Nat.{ℕ, _+_, _*_, _/_, _%_, _<_, _≤_}
+use native.Mathlib.Omega.{arith}
+use lib.Dec.{ltb}
+use Rattle.base.specs.Choice.{pick}
+use Rattle.base.specs.Range.{fold, below, joined}
+use Rattle.base.proofs.Folds.{fold-same, fold-grid, fold-front}
+
+pub row-of : (k i : ℕ) → i < 64 → (64 * k + i) / 64 ≡ k
+row-of k i h = omega arith
+
+pub place-of : (k i : ℕ) → i < 64 → (64 * k + i) % 64 ≡ i
+place-of k i h = omega arith
+
+module _ {A : Type 0} (op : A → A → A) (e : A) (assoc : (a b c : A) → op (op a b) c ≡ op a (op b c)) (unit : (a : A) → op a e ≡ a) where
+  fold-slots : (n : ℕ) (count : ℕ → ℕ) (f : ℕ → ℕ → ℕ → A) → ((k : ℕ) → k < n → count k ≤ 64)
+      → fold op e (64 * n) (λ j. pick (ltb (j % 64) (count (j / 64))) (f j (count (j / 64)) (j % 64)) e)
+      ≡ fold op e n (λ k. fold op e (count k) (λ i. f (64 * k + i) (count k) i))
+  fold-slots n count f few =
+      let g : ℕ → A = λ j. pick (ltb (j % 64) (count (j / 64))) (f j (count (j / 64)) (j % 64)) e in
+      fold-grid op e assoc unit 64 n g
+      ∙ fold-same op e n (λ k. fold op e 64 (λ i. g (64 * k + i))) (λ k. fold op e (count k) (λ i. f (64 * k + i) (count k) i))
+      (λ k h.
+      fold-same op e 64 (λ i. g (64 * k + i)) (λ i. pick (ltb i (count k)) (f (64 * k + i) (count k) i) e) (λ i q. rw (row-of k i q, place-of k i q) refl)
+      ∙ fold-front op e assoc unit (count k) 64 (λ i. f (64 * k + i) (count k) i) (few k h))
+
+-- a test of each used slot
+pub below-slots : (n : ℕ) (count : ℕ → ℕ) (p : ℕ → ℕ → ℕ → Bool) → ((k : ℕ) → k < n → count k ≤ 64)
+    → below (64 * n) (λ j. pick (ltb (j % 64) (count (j / 64))) (p j (count (j / 64)) (j % 64)) true)
+    ≡ below n (λ k. below (count k) (λ i. p (64 * k + i) (count k) i))
+below-slots = fold-slots _&&_ true and-assoc and-true
+
+-- the lists of the used slots, joined
+pub joined-slots : {A : Type 0} (n : ℕ) (count : ℕ → ℕ) (f : ℕ → ℕ → ℕ → List A) → ((k : ℕ) → k < n → count k ≤ 64)
+    → joined (64 * n) (λ j. pick (ltb (j % 64) (count (j / 64))) (f j (count (j / 64)) (j % 64)) [])
+    ≡ joined n (λ k. joined (count k) (λ i. f (64 * k + i) (count k) i))
+joined-slots = fold-slots _++_ [] append-assoc append-nil

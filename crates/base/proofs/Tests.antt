@@ -1,0 +1,91 @@
+-- Laws of tests: a conjunction and its parts, a test of each number below a bound and of each element of a list.
+use mathlib.Core.Path.{_≡_, refl, sym}
+use mathlib.Core.Bool.{Bool, true, false, _&&_, and-assoc}
+use mathlib.Core.Logic.{by-cases}
+use mathlib.Core.List.{List, [], _∷_, _++_}
+use Prim.Native.Nat.{ℕ, zero, suc, _+_, _<_, _≤_}
+use native.Mathlib.Numerals.{add-one}
+use native.Mathlib.Omega.{arith}
+use native.Mathlib.Decide.{ℕ-discrete}
+use lib.Dec.{leb}
+use borrow.Author.Tests.{leb-true, le-leb}
+use lib.ListN.{length, getD}
+use Rattle.base.specs.Choice.{within}
+use Rattle.base.specs.Range.{fold, below}
+use Rattle.base.specs.Rows.{every}
+
+pub and-left : (a b : Bool) → a && b ≡ true → a ≡ true
+and-left true b h = refl
+and-left false b h = h
+
+pub and-right : (a b : Bool) → a && b ≡ true → b ≡ true
+and-right true b h = h
+and-right false b h = cc
+
+pub and-both : (a b : Bool) → a ≡ true → b ≡ true → a && b ≡ true
+and-both a b p q = rw p q
+
+pub and-false : (a : Bool) → a && false ≡ false
+and-false true = refl
+and-false false = refl
+
+pub and-true : (a : Bool) → a && true ≡ a
+and-true true = refl
+and-true false = refl
+
+-- a number that is within bounds is at least the lower and at most the upper
+pub within-low : (low high n : ℕ) → within low high n ≡ true → low ≤ n
+within-low low high n h = leb-true low n (and-left (leb low n) (leb n high) h)
+
+pub within-high : (low high n : ℕ) → within low high n ≡ true → n ≤ high
+within-high low high n h = leb-true n high (and-right (leb low n) (leb n high) h)
+
+pub within-both : (low high n : ℕ) → low ≤ n → n ≤ high → within low high n ≡ true
+within-both low high n p q = simp (le-leb low n p, le-leb n high q)
+
+module _ (p : ℕ → Bool) where
+  -- what holds of each number below n holds of one
+  pub below-at : (n k : ℕ) → k < n → below n p ≡ true → p k ≡ true
+  unfolding fold
+  below-at zero k h e = absurd (omega arith)
+  below-at (suc n) k h e =
+      by-cases
+      (ℕ-discrete k n)
+      (λ (q : k ≡ n). rw q (and-right (below n p) (p n) e))
+      (λ q. below-at n k (omega arith) (and-left (below n p) (p n) e))
+
+  pub below-all : (n : ℕ) → ((k : ℕ) → k < n → p k ≡ true) → below n p ≡ true
+  unfolding fold
+  below-all zero h = refl
+  below-all (suc n) h = and-both (below n p) (p n) (below-all n (λ k q. h k (omega arith))) (h n (omega arith))
+
+  pub below-none : below 0 p ≡ true
+  unfolding fold
+  below-none = refl
+
+  pub below-more : (n : ℕ) → below n p ≡ true → p n ≡ true → below (n + 1) p ≡ true
+  unfolding fold
+  below-more n h e = rw (add-one n, h) e
+
+  -- one number that fails
+  pub below-fails : (n k : ℕ) → k < n → p k ≡ false → below n p ≡ false
+  unfolding fold
+  below-fails zero k h e = absurd (omega arith)
+  below-fails (suc n) k h e =
+      by-cases
+      (ℕ-discrete k n)
+      (λ (q : k ≡ n). rw (← q, e) (and-false (below k p)))
+      (λ q. rw (below-fails n k (omega arith) e) refl)
+
+module _ {A : Type 0} (p : A → Bool) where
+  pub every-append : (xs ys : List A) → every p (xs ++ ys) ≡ every p xs && every p ys
+  unfolding every
+  every-append [] ys = refl
+  every-append (x ∷ xs) ys = rw (every-append xs ys) (sym (and-assoc (p x) (every p xs) (every p ys)))
+
+  -- what holds of each element holds of one
+  pub every-at : (xs : List A) (i : ℕ) (d : A) → i < length xs → every p xs ≡ true → p (getD xs i d) ≡ true
+  unfolding every
+  every-at [] i d h e = absurd (omega arith)
+  every-at (x ∷ xs) zero d h e = and-left (p x) (every p xs) e
+  every-at (x ∷ xs) (suc i) d h e = every-at xs i d (omega arith) (and-right (p x) (every p xs) e)

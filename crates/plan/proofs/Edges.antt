@@ -1,0 +1,28 @@
+-- Each edge holds: one lemma, `edge`, for all of them.
+use mathlib.Core.Path.{_≡_, refl}
+use mathlib.Core.Bool.{true}
+use mathlib.Core.List.{[], _++_}
+use Prim.Native.Nat.{ℕ, _<_}
+use lib.ListN.{length, getD}
+use borrow.Author.Tests.{eqb-true}
+use Rattle.base.specs.Range.{fold}
+use Rattle.base.specs.Rows.{every, any, table, tableBefore}
+use Rattle.base.proofs.Tests.{every-at}
+use Rattle.plan.specs.Users.{users}
+use Rattle.plan.specs.Refusals.{instructionOk, instructionsOk, finishOk, finishesOk, createsOk, channelsOk, structureAnswer}
+use Rattle.plan.specs.Layout.{layout}
+use Rattle.plan.specs.Files.{layoutOk, filePrograms, secondBytesOk, fileAnswer, startAnswer}
+use Rattle.plan.specs.Outcomes.{startNumber}
+use Rattle.plan.specs.Edges.{Edge, edgeHolds, starred, others, edges}
+
+all-hold : every edgeHolds edges ≡ true
+unfolding starred others startNumber startAnswer fileAnswer layoutOk secondBytesOk filePrograms structureAnswer instructionsOk instructionOk finishesOk finishOk createsOk channelsOk users layout fold every any table tableBefore
+all-hold = refl
+
+abbrev none : Edge
+none = record { desks = 0; file = []; number = 1 }
+
+-- the answer about edge k is the one that the list gives
+pub edge : (k : ℕ) → k < length edges → startNumber (getD edges k none .desks) (getD edges k none .file) ≡ getD edges k none .number
+edge k h =
+    eqb-true (startNumber (getD edges k none .desks) (getD edges k none .file)) (getD edges k none .number) (every-at edgeHolds edges k none h all-hold)

@@ -1,0 +1,27 @@
+-- The number that the paper gives to each answer.
+use mathlib.Core.Bool.{Bool, true, false}
+use Prim.Native.Nat.{ℕ}
+use Rattle.plan.specs.declared.Refusal.{Refusal}
+use Rattle.plan.specs.declared.Refusal.the-variants.{BadProcessors, BadLayout, BadInstruction, BadFinish, BadCreate, BadChannel, OutputShort}
+use Rattle.plan.specs.declared.PlanAnswer.{PlanAnswer}
+use Rattle.plan.specs.declared.PlanAnswer.the-variants.{Accepted, Refused}
+
+-- "Start: 1, desks ..; 2, under 4 bytes ..; 3, kind unknown ..; 4, finish ..; 5, a task 2..T not created ..; 6, a channel ..";
+-- "20, the lent output is too short"
+abbrev pub refusalNumber : Refusal → ℕ
+refusalNumber BadProcessors = 1
+refusalNumber BadLayout = 2
+refusalNumber BadInstruction = 3
+refusalNumber BadFinish = 4
+refusalNumber BadCreate = 5
+refusalNumber BadChannel = 6
+refusalNumber OutputShort = 20
+
+-- "0 accepted"
+abbrev pub answerNumber : PlanAnswer → ℕ
+answerNumber Accepted = 0
+answerNumber (Refused r) = refusalNumber r
+
+abbrev pub isAccepted : PlanAnswer → Bool
+isAccepted Accepted = true
+isAccepted (Refused r) = false

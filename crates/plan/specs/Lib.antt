@@ -1,0 +1,10 @@
+-- What the paper says of plans: their meaning, when they are refused, their file.
+pub mod Answers
+pub mod Kinds
+pub mod Programs
+pub mod Users
+pub mod Refusals
+pub mod Layout
+pub mod Files
+pub mod Outcomes
+pub mod Edges

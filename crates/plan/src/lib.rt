@@ -1,0 +1,106 @@
+// The types of a plan: numbers, instructions, the plan value, and the answers about it.
+ghost use mathlib.Core.Path.{_≡_};
+ghost use Rattle.plan.specs.Answers.{answerNumber, refusalNumber};
+
+// "Task, desk and channel numbers are separate given sets in document 001; a number of one never
+// serves as another. 0 means none."
+
+// A task's number, 1 to 64 (document 001's THREAD).
+pub struct TaskId(pub u8);
+
+// A processor's number, 1 to 6: the paper's "desk" (document 001's PE).
+pub struct ProcessorId(pub u8);
+
+// A channel's number, 1 to 128 (document 001's CHANNEL).
+pub struct ChannelId(pub u8);
+
+// "instructions of 4 bytes: kind, a zero byte, a 16-bit argument": the paper's kind is the opcode,
+// its argument the operand. A plan value can hold an unknown opcode, so the opcodes are numbers.
+pub struct Instruction {
+    pub opcode: u8,
+    pub operand: u16,
+}
+
+// "Kinds: 1 create, 2 sync, 3 finish, 4 send, 5 receive, 6 set, 7 add".
+pub const CREATE: u8 = 1;
+
+pub const SYNC: u8 = 2;
+
+pub const FINISH: u8 = 3;
+
+pub const SEND: u8 = 4;
+
+pub const RECEIVE: u8 = 5;
+
+pub const SET: u8 = 6;
+
+pub const ADD: u8 = 7;
+
+// A whole plan by value: 64 tasks of 64 instructions. What it means is `programs` of specs/Programs.
+pub struct Plan {
+    // how many tasks
+    pub tasks: u8,
+    // how many instructions task t has, at t - 1
+    pub lengths: [u8; 64],
+    // the opcode and the operand of task t's i-th instruction, at 64 (t - 1) + (i - 1)
+    pub opcodes: [u8; 4096],
+    pub operands: [u16; 4096],
+}
+
+// The refusals of "Start" and of "Writing a plan"; specs/Answers gives each its number.
+pub enum Refusal {
+    BadProcessors,
+    BadLayout,
+    BadInstruction,
+    BadFinish,
+    BadCreate,
+    BadChannel,
+    OutputShort,
+}
+
+// What is answered about a plan.
+pub enum PlanAnswer {
+    Accepted,
+    Refused(Refusal),
+}
+
+// What is answered where a plan is written: how many bytes it took, or why none was written.
+pub enum WriteAnswer {
+    Written(usize),
+    Unwritten(Refusal),
+}
+
+// What reading a file gives: the plan, which is empty where the file is refused.
+pub struct PlanRead {
+    pub answer: PlanAnswer,
+    pub plan: Plan,
+}
+
+impl Refusal {
+    // The paper's number.
+    pub fn number(self) -> u32
+        ensures { λ r. ⌜ r ≡ refusalNumber self ⌝ }
+    {
+        match self {
+            Refusal::BadProcessors => 1,
+            Refusal::BadLayout => 2,
+            Refusal::BadInstruction => 3,
+            Refusal::BadFinish => 4,
+            Refusal::BadCreate => 5,
+            Refusal::BadChannel => 6,
+            Refusal::OutputShort => 20,
+        }
+    }
+}
+
+impl PlanAnswer {
+    // 0 for acceptance, else the refusal's number.
+    pub fn number(self) -> u32
+        ensures { λ r. ⌜ r ≡ answerNumber self ⌝ }
+    {
+        match self {
+            PlanAnswer::Accepted => 0,
+            PlanAnswer::Refused(r) => r.number(),
+        }
+    }
+}

@@ -1,0 +1,143 @@
+-- Plan values whose unused slots are zero and their meanings correspond one to one.
+use mathlib.Core.Path.{_≡_, refl, sym, _∙_, ap}
+use mathlib.Core.Bool.{true}
+use mathlib.Core.List.{List, []}
+use mathlib.Core.Logic.{by-cases}
+use Prim.Native.Nat.{ℕ, _+_, _*_, _/_, _%_, _<_, _≤_}
+use native.Mathlib.Omega.{arith}
+use native.Mathlib.Decide.{decLt}
+use lib.ListN.{length, getD, List·getD-eq-default}
+use Rattle.base.specs.Rows.{table}
+use Rattle.base.proofs.Tables.{length-table, getD-table}
+use Rattle.plan.specs.declared.Instruction.{Instruction}
+use Rattle.plan.specs.declared.Plan.{Plan}
+use Rattle.plan.specs.Kinds.{noInstruction}
+use Rattle.plan.specs.Programs.{Programs, programAt, slotOf, programOf, programs, inSlot, canonical}
+use Rattle.plan.specs.Layout.{countOf}
+use Rattle.plan.specs.Refusals.{sizesOk}
+use Rattle.plan_laws.specs.Clear.{Clear}
+use Rattle.plan_laws.proofs.Pieces.{whole}
+use Rattle.plan_laws.proofs.Answers.{sized}
+
+-- programs that a plan value has room for
+pub record Fits (m : Programs) : Type 0 where
+  pub few : length m ≤ 64
+  pub short : (k : ℕ) → countOf m k ≤ 64
+
+no-program : (m : Programs) (k : ℕ) → length m ≤ k → countOf m k ≡ 0
+no-program m k l = ap length (List·getD-eq-default m [] l)
+
+pub fits : (m : Programs) → sizesOk m ≡ true → Fits m
+fits m h =
+    let s = sized m h in
+    record {
+      few = s .tasks .few;
+      short = λ k. by-cases (decLt k (length m)) (λ l. s .counts k l .few) (λ e. omega (arith, no-program m k (omega arith)));
+    }
+
+pub fits-none : Fits []
+fits-none = record { few = omega arith; short = λ k. omega arith }
+
+module _ (m : Programs) (h : Fits m) where
+  -- a task's length and its instructions, in the plan value of m
+  lengths-at : (k : ℕ) → getD (canonical m .lengths) k 0 ≡ countOf m k
+  unfolding canonical
+  lengths-at k =
+      by-cases
+      (decLt k 64)
+      (λ l. getD-table 64 (countOf m) k 0 l)
+      (λ l. List·getD-eq-default (table 64 (countOf m)) 0 (rw (length-table 64 (countOf m)) (omega arith)) ∙ sym (no-program m k (omega (arith, h .few))))
+
+  slot-at : (s : ℕ) → s < 4096 → slotOf (canonical m) s ≡ inSlot m s
+  unfolding canonical
+  slot-at s l = rw (getD-table 4096 (λ s. inSlot m s .opcode) s 0 l, getD-table 4096 (λ s. inSlot m s .operand) s 0 l) refl
+
+  program-at : (k : ℕ) → k < length m → programOf (canonical m) k ≡ programAt m k
+  program-at k l =
+      let few : length m ≤ 64 = h .few in
+      let short : countOf m k ≤ 64 = h .short k in
+      rw (lengths-at k)
+      (whole (programAt m k) noInstruction (countOf m k) refl (λ i. slotOf (canonical m) (64 * k + i))
+      (λ i q.
+      let d : (64 * k + i) / 64 ≡ k = omega arith in
+      let r : (64 * k + i) % 64 ≡ i = omega arith in
+      slot-at (64 * k + i) (omega arith) ∙ rw (d, r) refl))
+
+  pub fits-meaning : programs (canonical m) ≡ m
+  unfolding programs canonical
+  fits-meaning = whole m [] (length m) refl (programOf (canonical m)) program-at
+
+  empty-slot : (s : ℕ) → s < 4096 → getD (canonical m .lengths) (s / 64) 0 ≤ s % 64 → slotOf (canonical m) s ≡ noInstruction
+  empty-slot s l q = slot-at s l ∙ List·getD-eq-default (programAt m (s / 64)) noInstruction (rw (lengths-at (s / 64)) at q)
+
+  pub fits-clear : Clear (canonical m)
+  unfolding canonical
+  fits-clear =
+      record {
+        few = h .few;
+        short = λ k. rw (lengths-at k) (h .short k);
+        lengths-size = length-table 64 (countOf m);
+        opcodes-size = length-table 4096 (λ s. inSlot m s .opcode);
+        operands-size = length-table 4096 (λ s. inSlot m s .operand);
+        no-length = λ k l. lengths-at k ∙ no-program m k l;
+        no-opcode = λ s l q. ap (λ (i : Instruction). i .opcode) (empty-slot s l q);
+        no-operand = λ s l q. ap (λ (i : Instruction). i .operand) (empty-slot s l q);
+      }
+
+pub meaning-canonical : (m : Programs) → sizesOk m ≡ true → programs (canonical m) ≡ m
+meaning-canonical m h = fits-meaning m (fits m h)
+
+pub canonical-clear : (m : Programs) → sizesOk m ≡ true → Clear (canonical m)
+canonical-clear m h = fits-clear m (fits m h)
+
+pub canonical-none-clear : Clear (canonical [])
+canonical-none-clear = fits-clear [] fits-none
+
+module _ (p : Plan) (c : Clear p) where
+  -- the meaning's programs, task by task and slot by slot
+  task-of : (k : ℕ) → k < p .tasks → programAt (programs p) k ≡ programOf p k
+  unfolding programs
+  task-of k l = getD-table (p .tasks) (programOf p) k [] l
+
+  no-task : (k : ℕ) → p .tasks ≤ k → programAt (programs p) k ≡ []
+  unfolding programs
+  no-task k l = List·getD-eq-default (programs p) [] (rw (length-table (p .tasks) (programOf p)) l)
+
+  count-of : (k : ℕ) → countOf (programs p) k ≡ getD (p .lengths) k 0
+  count-of k =
+      by-cases
+      (decLt k (p .tasks))
+      (λ l. rw (task-of k l) (length-table (getD (p .lengths) k 0) (λ i. slotOf p (64 * k + i))))
+      (λ l. rw (no-task k (omega arith), c .no-length k (omega arith)) refl)
+
+  used : (s : ℕ) → s < 4096 → s % 64 < getD (p .lengths) (s / 64) 0 → inSlot (programs p) s ≡ slotOf p s
+  used s l q =
+      let e : 64 * (s / 64) + s % 64 ≡ s = omega arith in
+      let n = getD (p .lengths) (s / 64) 0 in
+      by-cases
+      (decLt (s / 64) (p .tasks))
+      (λ t. rw (task-of (s / 64) t) (getD-table n (λ i. slotOf p (64 * (s / 64) + i)) (s % 64) noInstruction q) ∙ ap (slotOf p) e)
+      (λ t. absurd (omega (arith, c .no-length (s / 64) (omega arith))))
+
+  slot-of : (s : ℕ) → s < 4096 → inSlot (programs p) s ≡ slotOf p s
+  slot-of s l =
+      by-cases
+      (decLt (s % 64) (getD (p .lengths) (s / 64) 0))
+      (used s l)
+      (λ q.
+      List·getD-eq-default (programAt (programs p) (s / 64)) noInstruction (rw (count-of (s / 64)) (omega arith))
+      ∙ rw (c .no-opcode s l (omega arith), c .no-operand s l (omega arith)) refl)
+
+  -- a field of each slot
+  field-of : (get : Instruction → ℕ) (l : List ℕ) → length l ≡ 4096 → ((s : ℕ) → get (slotOf p s) ≡ getD l s 0)
+      → table 4096 (λ s. get (inSlot (programs p) s)) ≡ l
+  field-of get l size same = whole l 0 4096 size (λ s. get (inSlot (programs p) s)) (λ s q. ap get (slot-of s q) ∙ same s)
+
+  pub clear-canonical : canonical (programs p) ≡ p
+  unfolding canonical programs
+  clear-canonical =
+      let t : length (programs p) ≡ p .tasks = length-table (p .tasks) (programOf p) in
+      let n : table 64 (countOf (programs p)) ≡ p .lengths = whole (p .lengths) 0 64 (c .lengths-size) (countOf (programs p)) (λ k l. count-of k) in
+      let o = field-of (λ i. i .opcode) (p .opcodes) (c .opcodes-size) (λ s. refl) in
+      let a = field-of (λ i. i .operand) (p .operands) (c .operands-size) (λ s. refl) in
+      λ i. record { tasks = t i; lengths = n i; opcodes = o i; operands = a i }

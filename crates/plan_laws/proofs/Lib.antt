@@ -1,0 +1,10 @@
+-- The laws of files and plans: what an accepted file is, and that reading and writing undo each other.
+pub mod Answers
+pub mod Sums
+pub mod Pieces
+pub mod Canonical
+pub mod LayoutRead
+pub mod Held
+pub mod ReadLayout
+pub mod LayoutBytes
+pub mod RoundTrip

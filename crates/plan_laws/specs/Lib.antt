@@ -1,0 +1,3 @@
+-- What the laws of files and plans are stated with.
+pub mod Bytes
+pub mod Clear

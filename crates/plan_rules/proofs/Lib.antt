@@ -1,0 +1,6 @@
+-- What the tests of a plan value compute is what the paper asks of the plan's meaning.
+mod ByKind
+mod Scanning
+mod Using
+mod Meaning
+mod Tasks
