@@ -1,0 +1,42 @@
+-- A table that is filled from the front, entry by entry.
+use mathlib.Core.Path.{_≡_, sym, _∙_, ap}
+use mathlib.Core.Logic.{by-cases}
+use Prim.Native.Nat.{ℕ, _+_, _<_}
+use native.Mathlib.Omega.{arith}
+use native.Mathlib.Decide.{decLt}
+use lib.ListN.{set, replicate, length-replicate, getD-replicate}
+use lib.Seq.{ext-getD}
+use lib.Dec.{ltb}
+use borrow.Author.Tests.{lt-ltb, le-ltb}
+use Rattle.base.specs.Choice.{pick}
+use Rattle.base.specs.Rows.{table}
+use Rattle.base.proofs.Tables.{length-table, getD-table, set-table}
+
+module _ {A : Type 0} where
+  -- one value throughout
+  pub all-same : (n : ℕ) (f : ℕ → A) (d : A) → ((i : ℕ) → i < n → f i ≡ d) → replicate n d ≡ table n f
+  all-same n f d h =
+      ext-getD d (replicate n d) (table n f)
+      (length-replicate n d ∙ sym (length-table n f))
+      (λ i q.
+      let l : i < n = rw (length-replicate n d) at q in
+      getD-replicate n i d d l ∙ sym (h i l) ∙ sym (getD-table n f i d l))
+
+  -- the first s of f, and d behind them
+  abbrev filled : (ℕ → A) → A → ℕ → ℕ → A
+  filled f d s j = pick (ltb j s) (f j) d
+
+  pub fill-none : (n : ℕ) (f : ℕ → A) (d : A) → replicate n d ≡ table n (filled f d 0)
+  fill-none n f d = all-same n (filled f d 0) d (λ i q. simp (le-ltb i 0 (omega arith)))
+
+  pub fill-more : (n : ℕ) (f : ℕ → A) (d : A) (s : ℕ) → s < n → set (table n (filled f d s)) s (f s) ≡ table n (filled f d (s + 1))
+  fill-more n f d s h =
+      let here : filled f d (s + 1) s ≡ f s = simp (lt-ltb s (s + 1) (omega arith)) in
+      ap (set (table n (filled f d s)) s) (sym here) ∙ set-table n (filled f d s) (filled f d (s + 1)) s d h (λ j b e. same j e)
+    where
+      same : (j : ℕ) → (j ≡ s → ⊥) → filled f d s j ≡ filled f d (s + 1) j
+      same j e =
+          by-cases
+          (decLt j s)
+          (λ l. simp (lt-ltb j s l, lt-ltb j (s + 1) (omega arith)))
+          (λ l. simp (le-ltb j s (omega arith), le-ltb j (s + 1) (omega arith)))

@@ -1,0 +1,48 @@
+-- What the parts of writing put where.
+use mathlib.Core.Path.{_≡_}
+use mathlib.Core.List.{List, [], _∷_, _++_}
+use Prim.Native.Nat.{ℕ, _+_, _/_, _%_}
+use lib.ListN.{length, getD, take, drop}
+use lib.Dec.{ltb}
+use Rattle.base.specs.Choice.{pick}
+use Rattle.base.specs.Range.{joined, sumBelow}
+use Rattle.plan.specs.declared.WriteAnswer.{WriteAnswer}
+use Rattle.plan.specs.Programs.{Programs}
+use Rattle.plan.specs.Layout.{bytes16, offsetDue}
+use Rattle.plan.specs.Outcomes.{writeAnswer, writeOutput}
+
+-- the bytes xs put at a place
+unfoldable pub overlay : List ℕ → ℕ → List ℕ → List ℕ
+overlay out at xs = take at out ++ (xs ++ drop (at + length xs) out)
+
+-- how many instructions the first n tasks have
+abbrev pub totalIn : List ℕ → ℕ → ℕ
+totalIn lengths n = sumBelow n (λ k. getD lengths k 0)
+
+-- the header entries of n tasks with these counts
+abbrev pub entryBytes : List ℕ → ℕ → ℕ → List ℕ
+entryBytes lengths n k = bytes16 (offsetDue n (λ j. getD lengths j 0) k) ++ bytes16 (getD lengths k 0)
+
+abbrev pub entriesBytes : List ℕ → ℕ → List ℕ
+entriesBytes lengths n = joined n (entryBytes lengths n)
+
+-- the bytes of a slot, none for an unused one: instruction place + 1 of a program of `count`
+abbrev pub slotBytes : ℕ → ℕ → ℕ → ℕ → List ℕ
+slotBytes count place opcode operand = pick (ltb place count) (opcode ∷ 0 ∷ bytes16 operand) []
+
+-- the bytes of slot j, and of the first s slots
+abbrev pub slotAt : List ℕ → List ℕ → List ℕ → ℕ → List ℕ
+slotAt lengths opcodes operands j = slotBytes (getD lengths (j / 64) 0) (j % 64) (getD opcodes j 0) (getD operands j 0)
+
+abbrev pub slotsBytes : List ℕ → List ℕ → List ℕ → ℕ → List ℕ
+slotsBytes lengths opcodes operands s = joined s (slotAt lengths opcodes operands)
+
+-- xs was put at a place, and r is the place behind it
+pub record Put (before : List ℕ) (at : ℕ) (xs : List ℕ) (r : ℕ) (after : List ℕ) : Type 0 where
+  pub next : r ≡ at + length xs
+  pub bytes : after ≡ overlay before at xs
+
+-- a plan was written, or refused, as the paper says
+pub record WritePlan (m : Programs) (before : List ℕ) (r : WriteAnswer) (after : List ℕ) : Type 0 where
+  pub answer : r ≡ writeAnswer m before
+  pub bytes : after ≡ writeOutput m before

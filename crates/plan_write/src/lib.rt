@@ -1,0 +1,49 @@
+// Plan files written.
+mod bytes;
+mod code;
+mod header;
+
+// A plan value written as a file.
+ghost use mathlib.Core.Path.{_≡_};
+ghost use Rattle.plan.specs.declared.PlanAnswer.the-variants.{Accepted};
+ghost use Rattle.plan.specs.Programs.{programs};
+ghost use Rattle.plan.specs.Refusals.{planAnswer};
+ghost use Rattle.plan_write.specs.Output.{WritePlan};
+use bytes::put_word;
+use code::write_code;
+use header::total_of;
+use header::write_entries;
+use plan::Plan;
+use plan::PlanAnswer;
+use plan::Refusal;
+use plan::WriteAnswer;
+
+// An accepted plan, if the output has room for it.
+fn write_accepted(p: Plan, out: &mut [u8]) -> WriteAnswer
+    requires { ⌜ planAnswer (programs p) ≡ Accepted ⌝ }
+    ensures { λ r. ⌜ WritePlan (programs p) (now (out .entry)) r (now (out .exit)) ⌝ }
+{
+    let tasks = p.tasks;
+    let n = base::wide8(tasks);
+    let total = total_of(n, &p.lengths);
+    let start = 4 + 4 * n;
+    let size = start + 4 * total;
+    if out.len() < size {
+        return WriteAnswer::Unwritten(Refusal::OutputShort);
+    }
+    put_word(out, 0, n as u16);
+    put_word(out, 2, total as u16);
+    write_entries(out, n, &p.lengths);
+    write_code(out, start, tasks, &p.lengths, &p.opcodes, &p.operands);
+    WriteAnswer::Written(size)
+}
+
+pub fn write_plan(p: Plan, out: &mut [u8]) -> WriteAnswer
+    ensures { λ r. ⌜ WritePlan (programs p) (now (out .entry)) r (now (out .exit)) ⌝ }
+{
+    let answer = plan_rules::check(p);
+    match answer {
+        PlanAnswer::Accepted => write_accepted(p, out),
+        PlanAnswer::Refused(r) => WriteAnswer::Unwritten(r),
+    }
+}

@@ -1,0 +1,72 @@
+#!/usr/bin/env python3
+"""Writes crates/plan_test/data/edges.bin: plans at the paper's limits, in the format of the vectors.
+
+Each record holds desks, the lengths of plan, steps and output, and then these; the steps are empty.
+The plans are laid out here by hand, by the paper's layout, and not by the project's own code.
+"""
+import pathlib
+import struct
+
+CREATE, SYNC, FINISH, SEND, RECEIVE, SET, ADD = range(1, 8)
+
+
+def layout(tasks):
+    at, head, body = 4 + 4 * len(tasks), b"", b""
+    for task in tasks:
+        head += struct.pack("<HH", at, len(task))
+        body += b"".join(struct.pack("<BBH", kind, 0, argument) for kind, argument in task)
+        at += 4 * len(task)
+    return struct.pack("<HH", len(tasks), sum(map(len, tasks))) + head + body
+
+
+def record(plan, refused=0, desks=1):
+    output = b"refused %d\n" % refused if refused else b"end 0 0\n"
+    return struct.pack("<BHHH", desks, len(plan), 0, len(output)) + plan + output
+
+
+def created(n):
+    """n tasks: task 1 creates tasks 2 to 63, task 2 those from 64 on."""
+    first = [(CREATE, u) for u in range(2, min(n, 63) + 1)] + [(FINISH, 0)]
+    second = [(CREATE, u) for u in range(64, n + 1)] + [(FINISH, 0)]
+    return [first, second] + [[(FINISH, 0)]] * (n - 2)
+
+
+def long(n):
+    """One task of n instructions."""
+    return [[(SYNC, 0)] * (n - 1) + [(FINISH, 0)]]
+
+
+def full():
+    """64 tasks of 64 instructions: the largest file there is."""
+    tasks = created(64)
+    return [[(SET, 65535)] * (64 - len(task)) + task for task in tasks]
+
+
+def channels(n):
+    """Task 1 sends on the first n channels, by twos, tasks 2 and 3 receive on them."""
+    sends = [(SEND, c) for c in range(1, n + 1)]
+    return [
+        [(CREATE, 2), (CREATE, 3), (CREATE, 4)] + sends[:60] + [(FINISH, 0)],
+        sends[60:] + [(FINISH, 0)],
+        [(RECEIVE, c) for c in range(1, min(n, 63) + 1)] + [(FINISH, 0)],
+        [(RECEIVE, c) for c in range(64, n + 1)] + [(FINISH, 0)],
+    ]
+
+
+def main():
+    records = [
+        record(layout(created(64))),
+        record(layout(created(65)), refused=2),
+        record(layout(long(64))),
+        record(layout(long(65)), refused=2),
+        record(layout(full()), desks=6),
+        record(layout(full()) + b"\0", refused=2),
+        record(layout(channels(122))),
+        record(layout(channels(122)[:3] + [[(RECEIVE, 63), (FINISH, 0)]]), refused=6),
+    ]
+    there = pathlib.Path(__file__).resolve().parent.parent
+    (there / "crates/plan_test/data/edges.bin").write_bytes(b"".join(records))
+
+
+if __name__ == "__main__":
+    main()
