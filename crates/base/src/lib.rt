@@ -9,10 +9,10 @@ pub fn wide8(x: u8) -> usize
     x as usize
 }
 
-pub fn wide16(x: u16) -> usize
-    ensures { λ r. ⌜ r ≡ x ⌝ }
+pub fn wide16(n: u16) -> usize
+    ensures { λ r. ⌜ r ≡ n ⌝ }
 {
-    x as usize
+    n as usize
 }
 
 // low ≤ n ≤ high.

@@ -41,7 +41,7 @@ accepted-exactly b bytes = (
 )
 
 -- what reading returns
-read-answer : (b : List ℕ) → planRead b .answer ≡ fileAnswer b
+pub read-answer : (b : List ℕ) → planRead b .answer ≡ fileAnswer b
 unfolding planRead
 read-answer b = refl
 
@@ -50,7 +50,7 @@ unfolding planRead
 read-accepted b h = rw h refl
 
 -- what writing does
-written : (m : Programs) (out : List ℕ) → planAnswer m ≡ Accepted → length (layout m) ≤ length out → writeAnswer m out ≡ Written (length (layout m))
+pub written : (m : Programs) (out : List ℕ) → planAnswer m ≡ Accepted → length (layout m) ≤ length out → writeAnswer m out ≡ Written (length (layout m))
 unfolding writeAnswer
 written m out h l = rw (h, le-leb (length (layout m)) (length out) l) refl
 

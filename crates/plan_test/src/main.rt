@@ -42,9 +42,7 @@ fn expected(output: &[u8]) -> u32 {
 
 // The plan read from the file, written again, is the file. The output is lent.
 fn writes_back(file: &[u8], out: &mut [u8]) -> bool {
-    let read = plan_read::read_plan(file);
-    let p = read.plan;
-    let answer = plan_write::write_plan(p, out);
+    let answer = round_trip::rewrite(file, out);
     let WriteAnswer::Written(n) = answer else {
         return false;
     };

@@ -5,11 +5,8 @@ use lib.ListN.{length-take}
 use Rattle.plan_test.proofs.writes_back.Statement.{statement}
 use Rattle.plan_test.proofs.writes_back.Tie as tie
 
-read-plan-requires : tie.Need-read-plan-requires
-read-plan-requires c κs = search needs
-
-write-plan-requires : tie.Need-write-plan-requires
-write-plan-requires c κs = search needs
+rewrite-requires : tie.Need-rewrite-requires
+rewrite-requires c κs = search needs
 
 enum-known-answer : tie.Need-enum-known-answer
 enum-known-answer c = search needs
@@ -48,8 +45,7 @@ pub writes-back-spec : {M : Type 1} → statement M
 writes-back-spec =
     tie.close
     (tie.spec
-    read-plan-requires
-    write-plan-requires
+    rewrite-requires
     enum-known-answer
     enum-told
     same-length

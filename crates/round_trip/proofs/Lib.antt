@@ -1,0 +1,2 @@
+-- The round trips, from the laws of reading and writing.
+mod Laws

@@ -1,0 +1,2 @@
+-- What a round trip gives.
+pub mod Trips
