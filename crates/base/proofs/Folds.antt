@@ -1,7 +1,6 @@
 -- Laws of what is taken together over the numbers below n, for any operation: one number more, and, where the operation is
 -- associative, two ranges one after the other, a grid row by row, and the front of a range.
 use mathlib.Core.Path.{_≡_, refl, sym, _∙_, ap}
-use mathlib.Core.Bool.{Bool, true, false}
 use Prim.Native.Nat.{ℕ, zero, suc, _+_, _*_, _-_, _<_, _≤_}
 use native.Mathlib.Nat.{add-zero, add-suc, mul-zero, mul-suc}
 use native.Mathlib.Numerals.{add-one}

@@ -1,16 +1,15 @@
 -- Laws of lists that are given by a rule.
 use mathlib.Core.Path.{_≡_, refl, sym, _∙_, ap}
-use mathlib.Core.Bool.{Bool, true, _&&_}
-use mathlib.Core.List.{List, [], _∷_, _++_, append-assoc, append-nil}
+use mathlib.Core.Bool.{Bool, _&&_}
+use mathlib.Core.List.{List, [], _∷_, _++_, append-assoc}
 use mathlib.Core.Logic.{_≢_, by-cases}
-use Prim.Native.Nat.{ℕ, zero, suc, _+_, _<_, _≤_}
-use native.Mathlib.Nat.{zero-add}
+use Prim.Native.Nat.{ℕ, zero, suc, _+_, _<_}
 use native.Mathlib.Numerals.{add-one}
 use native.Mathlib.Omega.{arith}
 use native.Mathlib.Decide.{ℕ-discrete}
-use lib.ListN.{length, length-append, getD, set, take, length-set, List·getD-append}
-use lib.Seq.{ext-getD, getD-append-add, getD-set-same, getD-set-other, take-append-le, take-all}
-use Rattle.base.specs.Range.{fold, below, joined}
+use lib.ListN.{length, length-append, getD, set, length-set, List·getD-append}
+use lib.Seq.{ext-getD, getD-append-add, getD-set-same, getD-set-other}
+use Rattle.base.specs.Range.{fold, below}
 use Rattle.base.specs.Rows.{every, table, tableBefore}
 use Rattle.base.proofs.Tests.{and-true, every-append}
 

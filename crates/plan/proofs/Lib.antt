@@ -1,2 +1,3 @@
 -- What is shown of the definitions.
 pub mod Edges
+pub mod Parts

@@ -1,7 +1,7 @@
 -- A file read: its fields, the programs that it holds, and when it is refused.
 use mathlib.Core.Bool.{Bool, _&&_}
 use mathlib.Core.List.{List}
-use Prim.Native.Nat.{ℕ, suc, _+_, _*_}
+use Prim.Native.Nat.{ℕ, _+_, _*_}
 use lib.ListN.{length, getD}
 use lib.Dec.{eqb, leb}
 use Rattle.base.specs.Choice.{unless, within}

@@ -1,5 +1,4 @@
 -- What reading, writing and checking a plan answer and leave behind.
-use mathlib.Core.Bool.{Bool, true, false}
 use mathlib.Core.List.{List, [], _++_}
 use Prim.Native.Nat.{ℕ}
 use lib.ListN.{length, drop}

@@ -9,6 +9,7 @@ use native.Mathlib.Decide.{decLt}
 use lib.ListN.{length, getD, List·getD-eq-default}
 use Rattle.base.specs.Rows.{table}
 use Rattle.base.proofs.Tables.{length-table, getD-table}
+use Rattle.plan.proofs.Parts.{tasks-of, no-program-of, count-of, instruction-of}
 use Rattle.plan.specs.declared.Instruction.{Instruction}
 use Rattle.plan.specs.declared.Plan.{Plan}
 use Rattle.plan.specs.Kinds.{noInstruction}
@@ -95,28 +96,16 @@ canonical-none-clear = fits-clear [] fits-none
 
 module _ (p : Plan) (c : Clear p) where
   -- the meaning's programs, task by task and slot by slot
-  task-of : (k : ℕ) → k < p .tasks → programAt (programs p) k ≡ programOf p k
-  unfolding programs
-  task-of k l = getD-table (p .tasks) (programOf p) k [] l
-
-  no-task : (k : ℕ) → p .tasks ≤ k → programAt (programs p) k ≡ []
-  unfolding programs
-  no-task k l = List·getD-eq-default (programs p) [] (rw (length-table (p .tasks) (programOf p)) l)
-
-  count-of : (k : ℕ) → countOf (programs p) k ≡ getD (p .lengths) k 0
-  count-of k =
-      by-cases
-      (decLt k (p .tasks))
-      (λ l. rw (task-of k l) (length-table (getD (p .lengths) k 0) (λ i. slotOf p (64 * k + i))))
-      (λ l. rw (no-task k (omega arith), c .no-length k (omega arith)) refl)
+  every-count : (k : ℕ) → countOf (programs p) k ≡ getD (p .lengths) k 0
+  every-count k =
+      by-cases (decLt k (p .tasks)) (count-of p k) (λ l. rw (no-program-of p k (omega arith), c .no-length k (omega arith)) refl)
 
   used : (s : ℕ) → s < 4096 → s % 64 < getD (p .lengths) (s / 64) 0 → inSlot (programs p) s ≡ slotOf p s
   used s l q =
       let e : 64 * (s / 64) + s % 64 ≡ s = omega arith in
-      let n = getD (p .lengths) (s / 64) 0 in
       by-cases
       (decLt (s / 64) (p .tasks))
-      (λ t. rw (task-of (s / 64) t) (getD-table n (λ i. slotOf p (64 * (s / 64) + i)) (s % 64) noInstruction q) ∙ ap (slotOf p) e)
+      (λ t. instruction-of p (s / 64) (s % 64) t q ∙ ap (slotOf p) e)
       (λ t. absurd (omega (arith, c .no-length (s / 64) (omega arith))))
 
   slot-of : (s : ℕ) → s < 4096 → inSlot (programs p) s ≡ slotOf p s
@@ -125,7 +114,7 @@ module _ (p : Plan) (c : Clear p) where
       (decLt (s % 64) (getD (p .lengths) (s / 64) 0))
       (used s l)
       (λ q.
-      List·getD-eq-default (programAt (programs p) (s / 64)) noInstruction (rw (count-of (s / 64)) (omega arith))
+      List·getD-eq-default (programAt (programs p) (s / 64)) noInstruction (rw (every-count (s / 64)) (omega arith))
       ∙ rw (c .no-opcode s l (omega arith), c .no-operand s l (omega arith)) refl)
 
   -- a field of each slot
@@ -134,10 +123,10 @@ module _ (p : Plan) (c : Clear p) where
   field-of get l size same = whole l 0 4096 size (λ s. get (inSlot (programs p) s)) (λ s q. ap get (slot-of s q) ∙ same s)
 
   pub clear-canonical : canonical (programs p) ≡ p
-  unfolding canonical programs
+  unfolding canonical
   clear-canonical =
-      let t : length (programs p) ≡ p .tasks = length-table (p .tasks) (programOf p) in
-      let n : table 64 (countOf (programs p)) ≡ p .lengths = whole (p .lengths) 0 64 (c .lengths-size) (countOf (programs p)) (λ k l. count-of k) in
+      let t = tasks-of p in
+      let n : table 64 (countOf (programs p)) ≡ p .lengths = whole (p .lengths) 0 64 (c .lengths-size) (countOf (programs p)) (λ k l. every-count k) in
       let o = field-of (λ i. i .opcode) (p .opcodes) (c .opcodes-size) (λ s. refl) in
       let a = field-of (λ i. i .operand) (p .operands) (c .operands-size) (λ s. refl) in
       λ i. record { tasks = t i; lengths = n i; opcodes = o i; operands = a i }

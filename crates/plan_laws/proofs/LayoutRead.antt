@@ -9,37 +9,22 @@ use borrow.Author.Tests.{eqb-true}
 use Rattle.base.specs.Range.{joined, sumBelow}
 use Rattle.base.proofs.Folds.{fold-same}
 use Rattle.base.proofs.Joins.{part-of-sum}
-use Rattle.base.proofs.Tables.{length-table, getD-table}
 use Rattle.base.proofs.Tests.{below-at}
 use Rattle.plan.specs.declared.PlanAnswer.the-variants.{Accepted}
-use Rattle.plan.specs.Kinds.{noInstruction}
 use Rattle.plan.specs.Programs.{programAt, instructionAt}
 use Rattle.plan.specs.Layout.{bytes16, countOf, totalOf, headBytes, instructionBytes, codeBytes, layout}
 use Rattle.plan.specs.Refusals.{planAnswer}
-use Rattle.plan.specs.Files.{byteAt, word16, fileTasks, fileTotal, fileOffset, fileCount, fileInstruction, placeOf, fileProgram, filePrograms, secondBytesOk, fileAnswer}
+use Rattle.plan.specs.Files.{byteAt, word16, fileTasks, fileTotal, fileOffset, fileCount, fileInstruction, placeOf, filePrograms, secondBytesOk, fileAnswer}
+use Rattle.plan.proofs.Parts.{tasks-in, count-in, instruction-in}
 use Rattle.plan_laws.specs.Bytes.{Bytes}
 use Rattle.plan_laws.proofs.Sums.{sum-const, sum-scaled}
 use Rattle.plan_laws.proofs.Pieces.{joined-pieces, three-pieces, four}
 use Rattle.plan_laws.proofs.Answers.{InRange, Sized, Laid, file-passed, laid, sized-ok, plan-accepted}
 
--- the programs that a file holds
+-- the counts of a file's programs, added up
 module _ (b : List ℕ) where
-  tasks : length (filePrograms b) ≡ fileTasks b
-  unfolding filePrograms
-  tasks = length-table (fileTasks b) (fileProgram b)
-
-  program : (k : ℕ) → k < fileTasks b → programAt (filePrograms b) k ≡ fileProgram b k
-  unfolding filePrograms
-  program k l = getD-table (fileTasks b) (fileProgram b) k [] l
-
-  count : (k : ℕ) → k < fileTasks b → countOf (filePrograms b) k ≡ fileCount b k
-  count k l = rw (program k l) (length-table (fileCount b k) (λ i. fileInstruction b (placeOf b k i)))
-
-  instruction : (k i : ℕ) → k < fileTasks b → i < fileCount b k → instructionAt (programAt (filePrograms b) k) i ≡ fileInstruction b (placeOf b k i)
-  instruction k i l q = rw (program k l) (getD-table (fileCount b k) (λ i. fileInstruction b (placeOf b k i)) i noInstruction q)
-
   counts : (k : ℕ) → k ≤ fileTasks b → sumBelow k (countOf (filePrograms b)) ≡ sumBelow k (fileCount b)
-  counts k l = fold-same _+_ 0 k (countOf (filePrograms b)) (fileCount b) (λ i q. count i (omega arith))
+  counts k l = fold-same _+_ 0 k (countOf (filePrograms b)) (fileCount b) (λ i q. count-in b i (omega arith))
 
 -- four bytes read and written
 module _ (b : List ℕ) (bytes : Bytes b) where
@@ -63,14 +48,14 @@ module _ (b : List ℕ) (bytes : Bytes b) where
 -- the file's three parts
 module _ (b : List ℕ) (bytes : Bytes b) (laid : Laid b) where
   start : bytes16 (length (filePrograms b)) ++ bytes16 (totalOf (filePrograms b)) ≡ take 4 b
-  start = rw (tasks b, counts b (fileTasks b) (omega arith), ← laid .total) (words b bytes 0 (laid .enough))
+  start = rw (tasks-in b, counts b (fileTasks b) (omega arith), ← laid .total) (words b bytes 0 (laid .enough))
 
   head : (k : ℕ) → k < fileTasks b → headBytes (filePrograms b) k ≡ take 4 (drop (4 + 4 * k) b)
   head k l =
       let e : 6 + 4 * k ≡ 4 + 4 * k + 2 = omega arith in
       let f : fileCount b k ≡ word16 b (4 + 4 * k + 2) = ap (word16 b) e in
       let fits : 4 + 4 * k + 4 ≤ length b = omega (arith, laid .size) in
-      rw (tasks b, counts b k (omega arith), ← laid .offsets k l, count b k l, f) (words b bytes (4 + 4 * k) fits)
+      rw (tasks-in b, counts b k (omega arith), ← laid .offsets k l, count-in b k l, f) (words b bytes (4 + 4 * k) fits)
 
   heads : joined (fileTasks b) (headBytes (filePrograms b)) ≡ take (4 * fileTasks b) (drop 4 b)
   heads =
@@ -89,10 +74,10 @@ module _ (b : List ℕ) (bytes : Bytes b) (laid : Laid b) where
 
     codes : (k : ℕ) → k < fileTasks b → codeBytes (programAt (filePrograms b) k) ≡ take (4 * fileCount b k) (drop (fileOffset b k) b)
     codes k l =
-        rw (count b k l)
+        rw (count-in b k l)
         (fold-same _++_ [] (fileCount b k) (λ i. instructionBytes (instructionAt (programAt (filePrograms b) k) i))
         (λ i. take 4 (drop (fileOffset b k + sumBelow i (λ i. 4)) b))
-        (λ i q. rw (sum-const 4 i) (ap instructionBytes (instruction b k i l q) ∙ code b bytes (placeOf b k i) (inside k i l q) (second k i l q)))
+        (λ i q. rw (sum-const 4 i) (ap instructionBytes (instruction-in b k i l q) ∙ code b bytes (placeOf b k i) (inside k i l q) (second k i l q)))
         ∙ joined-pieces b (fileOffset b k) (λ i. 4) (fileCount b k)
         ∙ ap (λ (n : ℕ). take n (drop (fileOffset b k) b)) (sum-const 4 (fileCount b k)))
 
@@ -108,9 +93,9 @@ module _ (b : List ℕ) (bytes : Bytes b) (laid : Laid b) where
     unfolding layout
     whole-file =
         let m = filePrograms b in
-        let h : joined (length m) (headBytes m) ≡ take (4 * fileTasks b) (drop 4 b) = ap (λ (n : ℕ). joined n (headBytes m)) (tasks b) ∙ heads in
+        let h : joined (length m) (headBytes m) ≡ take (4 * fileTasks b) (drop 4 b) = ap (λ (n : ℕ). joined n (headBytes m)) (tasks-in b) ∙ heads in
         let c : joined (length m) (λ k. codeBytes (programAt m k)) ≡ take (4 * fileTotal b) (drop (4 + 4 * fileTasks b) b) =
-        ap (λ (n : ℕ). joined n (λ k. codeBytes (programAt m k))) (tasks b) ∙ body in
+        ap (λ (n : ℕ). joined n (λ k. codeBytes (programAt m k))) (tasks-in b) ∙ body in
         let parts : layout m ≡ take 4 b ++ (take (4 * fileTasks b) (drop 4 b) ++ take (4 * fileTotal b) (drop (4 + 4 * fileTasks b) b)) =
         λ i. start i ++ (h i ++ c i) in
         parts ∙ three-pieces b 4 (4 * fileTasks b) (4 * fileTotal b) (laid .size)
@@ -119,8 +104,8 @@ pub file-plan : (b : List ℕ) → fileAnswer b ≡ Accepted → planAnswer (fil
 file-plan b h =
     let p = file-passed b h in
     let l = laid b (p .layout) in
-    let counts : (k : ℕ) → k < fileTasks b → InRange (countOf (filePrograms b) k) = λ k q. rw (count b k q) (l .counts k q) in
-    let s : Sized (filePrograms b) = record { tasks = rw (tasks b) (l .tasks); counts = λ k q. counts k (rw (tasks b) at q) } in
+    let counts : (k : ℕ) → k < fileTasks b → InRange (countOf (filePrograms b) k) = λ k q. rw (count-in b k q) (l .counts k q) in
+    let s : Sized (filePrograms b) = record { tasks = rw (tasks-in b) (l .tasks); counts = λ k q. counts k (rw (tasks-in b) at q) } in
     plan-accepted (filePrograms b) (record { sizes = sized-ok (filePrograms b) s; instructions = p .instructions; structure = p .structure })
 
 pub layout-read : (b : List ℕ) → Bytes b → fileAnswer b ≡ Accepted → (layout (filePrograms b) ≡ b) × (planAnswer (filePrograms b) ≡ Accepted)

@@ -1,12 +1,12 @@
 -- What reading computes of a file is what the paper says of it: its programs' plan value, its second bytes, and its answer.
 use mathlib.Core.Path.{_≡_, refl, sym, _∙_, ap}
 use mathlib.Core.Bool.{Bool, true, false, _&&_}
-use mathlib.Core.List.{List, []}
+use mathlib.Core.List.{List}
 use mathlib.Core.Logic.{by-cases}
 use Prim.Native.Nat.{ℕ, _+_, _*_, _/_, _%_, _<_, _≤_}
 use native.Mathlib.Omega.{arith}
 use native.Mathlib.Decide.{decLt}
-use lib.ListN.{length, getD, List·getD-eq-default}
+use lib.ListN.{getD, List·getD-eq-default}
 use lib.Dec.{ltb, eqb}
 use borrow.Author.Tests.{lt-ltb, le-ltb}
 use Rattle.base.specs.Choice.{pick, unless}
@@ -24,6 +24,7 @@ use Rattle.plan.specs.Layout.{countOf}
 use Rattle.plan.specs.Refusals.{sizesOk, instructionsOk, structureAnswer, planAnswer}
 use Rattle.plan.specs.Files.{byteAt, fileTasks, fileCount, fileInstruction, placeOf, fileProgram, layoutOk, filePrograms, secondBytesOk, fileAnswer}
 use Rattle.plan.specs.Outcomes.{planRead}
+use Rattle.plan.proofs.Parts.{tasks-in, program-in, no-program-in, count-in}
 use Rattle.plan_laws.proofs.Answers.{laid, sized-ok}
 use Rattle.plan_laws.proofs.Canonical.{meaning-canonical}
 use Rattle.plan_read.specs.declared.code.Fetched.{Fetched}
@@ -32,37 +33,23 @@ use Rattle.plan_read.specs.Code.{fetchedFrom, nothingFetched, fetchedAt,
 
 -- the programs that a file holds
 module _ (b : List ℕ) where
-  tasks : length (filePrograms b) ≡ fileTasks b
-  unfolding filePrograms
-  tasks = length-table (fileTasks b) (fileProgram b)
-
-  program : (k : ℕ) → k < fileTasks b → programAt (filePrograms b) k ≡ fileProgram b k
-  unfolding filePrograms
-  program k l = getD-table (fileTasks b) (fileProgram b) k [] l
-
-  no-program : (k : ℕ) → fileTasks b ≤ k → programAt (filePrograms b) k ≡ []
-  no-program k l = List·getD-eq-default (filePrograms b) [] (rw tasks l)
-
-  count : (k : ℕ) → k < fileTasks b → countOf (filePrograms b) k ≡ fileCount b k
-  count k l = rw (program k l) (length-table (fileCount b k) (λ i. fileInstruction b (placeOf b k i)))
-
   -- a count as it is read
   count-read : (k : ℕ) → pick (ltb k (fileTasks b)) (fileCount b k) 0 ≡ countOf (filePrograms b) k
   count-read k =
       by-cases
       (decLt k (fileTasks b))
-      (λ l. simp (lt-ltb k (fileTasks b) l) (sym (count k l)))
-      (λ l. simp (le-ltb k (fileTasks b) (omega arith), no-program k (omega arith)))
+      (λ l. simp (lt-ltb k (fileTasks b) l) (sym (count-in b k l)))
+      (λ l. simp (le-ltb k (fileTasks b) (omega arith), no-program-in b k (omega arith)))
 
   counts-at : (k : ℕ) → k < 64 → k < fileTasks b → getD (countsTo b (fileTasks b)) k 0 ≡ fileCount b k
-  counts-at k r l = getD-table 64 (λ k. pick (ltb k (fileTasks b)) (fileCount b k) 0) k 0 r ∙ count-read k ∙ count k l
+  counts-at k r l = getD-table 64 (λ k. pick (ltb k (fileTasks b)) (fileCount b k) 0) k 0 r ∙ count-read k ∙ count-in b k l
 
   -- a slot as it is read
   used-slot : (k i : ℕ) → k < fileTasks b
       → pick (ltb i (fileCount b k)) (fileInstruction b (placeOf b k i)) noInstruction ≡ instructionAt (programAt (filePrograms b) k) i
   used-slot k i l =
       let g : ℕ → Instruction = λ i. fileInstruction b (placeOf b k i) in
-      rw (program k l)
+      rw (program-in b k l)
       (by-cases
       (decLt i (fileCount b k))
       (λ q. simp (lt-ltb i (fileCount b k) q) (sym (getD-table (fileCount b k) g i noInstruction q)))
@@ -106,7 +93,7 @@ module _ (b : List ℕ) (h : layoutOk b ≡ true) where
       (λ l.
       simp (lt-ltb s (64 * fileTasks b) l, slot-of s l)
       (ap get (chosen asInstruction (ltb (s % 64) (fileCount b (s / 64))) (fetchedFrom b (placeOf b (s / 64) (s % 64))) nothingFetched ∙ used-slot b (s / 64) (s % 64) (omega arith))))
-      (λ l. simp (le-ltb s (64 * fileTasks b) (omega arith), no-program b (s / 64) (omega arith)) (sym none))
+      (λ l. simp (le-ltb s (64 * fileTasks b) (omega arith), no-program-in b (s / 64) (omega arith)) (sym none))
 
   pub plan-read : codeOf b (fileTasks b) (countsTo b (fileTasks b)) .plan ≡ canonical (filePrograms b)
   unfolding canonical
@@ -114,7 +101,7 @@ module _ (b : List ℕ) (h : layoutOk b ≡ true) where
       let n = counts-read in
       let o = table-same 4096 _ (λ s. inSlot (filePrograms b) s .opcode) (λ s l. slot-field (λ x. x .opcode) refl s) in
       let a = table-same 4096 _ (λ s. inSlot (filePrograms b) s .operand) (λ s l. slot-field (λ x. x .operand) refl s) in
-      λ i. record { tasks = sym (tasks b) i; lengths = n i; opcodes = o i; operands = a i }
+      λ i. record { tasks = sym (tasks-in b) i; lengths = n i; opcodes = o i; operands = a i }
 
   pub zeros-read : codeOf b (fileTasks b) (countsTo b (fileTasks b)) .zeros ≡ secondBytesOk b
   unfolding secondBytesOk
@@ -132,7 +119,7 @@ module _ (b : List ℕ) (h : layoutOk b ≡ true) where
   sizes : sizesOk (filePrograms b) ≡ true
   sizes =
       let p = laid b h in
-      sized-ok (filePrograms b) (record { tasks = rw (tasks b) (p .tasks); counts = λ k l. let q = rw (tasks b) at l in rw (count b k q) (p .counts k q) })
+      sized-ok (filePrograms b) (record { tasks = rw (tasks-in b) (p .tasks); counts = λ k l. let q = rw (tasks-in b) at l in rw (count-in b k q) (p .counts k q) })
 
   pub programs-read : programs (canonical (filePrograms b)) ≡ filePrograms b
   programs-read = meaning-canonical (filePrograms b) sizes

@@ -2,18 +2,18 @@
 use mathlib.Core.Path.{_≡_, refl, sym, _∙_, ap}
 use mathlib.Core.Bool.{Bool, true, false, not, _&&_, _||_, and-assoc}
 use mathlib.Core.List.{List, [], _∷_, _++_}
-use Prim.Native.Nat.{ℕ, zero, suc, _+_, _*_, _-_, _/_, _<_, _≤_}
+use Prim.Native.Nat.{ℕ, suc, _+_, _*_, _-_, _/_, _<_, _≤_}
 use native.Mathlib.Numerals.{add-one}
 use native.Mathlib.Omega.{arith}
 use lib.ListN.{length, getD}
-use lib.Dec.{eqb, leb}
+use lib.Dec.{leb}
 use borrow.Author.Tests.{ne-eqb, eq-eqb}
 use Rattle.base.specs.Choice.{pick, unless}
-use Rattle.base.specs.Range.{fold, below, joined}
+use Rattle.base.specs.Range.{below, joined}
 use Rattle.base.specs.Rows.{every, table}
-use Rattle.base.proofs.Tests.{and-left, and-right, and-true, within-low, within-high, below-at, every-append}
+use Rattle.base.proofs.Tests.{and-left, and-right, and-true, within-low, within-high, below-at}
 use Rattle.base.proofs.Folds.{fold-same, fold-more}
-use Rattle.base.proofs.Slots.{row-of, below-slots, joined-slots}
+use Rattle.base.proofs.Slots.{below-slots, joined-slots}
 use Rattle.base.proofs.Tables.{table-more, length-table, getD-table, every-table}
 use Rattle.plan.specs.declared.Instruction.{Instruction}
 use Rattle.plan.specs.declared.Plan.{Plan}
@@ -23,10 +23,11 @@ use Rattle.plan.specs.Kinds.{opCreate, opSend, opReceive, isFinish, isUse, noIn
 use Rattle.plan.specs.Programs.{Program, slotOf, programOf, programs, programAt}
 use Rattle.plan.specs.Users.{usesIn, users}
 use Rattle.plan.specs.Refusals.{sizeOk, sizesOk, instructionOk, instructionsOk, finishOk, finishesOk, createOk, createsOk, channelOk, channelsOk, structureAnswer, planAnswer}
+use Rattle.plan.proofs.Parts.{tasks-of, program-of}
 use Rattle.plan_rules.specs.declared.users.Use.{Use}
-use Rattle.plan_rules.specs.Slots.{sameTest, finishFits, scanned, slotsTo}
+use Rattle.plan_rules.specs.Slots.{sameTest, finishFits, scanned}
 use Rattle.plan_rules.specs.Sizes.{countFits, sizesIn}
-use Rattle.plan_rules.specs.Uses.{noUse, useOf, slotUser, usesTable, createFits, createAt, createsFit, createsIn, endsFit, endsAt, endsFitAll, channelsIn}
+use Rattle.plan_rules.specs.Uses.{noUse, useOf, slotUser, usesTable, createFits, createAt, createsIn, endsFit, endsAt, channelsIn}
 use Rattle.plan_rules.proofs.Tasks.{create-use, ends-use}
 
 -- one task more behind the others is in order where none of them is a finish and it is one
@@ -71,18 +72,10 @@ module _ (p : Plan) where
   abbrev count : ℕ → ℕ
   count k = getD (p .lengths) k 0
 
-  pub tasks-of : length (programs p) ≡ p .tasks
-  unfolding programs
-  tasks-of = length-table (p .tasks) (programOf p)
-
-  pub program-of : (k : ℕ) → k < p .tasks → programAt (programs p) k ≡ programOf p k
-  unfolding programs
-  program-of k h = getD-table (p .tasks) (programOf p) k [] h
-
   pub sizes-of : sizesOk (programs p) ≡ sizesIn (p .tasks) (p .lengths)
   unfolding sizesOk programs
   sizes-of =
-      rw (tasks-of, every-table (λ g. sizeOk (length g)) (p .tasks) (programOf p))
+      rw (tasks-of p, every-table (λ g. sizeOk (length g)) (p .tasks) (programOf p))
       (ap (λ (b : Bool). sizeOk (p .tasks) && b)
       (fold-same _&&_ true (p .tasks) (λ k. sizeOk (length (programOf p k))) (countFits (p .lengths))
       (λ k h. ap sizeOk (length-table (count k) (λ i. slotOf p (64 * k + i))))))
@@ -104,7 +97,7 @@ module _ (p : Plan) where
     unfolding instructionsOk programs
     instructions-of =
         let ok = instructionOk (p .tasks) in
-        ap (λ (n : ℕ). every (every (instructionOk n)) (programs p)) tasks-of
+        ap (λ (n : ℕ). every (every (instructionOk n)) (programs p)) (tasks-of p)
         ∙ every-table (every ok) (p .tasks) (programOf p)
         ∙ fold-same _&&_ true (p .tasks) (λ k. every ok (programOf p k)) (λ k. below (count k) (λ i. ok (slotOf p (64 * k + i))))
         (λ k h. every-table ok (count k) (λ i. slotOf p (64 * k + i)))
@@ -122,10 +115,10 @@ module _ (p : Plan) where
     unfolding users
     users-of k a =
         let one : ℕ → ℕ → List ℕ = λ t j. pick (isUse k a (slotOf p j)) (t ∷ []) [] in
-        ap (λ (n : ℕ). joined n (λ j. usesIn k a (suc j) (programAt (programs p) j))) (tasks-of)
+        ap (λ (n : ℕ). joined n (λ j. usesIn k a (suc j) (programAt (programs p) j))) (tasks-of p)
         ∙ fold-same _++_ [] (p .tasks) (λ j. usesIn k a (suc j) (programAt (programs p) j)) (λ j. joined (count j) (λ i. one ((64 * j + i) / 64 + 1) (64 * j + i)))
         (λ j h.
-        ap (usesIn k a (suc j)) (program-of j h)
+        ap (usesIn k a (suc j)) (program-of p j h)
         ∙ uses-table k a (suc j) (count j) (λ i. slotOf p (64 * j + i))
         ∙ fold-same _++_ [] (count j) (λ i. one (suc j) (64 * j + i)) (λ i. one ((64 * j + i) / 64 + 1) (64 * j + i))
         (λ i q. let e : suc j ≡ (64 * j + i) / 64 + 1 = omega (arith, few j h) in ap (λ (t : ℕ). one t (64 * j + i)) e))
@@ -140,7 +133,7 @@ module _ (p : Plan) where
     creates-of =
         let m = programs p in
         let creates = usesTable opCreate (p .tasks) (p .lengths) (p .opcodes) (p .operands) in
-        ap (λ (n : ℕ). below n (λ k. leb (suc k) 1 || createOk m (suc k))) tasks-of
+        ap (λ (n : ℕ). below n (λ k. leb (suc k) 1 || createOk m (suc k))) (tasks-of p)
         ∙ fold-same _&&_ true (p .tasks) (λ k. leb (suc k) 1 || createOk m (suc k)) (createAt creates)
         (λ k h.
         ap (λ (u : ℕ). leb u 1 || createOk m u) (sym (add-one k))

@@ -8,7 +8,7 @@ use lib.Dec.{ltb}
 use Rattle.base.specs.Choice.{pick}
 use Rattle.base.specs.Range.{fold}
 use Rattle.base.proofs.Tests.{and-true}
-use Rattle.base.proofs.Folds.{fold-none, fold-more}
+use Rattle.base.proofs.Folds.{fold-more}
 use Rattle.plan.specs.Refusals.{instructionOk}
 use Rattle.plan_rules.specs.declared.scan.Scan.{Scan}
 use Rattle.plan_rules.specs.Slots.{slotIn, finishFits, scanNext, scannedTo}

@@ -1,13 +1,13 @@
 -- The kept form of some task numbers answers the questions of refusals 5 and 6 about them.
-use mathlib.Core.Path.{_≡_, refl, sym, _∙_, ap}
+use mathlib.Core.Path.{_≡_, refl}
 use mathlib.Core.Bool.{Bool, true, false, not, _&&_, _||_}
 use mathlib.Core.List.{List, [], _∷_}
 use Prim.Native.Nat.{ℕ}
-use lib.Dec.{eqb, ltb, leb}
+use lib.Dec.{eqb, leb}
 use borrow.Author.Tests.{eqb-true}
 use Rattle.base.specs.Rows.{every, any}
 use Rattle.base.proofs.Tests.{and-left, and-right}
-use Rattle.plan.specs.Users.{firstOf, oneTask, share, onlyLower}
+use Rattle.plan.specs.Users.{oneTask, share, onlyLower}
 use Rattle.plan_rules.specs.Uses.{useOf, createFits, endsFit}
 
 pub create-use : (u : ℕ) (l : List ℕ) → createFits (useOf l) u ≡ leb u 1 || onlyLower u l

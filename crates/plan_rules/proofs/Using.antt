@@ -1,23 +1,20 @@
 -- One instruction more in the table of which task uses what.
 use mathlib.Core.Path.{_≡_, refl, sym, _∙_, ap}
-use mathlib.Core.Bool.{Bool, true, false, not, _&&_, _||_}
+use mathlib.Core.Bool.{Bool, true, false, not, _&&_}
 use mathlib.Core.List.{List, [], _∷_, _++_, append-nil}
-use mathlib.Core.Logic.{_≢_, by-cases}
+use mathlib.Core.Logic.{_≢_}
 use Prim.Native.Nat.{ℕ, _+_, _/_, _%_, _<_, _≤_}
 use native.Mathlib.Omega.{arith}
 use lib.ListN.{getD, set}
 use lib.Dec.{eqb, ltb, leb}
-use borrow.Author.Tests.{ne-eqb, eq-eqb, lt-ltb, le-ltb, ltb-false, ltb-true, le-leb, lt-leb, leb-true, leb-false, eqb-true, eqb-false}
+use borrow.Author.Tests.{ne-eqb, eq-eqb, leb-false}
 use Rattle.base.specs.Choice.{pick}
-use Rattle.base.specs.Range.{fold, joined}
-use Rattle.base.specs.Rows.{every, table, tableBefore}
+use Rattle.base.specs.Range.{joined}
+use Rattle.base.specs.Rows.{every, table}
 use Rattle.base.proofs.Tests.{every-append}
-use Rattle.base.proofs.Folds.{fold-none, fold-more}
+use Rattle.base.proofs.Folds.{fold-more}
 use Rattle.base.proofs.Tables.{table-same, set-table, getD-table}
-use Rattle.plan.specs.declared.TaskId.{TaskId}
-use Rattle.plan.specs.Kinds.{isUse}
 use Rattle.plan_rules.specs.declared.users.Use.{Use}
-use Rattle.plan_rules.specs.Slots.{slotIn}
 use Rattle.plan_rules.specs.Uses.{noUse, useOf, useNext, slotUser, argumentIn, usesTo, endsFit}
 
 pub ends-apart : (s r : Use) → s .mixed ≡ false → r .mixed ≡ false → (s .count ≡ 0 → ⊥) → (r .count ≡ 0 → ⊥)

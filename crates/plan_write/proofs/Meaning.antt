@@ -18,10 +18,11 @@ use Rattle.plan.specs.declared.Refusal.the-variants.{OutputShort}
 use Rattle.plan.specs.declared.PlanAnswer.the-variants.{Accepted, Refused}
 use Rattle.plan.specs.declared.WriteAnswer.the-variants.{Written, Unwritten}
 use Rattle.plan.specs.Kinds.{noInstruction}
-use Rattle.plan.specs.Programs.{Programs, programAt, instructionAt, slotOf, programOf, programs}
+use Rattle.plan.specs.Programs.{Programs, programAt, instructionAt, slotOf, programs}
 use Rattle.plan.specs.Layout.{bytes16, countOf, totalOf, headBytes, instructionBytes, codeBytes, layout}
 use Rattle.plan.specs.Refusals.{planAnswer}
 use Rattle.plan.specs.Outcomes.{writeAnswer, writeOutput}
+use Rattle.plan.proofs.Parts.{tasks-of, program-of, count-of}
 use Rattle.plan_laws.proofs.Answers.{plan-passed, sized}
 use Rattle.plan_laws.proofs.Sums.{sum-const, sum-scaled, sum-at-most}
 use Rattle.plan_write.specs.Output.{overlay, totalIn, entryBytes, entriesBytes, slotsBytes, Put, WritePlan}
@@ -29,28 +30,17 @@ use Rattle.plan_write.proofs.Overlay.{overlay-front, put-more}
 use Rattle.plan_write.proofs.Entries.{length-entries}
 
 module _ (p : Plan) where
-  tasks-of : length (programs p) ≡ p .tasks
-  unfolding programs
-  tasks-of = length-table (p .tasks) (programOf p)
-
-  program-of : (k : ℕ) → k < p .tasks → programAt (programs p) k ≡ programOf p k
-  unfolding programs
-  program-of k h = getD-table (p .tasks) (programOf p) k [] h
-
-  count-of : (k : ℕ) → k < p .tasks → countOf (programs p) k ≡ getD (p .lengths) k 0
-  count-of k h = rw (program-of k h) (length-table (getD (p .lengths) k 0) (λ i. slotOf p (64 * k + i)))
-
   sum-of : (n : ℕ) → n ≤ p .tasks → sumBelow n (countOf (programs p)) ≡ totalIn (p .lengths) n
-  sum-of n h = fold-same _+_ 0 n (countOf (programs p)) (λ k. getD (p .lengths) k 0) (λ k l. count-of k (omega arith))
+  sum-of n h = fold-same _+_ 0 n (countOf (programs p)) (λ k. getD (p .lengths) k 0) (λ k l. count-of p k (omega arith))
 
   total-of-plan : totalOf (programs p) ≡ totalIn (p .lengths) (p .tasks)
-  total-of-plan = rw tasks-of (sum-of (p .tasks) (omega arith))
+  total-of-plan = rw (tasks-of p) (sum-of (p .tasks) (omega arith))
 
   heads-of : joined (length (programs p)) (headBytes (programs p)) ≡ entriesBytes (p .lengths) (p .tasks)
   heads-of =
-      rw tasks-of
+      rw (tasks-of p)
       (fold-same _++_ [] (p .tasks) (headBytes (programs p)) (entryBytes (p .lengths) (p .tasks))
-      (λ k l. rw (tasks-of, sum-of k (omega arith), count-of k l) refl))
+      (λ k l. rw (tasks-of p, sum-of k (omega arith), count-of p k l) refl))
 
   -- the bytes of one task's instructions
   code-of : (k : ℕ) → k < p .tasks
@@ -58,7 +48,7 @@ module _ (p : Plan) where
   code-of k h =
       let n = getD (p .lengths) k 0 in
       let g : ℕ → Instruction = λ i. slotOf p (64 * k + i) in
-      rw (program-of k h, length-table n g)
+      rw (program-of p k h, length-table n g)
       (fold-same _++_ [] n (λ i. instructionBytes (instructionAt (table n g) i)) (λ i. instructionBytes (g i))
       (λ i l. rw (getD-table n g i noInstruction l) refl))
 
@@ -70,7 +60,7 @@ module _ (p : Plan) where
 
     codes-of : joined (length (programs p)) (λ k. codeBytes (programAt (programs p) k))
         ≡ slotsBytes (p .lengths) (p .opcodes) (p .operands) (64 * p .tasks)
-    codes-of = rw tasks-of (fold-same _++_ [] (p .tasks) (λ k. codeBytes (programAt (programs p) k)) _ code-of ∙ sym slots-of)
+    codes-of = rw (tasks-of p) (fold-same _++_ [] (p .tasks) (λ k. codeBytes (programAt (programs p) k)) _ code-of ∙ sym slots-of)
 
     length-codes : length (slotsBytes (p .lengths) (p .opcodes) (p .operands) (64 * p .tasks)) ≡ 4 * totalIn (p .lengths) (p .tasks)
     length-codes =

@@ -1,5 +1,4 @@
 // Reading and writing, one after the other: each gives back what the other was given.
-ghost use Rattle.plan.specs.Programs.{programs};
 ghost use Rattle.round_trip.specs.Trips.{Rewritten, Reread};
 use plan::Plan;
 use plan::PlanRead;

@@ -1,6 +1,5 @@
 -- The exported plan check answers the paper's number for every number of desks and every file.
 use mathlib.Core.Path.{refl, sym, _∙_, ap}
-use mathlib.Core.Bool.{true, false}
 use borrow.Author.Needs.{needs}
 use borrow.Author.Tests.{not-true, not-false}
 use Rattle.plan.specs.declared.PlanRead.{PlanRead}

@@ -1,14 +1,12 @@
 -- `read_plan` is the paper's reading: the header, the second bytes and the plan's own refusals, in that order.
 use mathlib.Core.Path.{_≡_, sym, _∙_, ap}
-use mathlib.Core.Bool.{true, false}
+use mathlib.Core.Bool.{true}
 use mathlib.Core.List.{List}
 use Prim.Native.Nat.{ℕ}
 use borrow.Author.Needs.{needs}
 use borrow.Author.Tests.{not-true, not-false}
 use Rattle.plan.specs.declared.Plan.{Plan}
-use Rattle.plan.specs.declared.PlanRead.{PlanRead}
 use Rattle.plan.specs.declared.PlanAnswer.the-variants.{Accepted}
-use Rattle.plan.specs.Programs.{programs}
 use Rattle.plan.specs.Refusals.{planAnswer}
 use Rattle.plan.specs.Files.{filePrograms, layoutOk, secondBytesOk}
 use Rattle.plan_read.proofs.Meaning.{read-bad, read-second, read-refused, read-accepted}

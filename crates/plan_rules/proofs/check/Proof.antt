@@ -1,14 +1,13 @@
 -- `check` answers as the paper asks of the plan's meaning: it tests what is computed from the slots, in the paper's order.
 use mathlib.Core.Path.{_≡_, refl, sym, _∙_, ap}
-use mathlib.Core.Bool.{true, false}
-use Prim.Native.Nat.{_≤_}
+use mathlib.Core.Bool.{true}
 use borrow.Author.Needs.{needs}
 use borrow.Author.Tests.{not-true, not-false}
 use Rattle.plan.specs.declared.Plan.{Plan}
 use Rattle.plan_rules.specs.declared.scan.Scan.{Scan}
 use Rattle.plan_rules.specs.Slots.{scanned}
 use Rattle.plan_rules.specs.Sizes.{sizesIn}
-use Rattle.plan_rules.specs.Uses.{createsIn, channelsIn}
+use Rattle.plan_rules.specs.Uses.{createsIn}
 use Rattle.plan_rules.proofs.Meaning.{most, answer-of, answer-unsized}
 use Rattle.plan_rules.proofs.check.Statement.{statement}
 use Rattle.plan_rules.proofs.check.Tie as tie

@@ -1,10 +1,7 @@
 -- `scan::instruction_ok` is the test of one instruction, kind by kind.
-use mathlib.Core.Path.{_∙_, sym, ap}
-use Prim.Native.Nat.{ℕ}
-use lib.Dec.{eqb}
+use mathlib.Core.Path.{sym}
 use native.Mathlib.Omega.{arith}
 use borrow.Author.Needs.{needs}
-use Rattle.base.specs.Choice.{within}
 use Rattle.plan_rules.proofs.ByKind.{ok-create, ok-zero, ok-channel, ok-word, ok-unknown}
 use Rattle.plan_rules.proofs.scan.instruction_ok.Statement.{statement}
 use Rattle.plan_rules.proofs.scan.instruction_ok.Tie as tie

@@ -1,6 +1,6 @@
 -- `scan::scan_slots` is the pass over all slots. The loop's invariant: what was seen is the pass over the first s.
 use Prim.Native.Nat.{_≤_, _*_, _-_}
-use mathlib.Core.Path.{_≡_, refl, sym, _∙_}
+use mathlib.Core.Path.{_≡_, sym}
 use native.Mathlib.Omega.{arith}
 use borrow.Author.Needs.{needs}
 use Rattle.plan_rules.specs.Slots.{scannedTo}

@@ -1,6 +1,6 @@
 -- `Use::creates` tests the creates of one task.
 use borrow.Author.Needs.{needs}
-use borrow.Author.Tests.{lt-ltb, le-ltb, le-leb, lt-leb, eq-eqb, ne-eqb}
+use borrow.Author.Tests.{le-leb, lt-leb, eq-eqb, ne-eqb}
 use Rattle.plan_rules.proofs.users.Use.creates.Statement.{statement}
 use Rattle.plan_rules.proofs.users.Use.creates.Tie as tie
 

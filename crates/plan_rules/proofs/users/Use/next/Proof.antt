@@ -1,5 +1,4 @@
 -- `Use::next` takes one instruction into account.
-use borrow.Author.Needs.{needs}
 use borrow.Author.Tests.{eq-eqb, ne-eqb}
 use Rattle.plan_rules.proofs.users.Use.next.Statement.{statement}
 use Rattle.plan_rules.proofs.users.Use.next.Tie as tie
