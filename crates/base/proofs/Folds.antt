@@ -36,17 +36,20 @@ module _ {A : Type 0} (op : A → A → A) (e : A) (assoc : (a b c : A) → op (
   fold-grid w zero f = rw (mul-zero w) refl
   fold-grid w (suc n) f = rw (mul-suc w n, fold-add (w * n) w f, fold-grid w n f) refl
 
-  -- nothing behind the first n
-  none-behind : (n m : ℕ) (f : ℕ → A) → ((i : ℕ) → n ≤ i → f i ≡ e) → fold op e (n + m) f ≡ fold op e n f
+  -- nothing in a range
+  none-between : (n m : ℕ) (f : ℕ → A) → ((i : ℕ) → n ≤ i → i < n + m → f i ≡ e) → fold op e (n + m) f ≡ fold op e n f
   unfolding fold
-  none-behind n zero f h = rw (add-zero n) refl
-  none-behind n (suc m) f h = rw (add-suc n m, h (n + m) (omega arith), unit) (none-behind n m f h)
+  none-between n zero f h = rw (add-zero n) refl
+  none-between n (suc m) f h =
+      rw (add-suc n m, h (n + m) (omega arith) (omega arith), unit) (none-between n m f (λ i p q. h i p (omega arith)))
+
+  pub fold-skip : (n k : ℕ) (f : ℕ → A) → n ≤ k → ((i : ℕ) → n ≤ i → i < k → f i ≡ e) → fold op e n f ≡ fold op e k f
+  fold-skip n k f h none =
+      let s : n + (k - n) ≡ k = omega arith in
+      sym (none-between n (k - n) f (λ i p q. none i p (omega arith))) ∙ ap (λ (m : ℕ). fold op e m f) s
 
   -- the first n of w
   pub fold-front : (n w : ℕ) (f : ℕ → A) → n ≤ w → fold op e w (λ i. pick (ltb i n) (f i) e) ≡ fold op e n f
   fold-front n w f h =
       let g : ℕ → A = λ i. pick (ltb i n) (f i) e in
-      let s : n + (w - n) ≡ w = omega arith in
-      ap (λ (k : ℕ). fold op e k g) (sym s)
-      ∙ none-behind n (w - n) g (λ i q. simp (le-ltb i n q))
-      ∙ fold-same op e n g f (λ i q. simp (lt-ltb i n q))
+      sym (fold-skip n w g h (λ i p q. simp (le-ltb i n p))) ∙ fold-same op e n g f (λ i q. simp (lt-ltb i n q))

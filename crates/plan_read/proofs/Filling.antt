@@ -1,7 +1,7 @@
 -- A table that is filled from the front, entry by entry.
 use mathlib.Core.Path.{_≡_, sym, _∙_, ap}
 use mathlib.Core.Logic.{by-cases}
-use Prim.Native.Nat.{ℕ, _+_, _<_}
+use Prim.Native.Nat.{ℕ, _+_, _<_, _≤_}
 use native.Mathlib.Omega.{arith}
 use native.Mathlib.Decide.{decLt}
 use lib.ListN.{set, replicate, length-replicate, getD-replicate}
@@ -10,7 +10,7 @@ use lib.Dec.{ltb}
 use borrow.Author.Tests.{lt-ltb, le-ltb}
 use Rattle.base.specs.Choice.{pick}
 use Rattle.base.specs.Rows.{table}
-use Rattle.base.proofs.Tables.{length-table, getD-table, set-table}
+use Rattle.base.proofs.Tables.{length-table, getD-table, table-same, set-table}
 
 module _ {A : Type 0} where
   -- one value throughout
@@ -40,3 +40,19 @@ module _ {A : Type 0} where
           (decLt j s)
           (λ l. simp (lt-ltb j s l, lt-ltb j (s + 1) (omega arith)))
           (λ l. simp (le-ltb j s (omega arith), le-ltb j (s + 1) (omega arith)))
+
+  -- d from s up to r
+  pub fill-skip : (n : ℕ) (f : ℕ → A) (d : A) (s r : ℕ) → s ≤ r → ((i : ℕ) → s ≤ i → i < r → f i ≡ d)
+      → table n (filled f d s) ≡ table n (filled f d r)
+  fill-skip n f d s r h none = table-same n (filled f d s) (filled f d r) (λ j q. same j)
+    where
+      same : (j : ℕ) → filled f d s j ≡ filled f d r j
+      same j =
+          by-cases
+          (decLt j s)
+          (λ l. simp (lt-ltb j s l, lt-ltb j r (omega arith)))
+          (λ l.
+          by-cases
+          (decLt j r)
+          (λ m. simp (le-ltb j s (omega arith), lt-ltb j r m) (sym (none j (omega arith) m)))
+          (λ m. simp (le-ltb j s (omega arith), le-ltb j r (omega arith))))

@@ -27,9 +27,8 @@ use Rattle.plan.specs.Outcomes.{planRead}
 use Rattle.plan.proofs.Parts.{tasks-in, program-in, no-program-in, count-in}
 use Rattle.plan_laws.proofs.Answers.{laid, sized-ok}
 use Rattle.plan_laws.proofs.Canonical.{meaning-canonical}
-use Rattle.plan_read.specs.declared.code.Fetched.{Fetched}
 use Rattle.plan_read.specs.Header.{countsTo}
-use Rattle.plan_read.specs.Code.{fetchedFrom, nothingFetched, fetchedAt, slotFetched, codeOf, readRefused}
+use Rattle.plan_read.specs.Code.{usedSlot, slotRead, codeOf, readRefused}
 
 -- the programs that a file holds
 module _ (b : List ℕ) where
@@ -57,15 +56,6 @@ module _ (b : List ℕ) where
       simp (le-ltb i (fileCount b k) (omega arith))
       (sym (List·getD-eq-default (fileProgram b k) noInstruction (rw (length-table (fileCount b k) g) (omega arith))))))
 
--- the instruction alone
-abbrev asInstruction : Fetched → Instruction
-asInstruction x = record { opcode = x .opcode; operand = x .operand }
-
--- a part of a choice
-chosen : {A : Type 0} (get : Fetched → A) (t : Bool) (x y : Fetched) → get (pick t x y) ≡ pick t (get x) (get y)
-chosen get true x y = refl
-chosen get false x y = refl
-
 -- a file whose layout is right
 module _ (b : List ℕ) (h : layoutOk b ≡ true) where
   few-tasks : fileTasks b ≤ 64
@@ -78,21 +68,18 @@ module _ (b : List ℕ) (h : layoutOk b ≡ true) where
   unfolding canonical
   counts-read = table-same 64 _ (countOf (filePrograms b)) (λ k l. count-read b k)
 
-  -- the slot of a task
-  slot-of : (s : ℕ) → s < 64 * fileTasks b
-      → slotFetched b (countsTo b (fileTasks b)) s ≡ fetchedAt b (s / 64) (fileCount b (s / 64)) (s % 64)
-  slot-of s l =
+  -- the slots that a task uses
+  used-of : (s : ℕ) → s < 64 * fileTasks b → usedSlot (countsTo b (fileTasks b)) s ≡ ltb (s % 64) (fileCount b (s / 64))
+  used-of s l =
       let q = few-tasks in
       rw (counts-at b (s / 64) (omega arith) (omega arith)) refl
 
   slot-field : (get : Instruction → ℕ) → get noInstruction ≡ 0 → (s : ℕ)
-      → pick (ltb s (64 * fileTasks b)) (get (asInstruction (slotFetched b (countsTo b (fileTasks b)) s))) 0 ≡ get (inSlot (filePrograms b) s)
+      → pick (ltb s (64 * fileTasks b)) (get (slotRead b (countsTo b (fileTasks b)) s)) 0 ≡ get (inSlot (filePrograms b) s)
   slot-field get none s =
       by-cases
       (decLt s (64 * fileTasks b))
-      (λ l.
-      simp (lt-ltb s (64 * fileTasks b) l, slot-of s l)
-      (ap get (chosen asInstruction (ltb (s % 64) (fileCount b (s / 64))) (fetchedFrom b (placeOf b (s / 64) (s % 64))) nothingFetched ∙ used-slot b (s / 64) (s % 64) (omega arith))))
+      (λ l. simp (lt-ltb s (64 * fileTasks b) l, used-of s l) (ap get (used-slot b (s / 64) (s % 64) (omega arith))))
       (λ l. simp (le-ltb s (64 * fileTasks b) (omega arith), no-program-in b (s / 64) (omega arith)) (sym none))
 
   pub plan-read : codeOf b (fileTasks b) (countsTo b (fileTasks b)) .plan ≡ canonical (filePrograms b)
@@ -109,7 +96,7 @@ module _ (b : List ℕ) (h : layoutOk b ≡ true) where
       let n = fileTasks b in
       let z : ℕ → ℕ → Bool = λ k i. eqb (byteAt b (placeOf b k i + 1)) 0 in
       fold-same _&&_ true (64 * n) _ (λ j. pick (ltb (j % 64) (fileCount b (j / 64))) (z (j / 64) (j % 64)) true)
-      (λ j l. rw (slot-of j l) (chosen (λ x. x .zero) (ltb (j % 64) (fileCount b (j / 64))) (fetchedFrom b (placeOf b (j / 64) (j % 64))) nothingFetched))
+      (λ j l. rw (used-of j l) refl)
       ∙ below-slots n (fileCount b) (λ j count i. z (j / 64) i) few
       ∙ fold-same _&&_ true n _ (λ k. below (fileCount b k) (z k))
       (λ k l.

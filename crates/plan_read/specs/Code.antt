@@ -7,38 +7,43 @@ use lib.Dec.{ltb, eqb}
 use Rattle.base.specs.Choice.{pick}
 use Rattle.base.specs.Range.{below}
 use Rattle.base.specs.Rows.{table}
+use Rattle.plan.specs.declared.Instruction.{Instruction}
 use Rattle.plan.specs.declared.Refusal.{Refusal}
 use Rattle.plan.specs.declared.PlanAnswer.the-variants.{Refused}
 use Rattle.plan.specs.declared.PlanRead.{PlanRead}
+use Rattle.plan.specs.Kinds.{noInstruction}
 use Rattle.plan.specs.Programs.{canonical}
-use Rattle.plan.specs.Files.{byteAt, word16, placeOf}
+use Rattle.plan.specs.Files.{byteAt, word16, fileInstruction, placeOf}
 use Rattle.plan_read.specs.declared.code.Fetched.{Fetched}
 use Rattle.plan_read.specs.declared.code.Code.{Code}
 
--- the instruction at a place, and that of an unused slot
+-- the instruction at a place, and whether its second byte is zero
 abbrev pub fetchedFrom : List ℕ → ℕ → Fetched
 fetchedFrom b at = record { opcode = byteAt b at; operand = word16 b (at + 2); zero = eqb (byteAt b (at + 1)) 0 }
 
-abbrev pub nothingFetched : Fetched
-nothingFetched = record { opcode = 0; operand = 0; zero = true }
+-- the slot is used, and where its instruction stands
+abbrev pub usedSlot : List ℕ → ℕ → Bool
+usedSlot lengths s = ltb (s % 64) (getD lengths (s / 64) 0)
 
--- instruction place + 1 of task k + 1, which has `count` of them; nothing for an unused slot
-abbrev pub fetchedAt : List ℕ → ℕ → ℕ → ℕ → Fetched
-fetchedAt b k count place = pick (ltb place count) (fetchedFrom b (placeOf b k place)) nothingFetched
+abbrev pub slotPlace : List ℕ → ℕ → ℕ
+slotPlace b s = placeOf b (s / 64) (s % 64)
 
--- slot s
-abbrev pub slotFetched : List ℕ → List ℕ → ℕ → Fetched
-slotFetched b lengths s = fetchedAt b (s / 64) (getD lengths (s / 64) 0) (s % 64)
+-- what a slot is read as, nothing where it is unused; and that the second byte of a used one is zero
+abbrev pub slotRead : List ℕ → List ℕ → ℕ → Instruction
+slotRead b lengths s = pick (usedSlot lengths s) (fileInstruction b (slotPlace b s)) noInstruction
+
+abbrev pub slotZero : List ℕ → List ℕ → ℕ → Bool
+slotZero b lengths s = pick (usedSlot lengths s) (eqb (byteAt b (slotPlace b s + 1)) 0) true
 
 -- the first s slots, and nothing behind them
 abbrev pub opcodesTo : List ℕ → List ℕ → ℕ → List ℕ
-opcodesTo b lengths s = table 4096 (λ j. pick (ltb j s) (slotFetched b lengths j .opcode) 0)
+opcodesTo b lengths s = table 4096 (λ j. pick (ltb j s) (slotRead b lengths j .opcode) 0)
 
 abbrev pub operandsTo : List ℕ → List ℕ → ℕ → List ℕ
-operandsTo b lengths s = table 4096 (λ j. pick (ltb j s) (slotFetched b lengths j .operand) 0)
+operandsTo b lengths s = table 4096 (λ j. pick (ltb j s) (slotRead b lengths j .operand) 0)
 
 abbrev pub zerosTo : List ℕ → List ℕ → ℕ → Bool
-zerosTo b lengths s = below s (λ j. slotFetched b lengths j .zero)
+zerosTo b lengths s = below s (slotZero b lengths)
 
 abbrev pub codeOf : List ℕ → ℕ → List ℕ → Code
 codeOf b n lengths =

@@ -1,12 +1,13 @@
 // The instructions of a plan file, read into the slots of a plan value.
 ghost use mathlib.Core.Path.{_≡_};
-ghost use Prim.Native.Nat.{_≤_};
-ghost use Rattle.plan_read.specs.Code.{fetchedAt, codeOf};
+ghost use Prim.Native.Nat.{_<_, _≤_};
+ghost use Rattle.plan.specs.Files.{placeOf};
+ghost use Rattle.plan_read.specs.Code.{fetchedFrom, codeOf};
 use super::bytes::byte_at;
 use super::bytes::word_at;
 use plan::Plan;
 
-// The instruction for a slot, nothing for an unused one; and whether its second byte is zero.
+// An instruction, and whether its second byte is zero.
 pub struct Fetched {
     pub opcode: u8,
     pub operand: u16,
@@ -19,18 +20,11 @@ pub struct Code {
     pub plan: Plan,
 }
 
-// Instruction place + 1 of task k + 1, which has `count` of them.
-fn fetch(file: &[u8], k: usize, count: u8, place: usize) -> Fetched
-    requires { ⌜ k ≤ 64 ⌝ }
-    ensures { λ r. ⌜ r ≡ fetchedAt (now (file .entry)) k count place ⌝ }
+// Instruction place + 1 of task k + 1.
+fn fetch(file: &[u8], k: usize, place: usize) -> Fetched
+    requires { ⌜ (k < 64) × (place < 64) ⌝ }
+    ensures { λ r. ⌜ r ≡ fetchedFrom (now (file .entry)) (placeOf (now (file .entry)) k place) ⌝ }
 {
-    if base::wide8(count) <= place {
-        return Fetched {
-            opcode: 0,
-            operand: 0,
-            zero: true,
-        };
-    }
     let at = base::wide16(word_at(file, 4 + 4 * k)) + 4 * place;
     let second = byte_at(file, at + 1);
     Fetched {
@@ -52,11 +46,17 @@ pub fn read_code(file: &[u8], tasks: u8, lengths: [u8; 64]) -> Code
     let mut s: usize = 0;
     while s < end {
         let k = s / 64;
-        let x = fetch(file, k, lengths[k], s % 64);
-        opcodes[s] = x.opcode;
-        operands[s] = x.operand;
-        zeros = base::both(zeros, x.zero);
-        s += 1;
+        let place = s % 64;
+        if base::wide8(lengths[k]) <= place {
+            // the rest of the task's slots is unused
+            s = 64 * (k + 1);
+        } else {
+            let x = fetch(file, k, place);
+            opcodes[s] = x.opcode;
+            operands[s] = x.operand;
+            zeros = base::both(zeros, x.zero);
+            s += 1;
+        }
     }
     let plan = Plan {
         tasks: tasks,

@@ -1,4 +1,4 @@
--- One instruction more in the table of which task uses what.
+-- The table of which task uses what goes on: by one instruction, and over the rest of a task's slots.
 use mathlib.Core.Path.{_≡_, refl, sym, _∙_, ap}
 use mathlib.Core.Bool.{Bool, true, false, not, _&&_}
 use mathlib.Core.List.{List, [], _∷_, _++_, append-nil}
@@ -13,7 +13,10 @@ use Rattle.base.specs.Range.{joined}
 use Rattle.base.specs.Rows.{every, table}
 use Rattle.base.proofs.Tests.{every-append}
 use Rattle.base.proofs.Folds.{fold-more}
+use Rattle.base.proofs.Slots.{nextRow, joined-skip}
 use Rattle.base.proofs.Tables.{table-same, set-table, getD-table}
+use Rattle.plan.specs.Kinds.{isUse}
+use Rattle.plan_rules.specs.Slots.{slotIn}
 use Rattle.plan_rules.specs.declared.users.Use.{Use}
 use Rattle.plan_rules.specs.Uses.{noUse, useOf, useNext, slotUser, argumentIn, usesTo, endsFit}
 
@@ -40,58 +43,65 @@ use-more (x ∷ y ∷ l) t =
     go false true = refl
     go false false = refl
 
--- a slot uses only its argument
-user-other : (t a c : ℕ) (used ofKind fits : Bool) → leb a 128 ≡ fits → c < 129 → c ≢ pick used (pick ofKind (pick fits a 129) 129) 129
-    → pick used (pick (ofKind && eqb a c) (t ∷ []) []) [] ≡ []
-user-other t a c false ofKind fits e h ne = refl
-user-other t a c true false fits e h ne = refl
-user-other t a c true true true e h ne = rw (ne-eqb a c (λ q. ne (sym q))) refl
-user-other t a c true true false e h ne = let q = leb-false a 128 e in rw (ne-eqb a c (λ r. omega arith)) refl
+-- an instruction uses only its argument
+user-other : (t a c : ℕ) (ofKind fits : Bool) → leb a 128 ≡ fits → c < 129 → c ≢ pick ofKind (pick fits a 129) 129
+    → pick (ofKind && eqb a c) (t ∷ []) [] ≡ []
+user-other t a c false fits e h ne = refl
+user-other t a c true true e h ne = rw (ne-eqb a c (λ q. ne (sym q))) refl
+user-other t a c true false e h ne = let q = leb-false a 128 e in rw (ne-eqb a c (λ r. omega arith)) refl
 
-user-here : (t a : ℕ) (used ofKind fits : Bool) → pick used (pick ofKind (pick fits a 129) 129) 129 < 129
-    → pick used (pick (ofKind && eqb a (pick used (pick ofKind (pick fits a 129) 129) 129)) (t ∷ []) []) [] ≡ t ∷ []
-user-here t a false ofKind fits h = absurd (omega arith)
-user-here t a true false fits h = absurd (omega arith)
-user-here t a true true false h = absurd (omega arith)
-user-here t a true true true h = rw (eq-eqb a a refl) refl
+user-here : (t a : ℕ) (ofKind fits : Bool) → pick ofKind (pick fits a 129) 129 < 129
+    → pick (ofKind && eqb a (pick ofKind (pick fits a 129) 129)) (t ∷ []) [] ≡ t ∷ []
+user-here t a false fits h = absurd (omega arith)
+user-here t a true false h = absurd (omega arith)
+user-here t a true true h = rw (eq-eqb a a refl) refl
 
 module _ (k : ℕ) (lengths opcodes operands : List ℕ) (s : ℕ) where
+  abbrev count : ℕ → ℕ
+  count j = getD lengths j 0
+
   abbrev slotArgument : ℕ
-  slotArgument = argumentIn k (getD lengths (s / 64) 0) (s % 64) (getD opcodes s 0) (getD operands s 0)
+  slotArgument = argumentIn k (getD opcodes s 0) (getD operands s 0)
 
   abbrev tasksAt : ℕ → ℕ → List ℕ
   tasksAt n a = joined n (slotUser lengths opcodes operands k a)
 
-  unchanged : (c : ℕ) → c < 129 → c ≢ slotArgument → useOf (tasksAt s c) ≡ useOf (tasksAt (s + 1) c)
-  unchanged c h ne =
-      let none =
-      user-other (s / 64 + 1) (getD operands s 0) c (ltb (s % 64) (getD lengths (s / 64) 0)) (eqb (getD opcodes s 0) k) (leb (getD operands s 0) 128) refl h ne in
-      ap useOf
-      (sym (append-nil (tasksAt s c))
-      ∙ ap (λ (l : List ℕ). tasksAt s c ++ l) (sym none)
-      ∙ sym (fold-more _++_ [] s (slotUser lengths opcodes operands k c)))
+  -- the rest of a task's slots changes nothing
+  pub uses-skip : (c : ℕ) (found : List Use) → found ≡ usesTo k lengths opcodes operands s → c ≡ count (s / 64) → c ≤ s % 64
+      → found ≡ usesTo k lengths opcodes operands (nextRow s)
+  uses-skip c found p q l =
+      p
+      ∙ table-same 129 (λ a. useOf (tasksAt s a)) (λ a. useOf (tasksAt (nextRow s) a))
+      (λ a r. ap useOf (joined-skip s count (λ j c place. pick (isUse k a (slotIn opcodes operands j)) ((j / 64 + 1) ∷ []) []) (rw q at l)))
 
-  taken : slotArgument < 129 → useNext (useOf (tasksAt s slotArgument)) (record { 0 = s / 64 + 1 }) ≡ useOf (tasksAt (s + 1) slotArgument)
-  taken h =
-      let here =
-      user-here (s / 64 + 1) (getD operands s 0) (ltb (s % 64) (getD lengths (s / 64) 0)) (eqb (getD opcodes s 0) k) (leb (getD operands s 0) 128) h in
-      sym (use-more (tasksAt s slotArgument) (s / 64 + 1))
-      ∙ ap useOf
-      (ap (λ (l : List ℕ). tasksAt s slotArgument ++ l) (sym here) ∙ sym (fold-more _++_ [] s (slotUser lengths opcodes operands k slotArgument)))
+  module _ (used : ltb (s % 64) (count (s / 64)) ≡ true) where
+    more : (a : ℕ) → tasksAt (s + 1) a ≡ tasksAt s a ++ pick (isUse k a (slotIn opcodes operands s)) ((s / 64 + 1) ∷ []) []
+    more a = simp (fold-more, used)
 
-  pub uses-skip : (a : ℕ) (found : List Use) → found ≡ usesTo k lengths opcodes operands s → a ≡ slotArgument → 129 ≤ a
-      → found ≡ usesTo k lengths opcodes operands (s + 1)
-  uses-skip a found p q h =
-      p ∙ table-same 129 (λ c. useOf (tasksAt s c)) (λ c. useOf (tasksAt (s + 1) c)) (λ c r. unchanged c r (λ e. omega (arith, q, e)))
+    unchanged : (c : ℕ) → c < 129 → c ≢ slotArgument → useOf (tasksAt s c) ≡ useOf (tasksAt (s + 1) c)
+    unchanged c h ne =
+        let none = user-other (s / 64 + 1) (getD operands s 0) c (eqb (getD opcodes s 0) k) (leb (getD operands s 0) 128) refl h ne in
+        ap useOf (sym (append-nil (tasksAt s c)) ∙ ap (λ (l : List ℕ). tasksAt s c ++ l) (sym none) ∙ sym (more c))
 
-  pub uses-take : (a : ℕ) (found : List Use) → found ≡ usesTo k lengths opcodes operands s → a ≡ slotArgument → a < 129
-      → set found a (useNext (getD found a noUse) (record { 0 = s / 64 + 1 })) ≡ usesTo k lengths opcodes operands (s + 1)
-  uses-take a found p q h =
-      let f : ℕ → Use = λ c. useOf (tasksAt s c) in
-      let g : ℕ → Use = λ c. useOf (tasksAt (s + 1) c) in
-      let b : slotArgument < 129 = rw q at h in
-      ap (λ (l : List Use). set l a (useNext (getD l a noUse) (record { 0 = s / 64 + 1 }))) p
-      ∙ ap (λ (c : ℕ). set (table 129 f) c (useNext (getD (table 129 f) c noUse) (record { 0 = s / 64 + 1 }))) q
-      ∙ ap (λ (u : Use). set (table 129 f) slotArgument (useNext u (record { 0 = s / 64 + 1 }))) (getD-table 129 f slotArgument noUse b)
-      ∙ ap (λ (u : Use). set (table 129 f) slotArgument u) (taken b)
-      ∙ set-table 129 f g slotArgument noUse b (λ j r ne. unchanged j r ne)
+    taken : slotArgument < 129 → useNext (useOf (tasksAt s slotArgument)) (record { 0 = s / 64 + 1 }) ≡ useOf (tasksAt (s + 1) slotArgument)
+    taken h =
+        let here = user-here (s / 64 + 1) (getD operands s 0) (eqb (getD opcodes s 0) k) (leb (getD operands s 0) 128) h in
+        sym (use-more (tasksAt s slotArgument) (s / 64 + 1))
+        ∙ ap useOf (ap (λ (l : List ℕ). tasksAt s slotArgument ++ l) (sym here) ∙ sym (more slotArgument))
+
+    pub uses-pass : (a : ℕ) (found : List Use) → found ≡ usesTo k lengths opcodes operands s → a ≡ slotArgument → 129 ≤ a
+        → found ≡ usesTo k lengths opcodes operands (s + 1)
+    uses-pass a found p q h =
+        p ∙ table-same 129 (λ c. useOf (tasksAt s c)) (λ c. useOf (tasksAt (s + 1) c)) (λ c r. unchanged c r (λ e. omega (arith, q, e)))
+
+    pub uses-take : (a : ℕ) (found : List Use) → found ≡ usesTo k lengths opcodes operands s → a ≡ slotArgument → a < 129
+        → set found a (useNext (getD found a noUse) (record { 0 = s / 64 + 1 })) ≡ usesTo k lengths opcodes operands (s + 1)
+    uses-take a found p q h =
+        let f : ℕ → Use = λ c. useOf (tasksAt s c) in
+        let g : ℕ → Use = λ c. useOf (tasksAt (s + 1) c) in
+        let b : slotArgument < 129 = rw q at h in
+        ap (λ (l : List Use). set l a (useNext (getD l a noUse) (record { 0 = s / 64 + 1 }))) p
+        ∙ ap (λ (c : ℕ). set (table 129 f) c (useNext (getD (table 129 f) c noUse) (record { 0 = s / 64 + 1 }))) q
+        ∙ ap (λ (u : Use). set (table 129 f) slotArgument (useNext u (record { 0 = s / 64 + 1 }))) (getD-table 129 f slotArgument noUse b)
+        ∙ ap (λ (u : Use). set (table 129 f) slotArgument u) (taken b)
+        ∙ set-table 129 f g slotArgument noUse b (λ j r ne. unchanged j r ne)

@@ -24,12 +24,10 @@ slotIn opcodes operands s = record { opcode = getD opcodes s 0; operand = getD o
 abbrev pub finishFits : ℕ → ℕ → Instruction → Bool
 finishFits count place x = sameTest (isFinish x) (eqb place (count - 1))
 
--- one slot more; an unused one changes nothing
+-- one instruction more
 abbrev pub scanNext : Scan → ℕ → ℕ → ℕ → Instruction → Scan
 scanNext seen n count place x =
-    pick (ltb place count)
-    (record { instructions = seen .instructions && instructionOk n x; finishes = seen .finishes && finishFits count place x })
-    seen
+    record { instructions = seen .instructions && instructionOk n x; finishes = seen .finishes && finishFits count place x }
 
 -- a test of each used slot among the first s
 abbrev pub slotsTo : List ℕ → (ℕ → ℕ → ℕ → Bool) → ℕ → Bool

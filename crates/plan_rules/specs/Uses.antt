@@ -33,10 +33,9 @@ abbrev pub slotUser : List ℕ → List ℕ → List ℕ → ℕ → ℕ → ℕ
 slotUser lengths opcodes operands k a j =
     pick (ltb (j % 64) (getD lengths (j / 64) 0)) (pick (isUse k a (slotIn opcodes operands j)) ((j / 64 + 1) ∷ []) []) []
 
--- the argument of a used slot with an instruction of kind k, up to 128, else 129
-abbrev pub argumentIn : ℕ → ℕ → ℕ → ℕ → ℕ → ℕ
-argumentIn k count place opcode operand =
-    pick (ltb place count) (pick (eqb opcode k) (pick (leb operand 128) operand 129) 129) 129
+-- the argument of an instruction of kind k, up to 128, else 129
+abbrev pub argumentIn : ℕ → ℕ → ℕ → ℕ
+argumentIn k opcode operand = pick (eqb opcode k) (pick (leb operand 128) operand 129) 129
 
 -- for each argument the tasks of the first s slots that use it
 abbrev pub usesTo : ℕ → List ℕ → List ℕ → List ℕ → ℕ → List Use

@@ -1,7 +1,7 @@
 // "3, kind unknown .. or argument out of range" and "4, finish not exactly the last instruction of a
 // task", in one pass over the slots.
 ghost use mathlib.Core.Path.{_≡_};
-ghost use Prim.Native.Nat.{_≤_};
+ghost use Prim.Native.Nat.{_<_, _≤_};
 ghost use Rattle.plan.specs.Refusals.{instructionOk};
 ghost use Rattle.plan_rules.specs.Slots.{sameTest, scanned, scanNext};
 use plan::ADD;
@@ -35,13 +35,11 @@ pub fn instruction_ok(tasks: u8, x: Instruction) -> bool
 }
 
 impl Scan {
-    // One slot more: instruction place + 1 of a program of `count`, or an unused slot.
+    // One instruction more: place + 1 of a program of `count`.
     pub fn next(self, tasks: u8, count: usize, place: usize, x: Instruction) -> Scan
+        requires { ⌜ place < count ⌝ }
         ensures { λ r. ⌜ r ≡ scanNext self tasks count place x ⌝ }
     {
-        if count <= place {
-            return self;
-        }
         let fits = instruction_ok(tasks, x);
         let last = place == count - 1;
         let finish = x.opcode == FINISH;
@@ -76,12 +74,17 @@ pub fn scan_slots<'a>(
     while s < end {
         let k = s / 64;
         let count = base::wide8(lengths[k]);
-        let x = Instruction {
-            opcode: opcodes[s],
-            operand: operands[s],
-        };
-        seen = seen.next(tasks, count, s % 64, x);
-        s += 1;
+        if count <= s % 64 {
+            // the rest of the task's slots is unused
+            s = 64 * (k + 1);
+        } else {
+            let x = Instruction {
+                opcode: opcodes[s],
+                operand: operands[s],
+            };
+            seen = seen.next(tasks, count, s % 64, x);
+            s += 1;
+        }
     }
     seen
 }

@@ -79,15 +79,11 @@ impl Use {
     }
 }
 
-// The argument of a slot that has an instruction of the kind, up to 128, else 129: instruction
-// place + 1 of a program of `count`, or an unused slot.
-fn argument(kind: u8, count: usize, place: usize, opcode: u8, operand: u16) -> usize
-    ensures { λ r. ⌜ r ≡ argumentIn kind count place opcode operand ⌝ }
+// The argument of an instruction of the kind, up to 128, else 129.
+fn argument(kind: u8, opcode: u8, operand: u16) -> usize
+    ensures { λ r. ⌜ r ≡ argumentIn kind opcode operand ⌝ }
 {
     let a = base::wide16(operand);
-    if count <= place {
-        return 129;
-    }
     if opcode != kind {
         return 129;
     }
@@ -118,14 +114,18 @@ fn uses<'a>(
     let mut s: usize = 0;
     while s < end {
         let k = s / 64;
-        let count = base::wide8(lengths[k]);
-        let a = argument(kind, count, s % 64, opcodes[s], operands[s]);
-        if a < 129 {
-            let t = TaskId(k as u8 + 1);
-            let u = found[a];
-            found[a] = u.next(t);
+        if base::wide8(lengths[k]) <= s % 64 {
+            // the rest of the task's slots is unused
+            s = 64 * (k + 1);
+        } else {
+            let a = argument(kind, opcodes[s], operands[s]);
+            if a < 129 {
+                let t = TaskId(k as u8 + 1);
+                let u = found[a];
+                found[a] = u.next(t);
+            }
+            s += 1;
         }
-        s += 1;
     }
     found
 }

@@ -1,6 +1,6 @@
 -- What the parts of writing put where.
 use mathlib.Core.Path.{_≡_}
-use mathlib.Core.List.{List, [], _∷_, _++_}
+use mathlib.Core.List.{List, [], _++_}
 use Prim.Native.Nat.{ℕ, _+_, _/_, _%_}
 use lib.ListN.{length, getD, take, drop}
 use lib.Dec.{ltb}
@@ -8,7 +8,7 @@ use Rattle.base.specs.Choice.{pick}
 use Rattle.base.specs.Range.{joined, sumBelow}
 use Rattle.plan.specs.declared.WriteAnswer.{WriteAnswer}
 use Rattle.plan.specs.Programs.{Programs}
-use Rattle.plan.specs.Layout.{bytes16, offsetDue}
+use Rattle.plan.specs.Layout.{bytes16, offsetDue, instructionBytes}
 use Rattle.plan.specs.Outcomes.{writeAnswer, writeOutput}
 
 -- the bytes xs put at a place
@@ -26,13 +26,13 @@ entryBytes lengths n k = bytes16 (offsetDue n (λ j. getD lengths j 0) k) ++ byt
 abbrev pub entriesBytes : List ℕ → ℕ → List ℕ
 entriesBytes lengths n = joined n (entryBytes lengths n)
 
--- the bytes of a slot, none for an unused one: instruction place + 1 of a program of `count`
-abbrev pub slotBytes : ℕ → ℕ → ℕ → ℕ → List ℕ
-slotBytes count place opcode operand = pick (ltb place count) (opcode ∷ 0 ∷ bytes16 operand) []
+-- the bytes of an instruction
+abbrev pub bytesOf : ℕ → ℕ → List ℕ
+bytesOf opcode operand = instructionBytes (record { opcode = opcode; operand = operand })
 
--- the bytes of slot j, and of the first s slots
+-- the bytes of slot j, none for an unused one, and of the first s slots
 abbrev pub slotAt : List ℕ → List ℕ → List ℕ → ℕ → List ℕ
-slotAt lengths opcodes operands j = slotBytes (getD lengths (j / 64) 0) (j % 64) (getD opcodes j 0) (getD operands j 0)
+slotAt lengths opcodes operands j = pick (ltb (j % 64) (getD lengths (j / 64) 0)) (bytesOf (getD opcodes j 0) (getD operands j 0)) []
 
 abbrev pub slotsBytes : List ℕ → List ℕ → List ℕ → ℕ → List ℕ
 slotsBytes lengths opcodes operands s = joined s (slotAt lengths opcodes operands)

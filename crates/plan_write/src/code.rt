@@ -2,28 +2,17 @@
 ghost use mathlib.Core.Path.{_≡_};
 ghost use Prim.Native.Nat.{_+_, _*_, _≤_};
 ghost use lib.ListN.{length};
-ghost use Rattle.plan_write.specs.Output.{overlay, slotBytes, slotsBytes, Put};
+ghost use Rattle.plan_write.specs.Output.{overlay, bytesOf, slotsBytes};
 use super::bytes::put_word;
 
-// The bytes of a slot put at a place of the output, none for an unused one; the place behind them.
-fn put_slot(
-    out: &mut [u8],
-    at: usize,
-    count: usize,
-    place: usize,
-    opcode: u8,
-    operand: u16,
-) -> usize
-    requires { ⌜ at + length (slotBytes count place opcode operand) ≤ length (now out) ⌝ }
-    ensures { λ r. ⌜ Put (now (out .entry)) at (slotBytes count place opcode operand) r (now (out .exit)) ⌝ }
+// The bytes of an instruction put at a place of the output.
+fn put_instruction(out: &mut [u8], at: usize, opcode: u8, operand: u16)
+    requires { ⌜ at + 4 ≤ length (now out) ⌝ }
+    ensures { λ _. ⌜ now (out .exit) ≡ overlay (now (out .entry)) at (bytesOf opcode operand) ⌝ }
 {
-    if count <= place {
-        return at;
-    }
     out[at] = opcode;
     out[at + 1] = 0;
     put_word(out, at + 2, operand);
-    at + 4
 }
 
 // The instructions of all tasks, put at a place of the output.
@@ -48,10 +37,15 @@ pub fn write_code<'a>(
     let mut s: usize = 0;
     while s < end {
         let k = s / 64;
-        let count = base::wide8(lengths[k]);
-        let opcode = opcodes[s];
-        let operand = operands[s];
-        at = put_slot(out, at, count, s % 64, opcode, operand);
-        s += 1;
+        if base::wide8(lengths[k]) <= s % 64 {
+            // the rest of the task's slots is unused
+            s = 64 * (k + 1);
+        } else {
+            let opcode = opcodes[s];
+            let operand = operands[s];
+            put_instruction(out, at, opcode, operand);
+            at += 4;
+            s += 1;
+        }
     }
 }

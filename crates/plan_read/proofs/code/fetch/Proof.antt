@@ -1,17 +1,7 @@
--- `code::fetch` is the instruction of a slot, nothing for an unused one.
-use native.Mathlib.Omega.{arith}
+-- `code::fetch` is the instruction of a used slot.
 use borrow.Author.Needs.{needs}
-use borrow.Author.Tests.{lt-ltb, le-ltb}
 use Rattle.plan_read.proofs.code.fetch.Statement.{statement}
 use Rattle.plan_read.proofs.code.fetch.Tie as tie
-
-wide8-requires : tie.Need-wide8-requires
-wide8-requires c κs = search needs
-
-returns : tie.Need-returns
-returns c =
-    let a = c .before .before .before .args in
-    simp (le-ltb (a .place) (a .count) (omega arith))
 
 mul-word-at : tie.Need-mul-word-at
 mul-word-at c = search needs
@@ -46,26 +36,21 @@ add-word-at-2 c = search needs
 word-at-requires-2 : tie.Need-word-at-requires-2
 word-at-requires-2 c κs = search needs
 
-returns-2 : tie.Need-returns-2
-returns-2 c =
+returns : tie.Need-returns
+returns c =
     let w = c .before .before .before in
-    let v = w .before in
-    let a = v .before .before .before .before .args in
     simp (
-      lt-ltb (a .place) (a .count) (omega arith),
       c .before .byte-at2 .ensures,
       c .word-at2 .ensures,
       c .before .before .byte-at .ensures,
       w .wide16 .ensures,
-      v .word-at .ensures,
+      w .before .word-at .ensures,
     )
 
 pub fetch-spec : {M : Type 1} → statement M
 fetch-spec =
     tie.close
     (tie.spec
-    wide8-requires
-    returns
     mul-word-at
     add-word-at
     word-at-requires
@@ -77,4 +62,4 @@ fetch-spec =
     byte-at-requires-2
     add-word-at-2
     word-at-requires-2
-    returns-2)
+    returns)

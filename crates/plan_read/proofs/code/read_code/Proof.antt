@@ -1,10 +1,11 @@
 -- `code::read_code` is the plan of a file. The loop's invariant: the first s slots are read, and nothing stands behind them.
-use Prim.Native.Nat.{_≤_, _<_, _*_, _-_}
-use mathlib.Core.Path.{_≡_, refl}
+use Prim.Native.Nat.{_≤_, _<_, _/_, _%_, _*_, _-_}
+use mathlib.Core.Path.{_≡_, refl, _∙_}
 use native.Mathlib.Omega.{arith}
 use borrow.Author.Needs.{needs}
+use lib.ListN.{getD}
 use Rattle.plan_read.specs.Code.{opcodesTo, operandsTo, zerosTo}
-use Rattle.plan_read.proofs.Slots.{no-opcodes, no-operands, no-zeros, next-opcodes, next-operands, next-zeros}
+use Rattle.plan_read.proofs.Slots.{no-opcodes, no-operands, no-zeros, next-opcodes, next-operands, next-zeros, skip-opcodes, skip-operands, skip-zeros}
 use Rattle.plan_read.proofs.code.read_code.Statement.{statement}
 use Rattle.plan_read.proofs.code.read_code.Tie as tie
 
@@ -31,11 +32,37 @@ loop-holds c =
     let b = a .file .now in
     (search needs, omega arith, no-opcodes b (a .t3), no-operands b (a .t3), no-zeros b (a .t3))
 
-array-read-fetch : tie.Need-array-read-fetch Inv-loop μ-loop
-array-read-fetch c = omega arith
+array-read-wide8 : tie.Need-array-read-wide8 Inv-loop μ-loop
+array-read-wide8 c = omega arith
+
+wide8-requires-2 : tie.Need-wide8-requires-2 Inv-loop μ-loop
+wide8-requires-2 c κs = search needs
+
+add-s : tie.Need-add-s Inv-loop μ-loop
+add-s c = omega arith
+
+mul-s : tie.Need-mul-s Inv-loop μ-loop
+mul-s c = omega arith
+
+loop-less : tie.Need-loop-less Inv-loop μ-loop
+loop-less c = omega arith
+
+loop-again : tie.Need-loop-again Inv-loop μ-loop
+loop-again c =
+    let l = c .before .before .before in
+    let a = l .before .before .before .args in
+    let b = a .file .now in
+    let s = l .loop .s in
+    let u : getD (a .t3) (s / 64) 0 ≤ s % 64 = omega arith in (
+      omega arith,
+      omega arith,
+      l .loop .inv .2 ∙ skip-opcodes b (a .t3) s u,
+      l .loop .inv .3 ∙ skip-operands b (a .t3) s u,
+      l .loop .inv .4 ∙ skip-zeros b (a .t3) s u,
+    )
 
 fetch-requires : tie.Need-fetch-requires Inv-loop μ-loop
-fetch-requires c κs = search needs
+fetch-requires c κs = (omega arith, omega arith)
 
 array-write-opcodes : tie.Need-array-write-opcodes Inv-loop μ-loop
 array-write-opcodes c = omega arith
@@ -49,26 +76,27 @@ array-write-operands c = omega arith
 both-requires : tie.Need-both-requires Inv-loop μ-loop
 both-requires c κs = search needs
 
-add-s : tie.Need-add-s Inv-loop μ-loop
-add-s c = omega arith
+add-s-2 : tie.Need-add-s-2 Inv-loop μ-loop
+add-s-2 c = omega arith
 
-loop-less : tie.Need-loop-less Inv-loop μ-loop
-loop-less c = omega arith
+loop-less-2 : tie.Need-loop-less-2 Inv-loop μ-loop
+loop-less-2 c = omega arith
 
-loop-again : tie.Need-loop-again Inv-loop μ-loop
-loop-again c =
-    let l = c .before .before .before in
+loop-again-2 : tie.Need-loop-again-2 Inv-loop μ-loop
+loop-again-2 c =
+    let l = c .before .before .before .before .before in
     let a = l .before .before .before .args in
     let b = a .file .now in
     let s = l .loop .s in
+    let u : s % 64 < getD (a .t3) (s / 64) 0 = omega arith in
     let x = c .before .fetch .result in
     let h = c .before .fetch .ensures in
     let r : s < 4096 = omega arith in (
       omega arith,
       omega arith,
-      next-opcodes b (a .t3) s x h (l .loop .opcodes) r (l .loop .inv .2),
-      next-operands b (a .t3) s x h (l .loop .operands) r (l .loop .inv .3),
-      next-zeros b (a .t3) s x h (l .loop .zeros) (c .both .result) (l .loop .inv .4) (c .both .ensures),
+      next-opcodes b (a .t3) s u x h (l .loop .opcodes) r (l .loop .inv .2),
+      next-operands b (a .t3) s u x h (l .loop .operands) r (l .loop .inv .3),
+      next-zeros b (a .t3) s u x h (l .loop .zeros) (c .both .result) (l .loop .inv .4) (c .both .ensures),
     )
 
 returns : tie.Need-returns Inv-loop μ-loop
@@ -86,13 +114,18 @@ read-code-spec =
     wide8-requires
     mul-end
     loop-holds
-    array-read-fetch
+    array-read-wide8
+    wide8-requires-2
+    add-s
+    mul-s
+    loop-less
+    loop-again
     fetch-requires
     array-write-opcodes
     mul-operands
     array-write-operands
     both-requires
-    add-s
-    loop-less
-    loop-again
+    add-s-2
+    loop-less-2
+    loop-again-2
     returns)

@@ -4,12 +4,13 @@ use mathlib.Core.Path.{_≡_, refl, ap, _∙_}
 use mathlib.Core.Logic.{⊎-elim}
 use native.Mathlib.Omega.{arith}
 use borrow.Author.Needs.{needs}
+use borrow.Author.Tests.{lt-ltb}
+use lib.ListN.{set}
 use Rattle.base.specs.Range.{fold}
 use Rattle.base.specs.Rows.{table, tableBefore}
-use lib.ListN.{set}
 use Rattle.plan_rules.specs.declared.users.Use.{Use}
 use Rattle.plan_rules.specs.Uses.{usesTo}
-use Rattle.plan_rules.proofs.Using.{uses-skip, uses-take}
+use Rattle.plan_rules.proofs.Using.{uses-skip, uses-pass, uses-take}
 use Rattle.plan_rules.proofs.users.uses.Statement.{statement}
 use Rattle.plan_rules.proofs.users.uses.Tie as tie
 
@@ -36,6 +37,24 @@ element-copy-out-wide8 c = omega arith
 wide8-requires-2 : tie.Need-wide8-requires-2 Inv-loop μ-loop
 wide8-requires-2 c κs = search needs
 
+add-s : tie.Need-add-s Inv-loop μ-loop
+add-s c = omega arith
+
+mul-s : tie.Need-mul-s Inv-loop μ-loop
+mul-s c = omega arith
+
+loop-less : tie.Need-loop-less Inv-loop μ-loop
+loop-less c = omega arith
+
+loop-again : tie.Need-loop-again Inv-loop μ-loop
+loop-again c =
+    let l = c .before .before .before .before in
+    let g = l .before .before .args in (
+      omega arith,
+      omega arith,
+      uses-skip (g .kind) (g .lengths .now) (g .opcodes .now) (g .operands .now) (l .loop .s) _ _ (l .loop .inv .2) (c .before .wide82 .ensures) (c .if1 .taken),
+    )
+
 element-copy-out-argument : tie.Need-element-copy-out-argument Inv-loop μ-loop
 element-copy-out-argument c = omega arith
 
@@ -48,11 +67,11 @@ element-copy-out-argument-2 c = omega arith
 argument-requires : tie.Need-argument-requires Inv-loop μ-loop
 argument-requires c κs = search needs
 
-cast-t28 : tie.Need-cast-t28 Inv-loop μ-loop
-cast-t28 c = omega arith
+cast-t31 : tie.Need-cast-t31 Inv-loop μ-loop
+cast-t31 c = omega arith
 
-add-t29 : tie.Need-add-t29 Inv-loop μ-loop
-add-t29 c = omega arith
+add-t32 : tie.Need-add-t32 Inv-loop μ-loop
+add-t32 c = omega arith
 
 mul-u : tie.Need-mul-u Inv-loop μ-loop
 mul-u c = omega arith
@@ -69,27 +88,28 @@ mul-found c = omega arith
 array-set-from-found : tie.Need-array-set-from-found Inv-loop μ-loop
 array-set-from-found c = omega arith
 
-add-s : tie.Need-add-s Inv-loop μ-loop
-add-s c = omega arith
+add-s-2 : tie.Need-add-s-2 Inv-loop μ-loop
+add-s-2 c = omega arith
 
-loop-less : tie.Need-loop-less Inv-loop μ-loop
-loop-less c = omega arith
+loop-less-2 : tie.Need-loop-less-2 Inv-loop μ-loop
+loop-less-2 c = omega arith
 
-loop-again : tie.Need-loop-again Inv-loop μ-loop
-loop-again c =
-    let l = c .before .before .before .before .before .before .before in
+loop-again-2 : tie.Need-loop-again-2 Inv-loop μ-loop
+loop-again-2 c =
+    let e = c .before .before .before .before in
+    let l = e .before .before .before .before in
     let g = l .before .before .args in
     let a = c .before .argument .result in
-    let e = rw (c .before .before .before .before .wide82 .ensures) at (c .before .argument .ensures) in (
+    let used = lt-ltb _ _ (rw (e .before .wide82 .ensures) at (e .if1 .left)) in (
       omega arith,
       omega arith,
       ⊎-elim
           (λ w.
           w .3
           ∙ ap (λ (u : Use). set (l .loop .found) a u) (w .2 .ensures)
-          ∙ uses-take (g .kind) (g .lengths .now) (g .opcodes .now) (g .operands .now) (l .loop .s) a (l .loop .found) (l .loop .inv .2) e (w .0 .taken))
-          (λ w. w .1 ∙ uses-skip (g .kind) (g .lengths .now) (g .opcodes .now) (g .operands .now) (l .loop .s) a (l .loop .found) (l .loop .inv .2) e (w .0 .left))
-          (c .if1 .came),
+          ∙ uses-take (g .kind) (g .lengths .now) (g .opcodes .now) (g .operands .now) (l .loop .s) used a (l .loop .found) (l .loop .inv .2) (c .before .argument .ensures) (w .0 .taken))
+          (λ w. w .1 ∙ uses-pass (g .kind) (g .lengths .now) (g .opcodes .now) (g .operands .now) (l .loop .s) used a (l .loop .found) (l .loop .inv .2) (c .before .argument .ensures) (w .0 .left))
+          (c .if2 .came),
     )
 
 returns : tie.Need-returns Inv-loop μ-loop
@@ -109,18 +129,22 @@ uses-spec =
     loop-holds
     element-copy-out-wide8
     wide8-requires-2
+    add-s
+    mul-s
+    loop-less
+    loop-again
     element-copy-out-argument
     mul-argument
     element-copy-out-argument-2
     argument-requires
-    cast-t28
-    add-t29
+    cast-t31
+    add-t32
     mul-u
     array-copy-out-u
     next-requires
     mul-found
     array-set-from-found
-    add-s
-    loop-less
-    loop-again
+    add-s-2
+    loop-less-2
+    loop-again-2
     returns)

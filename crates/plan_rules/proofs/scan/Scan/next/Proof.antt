@@ -1,11 +1,7 @@
--- `Scan::next` takes one slot into account.
-use borrow.Author.Tests.{lt-ltb, le-ltb}
+-- `Scan::next` takes one instruction into account.
 use borrow.Author.Needs.{needs}
 use Rattle.plan_rules.proofs.scan.Scan.next.Statement.{statement}
 use Rattle.plan_rules.proofs.scan.Scan.next.Tie as tie
-
-returns : tie.Need-returns
-returns c = simp (le-ltb _ _ (c .if1 .taken))
 
 instruction-ok-requires : tie.Need-instruction-ok-requires
 instruction-ok-requires c κs = search needs
@@ -22,24 +18,11 @@ same-requires c κs = search needs
 both-requires-2 : tie.Need-both-requires-2
 both-requires-2 c κs = search needs
 
-returns-2 : tie.Need-returns-2
-returns-2 c =
-    simp (
-      lt-ltb _ _ (c .before .before .before .before .before .if1 .left),
-      c .both2 .ensures,
-      c .before .same .ensures,
-      c .before .before .both .ensures,
-      c .before .before .before .before .instruction-ok .ensures,
-    )
+returns : tie.Need-returns
+returns c =
+    simp (c .both2 .ensures, c .before .same .ensures, c .before .before .both .ensures, c .before .before .before .before .instruction-ok .ensures)
 
 pub next-spec : {M : Type 1} → statement M
 next-spec =
     tie.close
-    (tie.spec
-    returns
-    instruction-ok-requires
-    sub-last
-    both-requires
-    same-requires
-    both-requires-2
-    returns-2)
+    (tie.spec instruction-ok-requires sub-last both-requires same-requires both-requires-2 returns)
