@@ -5,6 +5,8 @@ use Rattle.plan.specs.declared.Refusal.{Refusal}
 use Rattle.plan.specs.declared.Refusal.the-variants.{BadProcessors, BadLayout, BadInstruction, BadFinish, BadCreate, BadChannel, OutputShort}
 use Rattle.plan.specs.declared.PlanAnswer.{PlanAnswer}
 use Rattle.plan.specs.declared.PlanAnswer.the-variants.{Accepted, Refused}
+use Rattle.plan.specs.declared.WriteAnswer.{WriteAnswer}
+use Rattle.plan.specs.declared.WriteAnswer.the-variants.{Written, Unwritten}
 
 -- "Start: 1, desks ..; 2, under 4 bytes ..; 3, kind unknown ..; 4, finish ..; 5, a task 2..T not created ..; 6, a channel ..";
 -- "20, the lent output is too short"
@@ -25,3 +27,12 @@ answerNumber (Refused r) = refusalNumber r
 abbrev pub isAccepted : PlanAnswer → Bool
 isAccepted Accepted = true
 isAccepted (Refused r) = false
+
+-- of writing: the number, and how many bytes were written
+abbrev pub writeNumber : WriteAnswer → ℕ
+writeNumber (Written n) = 0
+writeNumber (Unwritten r) = refusalNumber r
+
+abbrev pub writeSize : WriteAnswer → ℕ
+writeSize (Written n) = n
+writeSize (Unwritten r) = 0

@@ -8,3 +8,4 @@ pub mod Layout
 pub mod Files
 pub mod Outcomes
 pub mod Edges
+pub mod WriteEdges
