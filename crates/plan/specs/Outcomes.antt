@@ -1,4 +1,5 @@
 -- What reading, writing and checking a plan answer and leave behind.
+use mathlib.Core.Path.{_≡_}
 use mathlib.Core.List.{List, [], _++_}
 use Prim.Native.Nat.{ℕ}
 use lib.ListN.{length, drop}
@@ -35,6 +36,11 @@ outputAfter (Unwritten r) file out = out
 
 unfoldable pub writeOutput : Programs → List ℕ → List ℕ
 writeOutput m out = outputAfter (writeAnswer m out) (layout m) out
+
+-- a plan was written or refused so: the answer, and the output then
+pub record WritePlan (m : Programs) (before : List ℕ) (r : WriteAnswer) (after : List ℕ) : Type 0 where
+  pub answer : r ≡ writeAnswer m before
+  pub bytes : after ≡ writeOutput m before
 
 -- 0 or the refusal's number, of a number of desks and a file
 unfoldable pub startNumber : ℕ → List ℕ → ℕ

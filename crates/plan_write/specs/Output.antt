@@ -6,10 +6,7 @@ use lib.ListN.{length, getD, take, drop}
 use lib.Dec.{ltb}
 use Rattle.base.specs.Choice.{pick}
 use Rattle.base.specs.Range.{joined, sumBelow}
-use Rattle.plan.specs.declared.WriteAnswer.{WriteAnswer}
-use Rattle.plan.specs.Programs.{Programs}
 use Rattle.plan.specs.Layout.{bytes16, offsetDue, instructionBytes}
-use Rattle.plan.specs.Outcomes.{writeAnswer, writeOutput}
 
 -- the bytes xs put at a place
 unfoldable pub overlay : List ℕ → ℕ → List ℕ → List ℕ
@@ -41,8 +38,3 @@ slotsBytes lengths opcodes operands s = joined s (slotAt lengths opcodes operand
 pub record Put (before : List ℕ) (at : ℕ) (xs : List ℕ) (r : ℕ) (after : List ℕ) : Type 0 where
   pub next : r ≡ at + length xs
   pub bytes : after ≡ overlay before at xs
-
--- a plan was written, or refused, as the paper says
-pub record WritePlan (m : Programs) (before : List ℕ) (r : WriteAnswer) (after : List ℕ) : Type 0 where
-  pub answer : r ≡ writeAnswer m before
-  pub bytes : after ≡ writeOutput m before

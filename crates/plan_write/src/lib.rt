@@ -8,7 +8,7 @@ ghost use mathlib.Core.Path.{_≡_};
 ghost use Rattle.plan.specs.declared.PlanAnswer.the-variants.{Accepted};
 ghost use Rattle.plan.specs.Programs.{programs};
 ghost use Rattle.plan.specs.Refusals.{planAnswer};
-ghost use Rattle.plan_write.specs.Output.{WritePlan};
+ghost use Rattle.plan.specs.Outcomes.{WritePlan};
 use bytes::put_word;
 use code::write_code;
 use header::total_of;

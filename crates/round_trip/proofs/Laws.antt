@@ -19,10 +19,9 @@ use Rattle.plan.specs.declared.WriteAnswer.the-variants.{Written, Unwritten}
 use Rattle.plan.specs.Programs.{Programs, programs}
 use Rattle.plan.specs.Refusals.{planAnswer}
 use Rattle.plan.specs.Layout.{layout}
-use Rattle.plan.specs.Outcomes.{planRead, writeAnswerAfter, writeAnswer, writeOutput}
+use Rattle.plan.specs.Outcomes.{WritePlan, planRead, writeAnswerAfter, writeAnswer, writeOutput}
 use Rattle.plan_laws.specs.Bytes.{Bytes}
 use Rattle.plan_laws.proofs.RoundTrip.{read-answer, written, write-after-read, read-after-write, read-after-write-clear}
-use Rattle.plan_write.specs.Output.{WritePlan}
 use Rattle.round_trip.specs.Trips.{Rewritten, Reread}
 
 pub rewritten : (b before : List ℕ) (r : WriteAnswer) (after : List ℕ) (q : PlanRead) → Bytes b → q ≡ planRead b
