@@ -43,7 +43,7 @@ def full():
 
 
 def channels(n):
-    """Task 1 sends on the first n channels, by twos, tasks 2 and 3 receive on them."""
+    """Tasks 1 and 2 send on the first n channels, tasks 3 and 4 receive on them."""
     sends = [(SEND, c) for c in range(1, n + 1)]
     return [
         [(CREATE, 2), (CREATE, 3), (CREATE, 4)] + sends[:60] + [(FINISH, 0)],

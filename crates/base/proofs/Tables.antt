@@ -10,7 +10,7 @@ use native.Mathlib.Decide.{ℕ-discrete}
 use lib.ListN.{length, length-append, getD, set, length-set, List·getD-append}
 use lib.Seq.{ext-getD, getD-append-add, getD-set-same, getD-set-other}
 use Rattle.base.specs.Range.{fold, below}
-use Rattle.base.specs.Rows.{every, table, tableBefore}
+use Rattle.base.specs.Lists.{every, table, tableBefore}
 use Rattle.base.proofs.Tests.{and-true, every-append}
 
 module _ {A : Type 0} where

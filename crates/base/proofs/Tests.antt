@@ -12,7 +12,7 @@ use borrow.Author.Tests.{leb-true, le-leb}
 use lib.ListN.{length, getD}
 use Rattle.base.specs.Choice.{within}
 use Rattle.base.specs.Range.{fold, below}
-use Rattle.base.specs.Rows.{every}
+use Rattle.base.specs.Lists.{every}
 
 pub and-left : (a b : Bool) → a && b ≡ true → a ≡ true
 and-left true b h = refl

@@ -6,7 +6,7 @@ use Prim.Native.Nat.{ℕ, _<_}
 use lib.ListN.{length, getD}
 use borrow.Author.Tests.{eqb-true}
 use Rattle.base.specs.Range.{fold}
-use Rattle.base.specs.Rows.{every, any, table, tableBefore}
+use Rattle.base.specs.Lists.{every, any, table, tableBefore}
 use Rattle.base.proofs.Tests.{every-at}
 use Rattle.plan.specs.Users.{users}
 use Rattle.plan.specs.Refusals.{sizesOk, instructionOk, instructionsOk, finishOk, finishesOk, createsOk, channelsOk, structureAnswer, planAnswer}

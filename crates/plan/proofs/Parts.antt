@@ -3,7 +3,7 @@ use mathlib.Core.Path.{_≡_}
 use mathlib.Core.List.{List, []}
 use Prim.Native.Nat.{ℕ, _+_, _*_, _<_, _≤_}
 use lib.ListN.{length, getD, List·getD-eq-default}
-use Rattle.base.specs.Rows.{table}
+use Rattle.base.specs.Lists.{table}
 use Rattle.base.proofs.Tables.{length-table, getD-table}
 use Rattle.plan.specs.declared.Instruction.{Instruction}
 use Rattle.plan.specs.declared.Plan.{Plan}

@@ -6,7 +6,7 @@ use lib.ListN.{length, getD}
 use lib.Dec.{eqb, leb}
 use Rattle.base.specs.Choice.{unless, within}
 use Rattle.base.specs.Range.{below, sumBelow}
-use Rattle.base.specs.Rows.{table}
+use Rattle.base.specs.Lists.{table}
 use Rattle.plan.specs.declared.Instruction.{Instruction}
 use Rattle.plan.specs.declared.PlanAnswer.{PlanAnswer}
 use Rattle.plan.specs.declared.PlanAnswer.the-variants.{Refused}

@@ -6,7 +6,7 @@ use lib.ListN.{length}
 use lib.Dec.{eqb, leb}
 use Rattle.base.specs.Choice.{pick, unless, within}
 use Rattle.base.specs.Range.{upTo}
-use Rattle.base.specs.Rows.{every}
+use Rattle.base.specs.Lists.{every}
 use Rattle.plan.specs.declared.Instruction.{Instruction}
 use Rattle.plan.specs.declared.PlanAnswer.{PlanAnswer}
 use Rattle.plan.specs.declared.PlanAnswer.the-variants.{Accepted, Refused}

@@ -6,7 +6,7 @@ use lib.ListN.{length}
 use lib.Dec.{eqb, ltb}
 use Rattle.base.specs.Choice.{pick}
 use Rattle.base.specs.Range.{joined}
-use Rattle.base.specs.Rows.{every, any}
+use Rattle.base.specs.Lists.{every, any}
 use Rattle.plan.specs.declared.TaskId.{TaskId}
 use Rattle.plan.specs.declared.ChannelId.{ChannelId}
 use Rattle.plan.specs.Kinds.{opCreate, opSend, opReceive, isUse}

@@ -9,7 +9,7 @@ use lib.Dec.{eqb, leb}
 use borrow.Author.Tests.{leb-true, le-leb, eqb-true, eq-eqb}
 use Rattle.base.specs.Choice.{unless}
 use Rattle.base.specs.Range.{below, sumBelow}
-use Rattle.base.specs.Rows.{every, table}
+use Rattle.base.specs.Lists.{every, table}
 use Rattle.base.proofs.Tests.{and-left, and-right, and-both, within-low, within-high, within-both, below-at, below-all, every-at}
 use Rattle.base.proofs.Tables.{as-table, every-table}
 use Rattle.plan.specs.declared.Refusal.{Refusal}

@@ -7,7 +7,7 @@ use Prim.Native.Nat.{ℕ, _+_, _*_, _/_, _%_, _<_, _≤_}
 use native.Mathlib.Omega.{arith}
 use native.Mathlib.Decide.{decLt}
 use lib.ListN.{length, getD, List·getD-eq-default}
-use Rattle.base.specs.Rows.{table}
+use Rattle.base.specs.Lists.{table}
 use Rattle.base.proofs.Tables.{length-table, getD-table}
 use Rattle.plan.proofs.Parts.{tasks-of, no-program-of, count-of, instruction-of}
 use Rattle.plan.specs.declared.Instruction.{Instruction}

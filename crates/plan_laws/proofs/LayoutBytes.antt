@@ -9,7 +9,7 @@ use lib.Dec.{eqb}
 use borrow.Author.Tests.{eqb-true}
 use Rattle.base.specs.Choice.{pick, within}
 use Rattle.base.specs.Range.{fold, joined}
-use Rattle.base.specs.Rows.{every}
+use Rattle.base.specs.Lists.{every}
 use Rattle.base.proofs.Joins.{part-of-sum}
 use Rattle.base.proofs.Tests.{within-high, every-at}
 use Rattle.plan.specs.declared.Instruction.{Instruction}

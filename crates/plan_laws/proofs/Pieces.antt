@@ -7,7 +7,7 @@ use native.Mathlib.Omega.{arith}
 use lib.ListN.{length, getD, take, drop}
 use lib.Seq.{drop-cons, take-add, take-all, drop-drop}
 use Rattle.base.specs.Range.{fold, joined, sumBelow}
-use Rattle.base.specs.Rows.{table}
+use Rattle.base.specs.Lists.{table}
 use Rattle.base.proofs.Tables.{table-same, as-table}
 
 module _ {A : Type 0} where

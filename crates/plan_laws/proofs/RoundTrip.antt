@@ -1,5 +1,7 @@
 -- Reading and writing undo each other.
 -- accepted-exactly: the files that the reader accepts are exactly the layouts of accepted plans.
+-- one-file: an accepted plan has one file, and no other accepted plan has that file; same-output: two plan values with one meaning
+-- are answered alike and written as the same bytes.
 -- write-after-read: for every file that the reader accepts, writing what it returned gives the file.
 -- read-after-write: for every plan that the writer accepts, reading what it wrote gives the plan, with its unused slots zero;
 -- read-after-write-clear: gives the very plan value, where its unused slots are zero.
@@ -39,6 +41,13 @@ accepted-exactly b bytes = (
   λ h. let (l, p) = layout-read b bytes h in (filePrograms b, p, l),
   λ h. let (m, p, l) = h in rw l at (read-layout m p .0),
 )
+
+pub one-file : (m n : Programs) → planAnswer m ≡ Accepted → planAnswer n ≡ Accepted → layout m ≡ layout n → m ≡ n
+one-file m n p q e = sym (read-layout m p .1) ∙ ap filePrograms e ∙ read-layout n q .1
+
+pub same-output : (p q : Plan) (out : List ℕ) → programs p ≡ programs q
+    → (writeAnswer (programs p) out ≡ writeAnswer (programs q) out) × (writeOutput (programs p) out ≡ writeOutput (programs q) out)
+same-output p q out e = (ap (λ (m : Programs). writeAnswer m out) e, ap (λ (m : Programs). writeOutput m out) e)
 
 -- what reading returns
 pub read-answer : (b : List ℕ) → planRead b .answer ≡ fileAnswer b

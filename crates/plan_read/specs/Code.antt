@@ -6,7 +6,7 @@ use lib.ListN.{getD}
 use lib.Dec.{ltb, eqb}
 use Rattle.base.specs.Choice.{pick}
 use Rattle.base.specs.Range.{below}
-use Rattle.base.specs.Rows.{table}
+use Rattle.base.specs.Lists.{table}
 use Rattle.plan.specs.declared.Instruction.{Instruction}
 use Rattle.plan.specs.declared.Refusal.{Refusal}
 use Rattle.plan.specs.declared.PlanAnswer.the-variants.{Refused}

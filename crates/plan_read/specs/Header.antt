@@ -6,7 +6,7 @@ use lib.ListN.{replicate}
 use lib.Dec.{ltb, eqb}
 use Rattle.base.specs.Choice.{pick}
 use Rattle.base.specs.Range.{below}
-use Rattle.base.specs.Rows.{table}
+use Rattle.base.specs.Lists.{table}
 use Rattle.plan.specs.Layout.{offsetDue}
 use Rattle.plan.specs.Refusals.{sizeOk}
 use Rattle.plan.specs.Files.{fileTasks, fileCount, fileOffset, layoutOk}

@@ -10,7 +10,7 @@ use lib.Dec.{leb}
 use borrow.Author.Tests.{ne-eqb, eq-eqb}
 use Rattle.base.specs.Choice.{pick, unless}
 use Rattle.base.specs.Range.{below, joined}
-use Rattle.base.specs.Rows.{every, table}
+use Rattle.base.specs.Lists.{every, table}
 use Rattle.base.proofs.Tests.{and-left, and-right, and-true, within-low, within-high, below-at}
 use Rattle.base.proofs.Folds.{fold-same, fold-more}
 use Rattle.base.proofs.Slots.{below-slots, joined-slots}

@@ -5,7 +5,7 @@ use mathlib.Core.List.{List, [], _∷_}
 use Prim.Native.Nat.{ℕ}
 use lib.Dec.{eqb, leb}
 use borrow.Author.Tests.{eqb-true}
-use Rattle.base.specs.Rows.{every, any}
+use Rattle.base.specs.Lists.{every, any}
 use Rattle.base.proofs.Tests.{and-left, and-right}
 use Rattle.plan.specs.Users.{oneTask, share, onlyLower}
 use Rattle.plan_rules.specs.Uses.{useOf, createFits, endsFit}

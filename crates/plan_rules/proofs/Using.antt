@@ -10,7 +10,7 @@ use lib.Dec.{eqb, ltb, leb}
 use borrow.Author.Tests.{ne-eqb, eq-eqb, leb-false}
 use Rattle.base.specs.Choice.{pick}
 use Rattle.base.specs.Range.{joined}
-use Rattle.base.specs.Rows.{every, table}
+use Rattle.base.specs.Lists.{every, table}
 use Rattle.base.proofs.Tests.{every-append}
 use Rattle.base.proofs.Folds.{fold-more}
 use Rattle.base.proofs.Slots.{nextRow, joined-skip}

@@ -6,7 +6,7 @@ use lib.ListN.{getD}
 use lib.Dec.{eqb, ltb, leb}
 use Rattle.base.specs.Choice.{pick}
 use Rattle.base.specs.Range.{below, joined}
-use Rattle.base.specs.Rows.{every, table}
+use Rattle.base.specs.Lists.{every, table}
 use Rattle.plan.specs.declared.TaskId.{TaskId}
 use Rattle.plan.specs.Kinds.{opCreate, opSend, opReceive, isUse}
 use Rattle.plan_rules.specs.declared.users.Use.{Use}

@@ -6,7 +6,7 @@ use native.Mathlib.Omega.{arith}
 use lib.ListN.{length, getD, length-append}
 use borrow.Author.Tests.{le-leb, lt-leb}
 use Rattle.base.specs.Range.{joined, sumBelow}
-use Rattle.base.specs.Rows.{table}
+use Rattle.base.specs.Lists.{table}
 use Rattle.base.proofs.Folds.{fold-same}
 use Rattle.base.proofs.Joins.{length-joined}
 use Rattle.base.proofs.Slots.{joined-slots}

@@ -7,7 +7,7 @@ use borrow.Author.Needs.{needs}
 use borrow.Author.Tests.{lt-ltb}
 use lib.ListN.{set}
 use Rattle.base.specs.Range.{fold}
-use Rattle.base.specs.Rows.{table, tableBefore}
+use Rattle.base.specs.Lists.{table, tableBefore}
 use Rattle.plan_rules.specs.declared.users.Use.{Use}
 use Rattle.plan_rules.specs.Uses.{usesTo}
 use Rattle.plan_rules.proofs.Using.{uses-skip, uses-pass, uses-take}
