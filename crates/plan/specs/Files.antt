@@ -37,18 +37,22 @@ fileOffset b k = word16 b (4 + 4 * k)
 abbrev pub fileCount : List ℕ → ℕ → ℕ
 fileCount b k = word16 b (6 + 4 * k)
 
--- the header entry of task k + 1: its count is in range and its offset is where the tasks before it end
-abbrev pub entryOk : List ℕ → ℕ → Bool
-entryOk b k = sizeOk (fileCount b k) && eqb (fileOffset b k) (offsetDue (fileTasks b) (fileCount b) k)
+-- the count of task k + 1 is in range; its offset is where the tasks before it end
+abbrev pub countOk : List ℕ → ℕ → Bool
+countOk b k = sizeOk (fileCount b k)
+
+abbrev pub offsetOk : List ℕ → ℕ → Bool
+offsetOk b k = eqb (fileOffset b k) (offsetDue (fileTasks b) (fileCount b) k)
 
 -- "2, under 4 bytes, T or a count out of range, N not the counts' sum, a wrong offset or length"
 unfoldable pub layoutOk : List ℕ → Bool
 layoutOk b =
     leb 4 (length b)
     && (sizeOk (fileTasks b)
-    && (below (fileTasks b) (entryOk b)
+    && (below (fileTasks b) (countOk b)
     && (eqb (fileTotal b) (sumBelow (fileTasks b) (fileCount b))
-    && eqb (length b) (4 + 4 * fileTasks b + 4 * fileTotal b))))
+    && (below (fileTasks b) (offsetOk b)
+    && eqb (length b) (4 + 4 * fileTasks b + 4 * fileTotal b)))))
 
 -- "instructions of 4 bytes: kind, a zero byte, a 16-bit argument": the instruction at a place
 abbrev pub fileInstruction : List ℕ → ℕ → Instruction

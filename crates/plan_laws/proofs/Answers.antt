@@ -19,7 +19,7 @@ use Rattle.plan.specs.declared.PlanAnswer.the-variants.{Accepted, Refused}
 use Rattle.plan.specs.Programs.{Program, Programs, programAt}
 use Rattle.plan.specs.Layout.{offsetDue, countOf}
 use Rattle.plan.specs.Refusals.{sizeOk, sizesOk, instructionsOk, structureAnswer, planAnswer}
-use Rattle.plan.specs.Files.{fileTasks, fileTotal, fileOffset, fileCount, entryOk, layoutOk, secondBytesOk, filePrograms, fileAnswer}
+use Rattle.plan.specs.Files.{fileTasks, fileTotal, fileOffset, fileCount, countOk, offsetOk, layoutOk, secondBytesOk, filePrograms, fileAnswer}
 
 -- an answer that accepts has passed the test and what comes behind it
 pub unless-accepted : (ok : Bool) (r : Refusal) (rest : PlanAnswer) → unless ok (Refused r) rest ≡ Accepted → (ok ≡ true) × (rest ≡ Accepted)
@@ -118,14 +118,14 @@ unfolding layoutOk
 laid b h =
     let (e, h₁) = and-parts (leb 4 (length b)) _ h in
     let (t, h₂) = and-parts (sizeOk (fileTasks b)) _ h₁ in
-    let (c, h₃) = and-parts (below (fileTasks b) (entryOk b)) _ h₂ in
-    let (n, z) = and-parts (eqb (fileTotal b) (sumBelow (fileTasks b) (fileCount b))) _ h₃ in
-    let entry : (k : ℕ) → k < fileTasks b → entryOk b k ≡ true = λ k l. below-at (entryOk b) (fileTasks b) k l c in
+    let (c, h₃) = and-parts (below (fileTasks b) (countOk b)) _ h₂ in
+    let (n, h₄) = and-parts (eqb (fileTotal b) (sumBelow (fileTasks b) (fileCount b))) _ h₃ in
+    let (o, z) = and-parts (below (fileTasks b) (offsetOk b)) _ h₄ in
     record {
       enough = leb-true _ _ e;
       tasks = in-range (fileTasks b) t;
-      counts = λ k l. in-range (fileCount b k) (and-left _ _ (entry k l));
-      offsets = λ k l. eqb-true _ _ (and-right (sizeOk (fileCount b k)) _ (entry k l));
+      counts = λ k l. in-range (fileCount b k) (below-at (countOk b) (fileTasks b) k l c);
+      offsets = λ k l. eqb-true _ _ (below-at (offsetOk b) (fileTasks b) k l o);
       total = eqb-true _ _ n;
       size = eqb-true _ _ z;
     }
@@ -133,10 +133,9 @@ laid b h =
 pub laid-ok : (b : List ℕ) → Laid b → layoutOk b ≡ true
 unfolding layoutOk
 laid-ok b h =
-    let entry : (k : ℕ) → k < fileTasks b → entryOk b k ≡ true =
-    λ k l. and-both (sizeOk (fileCount b k)) _ (in-range-ok (fileCount b k) (h .counts k l)) (eq-eqb _ _ (h .offsets k l)) in
     and-both (leb 4 (length b)) _ (le-leb 4 (length b) (h .enough))
     (and-both (sizeOk (fileTasks b)) _ (in-range-ok (fileTasks b) (h .tasks))
-    (and-both (below (fileTasks b) (entryOk b)) _ (below-all (entryOk b) (fileTasks b) entry)
+    (and-both (below (fileTasks b) (countOk b)) _ (below-all (countOk b) (fileTasks b) (λ k l. in-range-ok (fileCount b k) (h .counts k l)))
     (and-both (eqb (fileTotal b) (sumBelow (fileTasks b) (fileCount b))) _ (eq-eqb _ _ (h .total))
-    (eq-eqb _ _ (h .size)))))
+    (and-both (below (fileTasks b) (offsetOk b)) _ (below-all (offsetOk b) (fileTasks b) (λ k l. eq-eqb _ _ (h .offsets k l)))
+    (eq-eqb _ _ (h .size))))))

@@ -1,7 +1,7 @@
 -- `reread`: an accepted plan comes back.
-use mathlib.Core.Path.{sym}
+use native.Mathlib.Omega.{arith}
 use borrow.Author.Needs.{needs}
-use lib.Seq.{length-take-le}
+use lib.ListN.{length-take}
 use Rattle.round_trip.proofs.Laws.{within-output, reread, unread}
 use Rattle.round_trip.proofs.reread.Statement.{statement}
 use Rattle.round_trip.proofs.reread.Tie as tie
@@ -30,12 +30,12 @@ returns c = unread _ _ _ _ _ _ (c .before .before .before .before .before .befor
 slice-reshare-prefix-read-plan : tie.Need-slice-reshare-prefix-read-plan
 slice-reshare-prefix-read-plan c =
     let w = c .before .before .before .before .before .write-plan in
-    rw (w .kept .1 .0) (within-output _ _ _ _ _ (w .ensures) (c .before .answer .given .1))
+    omega (arith, w .kept .1 .0, within-output _ _ _ _ _ (w .ensures) (c .before .answer .given .1))
 
 slice-aggregate-read-plan-2 : tie.Need-slice-aggregate-read-plan-2
 slice-aggregate-read-plan-2 c =
     let w = c .before .before .before .before .before .before .write-plan in
-    sym (length-take-le _ _ (rw (w .kept .1 .0) (within-output _ _ _ _ _ (w .ensures) (c .before .before .answer .given .1))))
+    simp length-take (omega (arith, w .kept .1 .0, within-output _ _ _ _ _ (w .ensures) (c .before .before .answer .given .1)))
 
 read-plan-requires-2 : tie.Need-read-plan-requires-2
 read-plan-requires-2 c κs = search needs
