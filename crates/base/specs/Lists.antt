@@ -8,6 +8,12 @@ unfoldable pub every : {A : Type 0} → (A → Bool) → List A → Bool
 every p [] = true
 every p (x ∷ xs) = p x && every p xs
 
+-- p holds of the two elements at each place of both lists
+unfoldable pub everyPair : {A : Type 0} {B : Type 0} → (A → B → Bool) → List A → List B → Bool
+everyPair p [] ys = true
+everyPair p (x ∷ xs) [] = true
+everyPair p (x ∷ xs) (y ∷ ys) = p x y && everyPair p xs ys
+
 -- p holds of some element
 unfoldable pub any : {A : Type 0} → (A → Bool) → List A → Bool
 any p [] = false

@@ -1,6 +1,7 @@
 -- What the paper says of plans: their meaning, when they are refused, their file.
 pub mod Answers
 pub mod Kinds
+pub mod Words
 pub mod Programs
 pub mod Users
 pub mod Refusals

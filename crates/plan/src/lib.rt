@@ -1,6 +1,7 @@
 // The types of a plan: numbers, instructions, the plan value, and the answers about it.
 ghost use mathlib.Core.Path.{_≡_};
 ghost use Rattle.plan.specs.Answers.{answerNumber, refusalNumber};
+ghost use Rattle.plan.specs.Words.{setWord, addWord};
 
 // "Task, desk and channel numbers are separate given sets in document 001; a number of one never
 // serves as another. 0 means none."
@@ -20,6 +21,9 @@ pub struct Instruction {
     pub opcode: u8,
     pub operand: u16,
 }
+
+// "A word is 16 bits": what a task stores and channels pass on. Its operations are in specs/Words.
+pub struct Word(pub u16);
 
 // "Kinds: 1 create, 2 sync, 3 finish, 4 send, 5 receive, 6 set, 7 add".
 pub const CREATE: u8 = 1;
@@ -102,5 +106,22 @@ impl PlanAnswer {
             PlanAnswer::Accepted => 0,
             PlanAnswer::Refused(r) => r.number(),
         }
+    }
+}
+
+impl Word {
+    // "Set stores the task's word".
+    pub fn set(self, i: Instruction) -> Word
+        ensures { λ r. ⌜ r ≡ setWord self i ⌝ }
+    {
+        Word(i.operand)
+    }
+
+    // "add is taken modulo 65,536".
+    pub fn add(self, i: Instruction) -> Word
+        ensures { λ r. ⌜ r ≡ addWord self i ⌝ }
+    {
+        let sum = std::num::wrapping_add_u16(self.0, i.operand);
+        Word(sum)
     }
 }

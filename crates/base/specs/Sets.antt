@@ -1,0 +1,15 @@
+-- A set of numbers from 1 on, in the bits of one number: t is in it where bit t - 1 is one.
+use mathlib.Core.Bool.{Bool}
+use Prim.Native.Nat.{ℕ, _+_, _-_, _/_, _%_, _^_}
+use lib.Dec.{eqb}
+use Rattle.base.specs.Choice.{pick}
+
+unfoldable pub member : ℕ → ℕ → Bool
+member t s = eqb (s / 2 ^ (t - 1) % 2) 1
+
+-- the set with t, and without it
+unfoldable pub inserted : ℕ → ℕ → ℕ
+inserted t s = pick (member t s) s (s + 2 ^ (t - 1))
+
+unfoldable pub removed : ℕ → ℕ → ℕ
+removed t s = pick (member t s) (s - 2 ^ (t - 1)) s

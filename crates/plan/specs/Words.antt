@@ -1,0 +1,21 @@
+-- A task's word and its two operations. Nothing else looks inside a word but what the trace prints of it.
+use mathlib.Core.List.{List, [], _∷_}
+use Prim.Native.Nat.{ℕ, _+_, _%_}
+use Rattle.plan.specs.declared.Instruction.{Instruction}
+use Rattle.plan.specs.declared.Word.{Word}
+
+-- "a word (0 at birth)"
+abbrev pub zeroWord : Word
+zeroWord = record { 0 = 0 }
+
+-- "Set stores the task's word": the word w after the set instruction i
+unfoldable pub setWord : Word → Instruction → Word
+setWord w i = record { 0 = i .operand }
+
+-- "add is taken modulo 65,536": the word w after the add instruction i
+unfoldable pub addWord : Word → Instruction → Word
+addWord w i = record { 0 = (w .0 + i .operand) % 65536 }
+
+-- the numbers that stand for a word in a trace line
+abbrev pub wordNumbers : Word → List ℕ
+wordNumbers w = w .0 ∷ []

@@ -1,0 +1,84 @@
+-- How a rule is applied to the rig: what it may touch is fetched, and what it leaves is stored.
+use mathlib.Core.Bool.{Bool, _&&_}
+use Prim.Native.Nat.{ℕ, zero, suc}
+use lib.Dec.{eqb}
+use Rattle.base.specs.Choice.{pick}
+use Rattle.plan.specs.declared.TaskId.{TaskId}
+use Rattle.plan.specs.declared.ProcessorId.{ProcessorId}
+use Rattle.plan.specs.declared.ChannelId.{ChannelId}
+use Rattle.plan.specs.Users.{senderOf, receiverOf}
+use Rattle.rules.specs.declared.task.Task.{Task}
+use Rattle.rules.specs.declared.task.TaskState.the-variants.{Sending, Receiving}
+use Rattle.rules.specs.declared.channel.Cell.{Cell}
+use Rattle.rules.specs.declared.rule.Site.{Site}
+use Rattle.rules.specs.declared.rule.Outcome.{Outcome}
+use Rattle.rules.specs.declared.rule.Posting.{Posting}
+use Rattle.rules.specs.declared.rule.Posting.the-variants.{Nothing}
+use Rattle.rules.specs.declared.rule.Received.{Received}
+use Rattle.rules.specs.declared.rule.Received.the-variants.{Nothing as NoWord}
+use Rattle.rules.specs.declared.system.System.{System}
+use Rattle.rules.specs.Numbers.{channelId, sameTask}
+use Rattle.rules.specs.Tasks.{isIn}
+use Rattle.rules.specs.Networks.{joinedByAll, lettersOf}
+use Rattle.rules.specs.Systems.{withNetwork, taskAt, withTask, cellAt, withCell, lastOf, meaning}
+
+-- what a step does, before its letters join the mail
+pub record Effect : Type 0 where
+  pub system : System
+  pub posting : Posting
+  pub received : Received
+
+-- the rig is changed, and that is all
+abbrev pub changed : System → Effect
+changed r = record { system = r; posting = Nothing; received = NoWord }
+
+abbrev pub changedPosting : System → Posting → Effect
+changedPosting r p = record { system = r; posting = p; received = NoWord }
+
+-- the rig then, with the letters in its mail
+unfoldable pub completed : Effect → System
+completed e = withNetwork (e .system) (joinedByAll (e .system .network) (lettersOf (e .system .processors) (e .posting)))
+
+-- "A task sends or receives on the channel of its last executed instruction."
+unfoldable pub sendingOn : System → TaskId → ChannelId → Bool
+sendingOn r t c = isIn Sending (taskAt r t) && eqb (lastOf r t .operand) (c .0)
+
+unfoldable pub receivingOn : System → TaskId → ChannelId → Bool
+receivingOn r t c = isIn Receiving (taskAt r t) && eqb (lastOf r t .operand) (c .0)
+
+-- channel c at desk d, from task s to task u
+unfoldable pub siteAt : System → TaskId → TaskId → ChannelId → ProcessorId → Site
+siteAt r s u c d =
+    record {
+      sender = taskAt r s;
+      receiver = taskAt r u;
+      sending = sendingOn r s c;
+      receiving = receivingOn r u c;
+      cell = cellAt r d c;
+    }
+
+unfoldable pub withOutcome : System → TaskId → TaskId → ChannelId → ProcessorId → Outcome → Effect
+withOutcome r s u c d o =
+    record {
+      system = withCell (withTask (withTask r s (o .sender)) u (o .receiver)) d c (o .cell);
+      posting = o .posting;
+      received = o .received;
+    }
+
+-- a rule about one channel at one desk, applied
+abbrev pub applied : System → TaskId → TaskId → ChannelId → ProcessorId → (Site → Outcome) → Effect
+applied r s u c d rule = withOutcome r s u c d (rule (siteAt r s u c d))
+
+-- a rule for one channel, applied at desk d to each of the channels 1 .. n of which the test holds
+unfoldable pub forChannels : ℕ → (ChannelId → Bool) → (Cell → Cell) → ProcessorId → System → System
+forChannels zero test rule d r = r
+forChannels (suc n) test rule d r =
+    let q = forChannels n test rule d r in
+    pick (test (channelId (suc n))) (withCell q d (channelId (suc n)) (rule (cellAt q d (channelId (suc n))))) q
+
+-- "for each channel that the task receives on", "for each channel it sends on"
+abbrev pub forReceiving : System → TaskId → ProcessorId → (Cell → Cell) → System
+forReceiving r t d rule = forChannels 128 (λ c. sameTask (receiverOf (meaning r) c) t) rule d r
+
+abbrev pub forSending : System → TaskId → ProcessorId → (Cell → Cell) → System
+forSending r t d rule = forChannels 128 (λ c. sameTask (senderOf (meaning r) c) t) rule d r

@@ -1,0 +1,22 @@
+-- What the paper says of the rig, in its order.
+pub mod Numbers
+pub mod Answers
+pub mod Tasks
+pub mod Cells
+pub mod Networks
+pub mod Systems
+pub mod Effects
+pub mod Starts
+pub mod Local
+pub mod Send
+pub mod Receive
+pub mod Runs
+pub mod Offers
+pub mod Calls
+pub mod Arrivals
+pub mod Deliver
+pub mod Moves
+pub mod Sound
+pub mod Steps
+pub mod Trace
+pub mod StepFiles

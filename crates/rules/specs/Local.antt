@@ -1,0 +1,38 @@
+-- Run: the instructions that use no channel.
+use mathlib.Core.Bool.{not, _||_}
+use lib.Dec.{eqb}
+use Rattle.base.specs.Choice.{pick}
+use Rattle.plan.specs.declared.TaskId.{TaskId}
+use Rattle.plan.specs.declared.Instruction.{Instruction}
+use Rattle.plan.specs.Words.{setWord, addWord}
+use Rattle.rules.specs.declared.task.Task.{Task}
+use Rattle.rules.specs.declared.task.TaskState.the-variants.{Waiting, Done}
+use Rattle.rules.specs.declared.message.Message.the-variants.{Terminated}
+use Rattle.rules.specs.declared.rule.Posting.the-variants.{Nothing, Letter}
+use Rattle.rules.specs.declared.rule.Finished.{Finished}
+use Rattle.rules.specs.Numbers.{sameTask, taskId}
+use Rattle.rules.specs.Tasks.{isAt, withState, withWord, advanced, withChild, isChildless, withoutChild}
+
+-- "Create: the child becomes ready at d .. and joins the living children.": the creating task; the child's is a birth
+abbrev pub creating : Task → TaskId → Task
+creating x u = advanced (withChild x u)
+
+-- "Sync: waits if children live."
+unfoldable pub syncing : Task → Task
+syncing x = pick (isChildless x) (advanced x) (advanced (withState x Waiting))
+
+-- "Finish: done. A parent at d loses the child from its set; a parent elsewhere gets an ended letter naming the child, sent to the
+-- child's desk of birth. Task 1 has no parent.": task t, with record x, and its parent's record
+unfoldable pub finishing : TaskId → Task → Task → Finished
+finishing t x parent =
+    let done = advanced (withState x Done) in
+    pick (sameTask t (taskId 1)) (record { task = done; parent = parent; posting = Nothing })
+    (pick (isAt (x .processor) parent) (record { task = done; parent = withoutChild parent t; posting = Nothing })
+    (record { task = done; parent = parent; posting = Letter (Terminated (x .home) t) }))
+
+-- "Set stores the task's word; add is taken modulo 65,536."
+abbrev pub setting : Task → Instruction → Task
+setting x i = advanced (withWord x (setWord (x .word) i))
+
+abbrev pub adding : Task → Instruction → Task
+adding x i = advanced (withWord x (addWord (x .word) i))

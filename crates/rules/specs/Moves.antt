@@ -1,0 +1,47 @@
+-- "Move: a ready task from d to e".
+use mathlib.Core.Bool.{not}
+use Prim.Native.Nat.{ℕ, _+_}
+use lib.Dec.{eqb, ltb}
+use Rattle.base.specs.Choice.{unless, within}
+use Rattle.plan.specs.declared.TaskId.{TaskId}
+use Rattle.plan.specs.declared.ProcessorId.{ProcessorId}
+use Rattle.rules.specs.declared.task.Task.{Task}
+use Rattle.rules.specs.declared.task.TaskState.the-variants.{Ready}
+use Rattle.rules.specs.declared.channel.Cell.{Cell}
+use Rattle.rules.specs.declared.message.Message.the-variants.{Migration}
+use Rattle.rules.specs.declared.rule.Posting.the-variants.{Letter}
+use Rattle.rules.specs.declared.step.StepAnswer.{StepAnswer}
+use Rattle.rules.specs.declared.step.StepAnswer.the-variants.{Accepted, NoTask, NotReady, NetworkFull, NoProcessor, AlreadyThere, MoveWithChildren, MovesSpent}
+use Rattle.rules.specs.declared.system.System.{System}
+use Rattle.rules.specs.Tasks.{isIn, isAt, isChildless, departed}
+use Rattle.rules.specs.Cells.{withTravelling}
+use Rattle.rules.specs.Systems.{taskAt, withTask}
+use Rattle.rules.specs.Effects.{Effect, changedPosting, forReceiving, forSending}
+use Rattle.rules.specs.Starts.{located}
+use Rattle.rules.specs.Runs.{fits}
+
+-- "d's pointers for its sending channels are copied to the travelling pointers": for one channel
+abbrev pub departedSending : Cell → Cell
+departedSending x = withTravelling x (x .entry .hint)
+
+-- "Its count goes up by one; d's pointers for its receiving channels become (e, new count); carried offers stay with their channels; d's
+-- pointers for its sending channels are copied ..; one mover letter leaves."
+unfoldable pub moved : System → TaskId → ProcessorId → Effect
+moved r t e =
+    let x = taskAt r t in
+    let d = x .processor in
+    changedPosting
+    (forSending (forReceiving (withTask r t (departed x)) t d (located e (x .moves + 1))) t d departedSending)
+    (Letter (Migration e t))
+
+-- "Move: 10; 15, desk outside the rig; 11; 16, already there; 17, living children; 18, move count 9,999; 13."
+unfoldable pub moveAnswer : System → TaskId → ProcessorId → StepAnswer
+moveAnswer r t e =
+    unless (within 1 (r .plan .tasks) (t .0)) NoTask
+    (unless (within 1 (r .processors) (e .0)) NoProcessor
+    (unless (isIn Ready (taskAt r t)) NotReady
+    (unless (not (isAt e (taskAt r t))) AlreadyThere
+    (unless (isChildless (taskAt r t)) MoveWithChildren
+    (unless (not (eqb (taskAt r t .moves) 9999)) MovesSpent
+    (unless (fits r (moved r t e)) NetworkFull
+    Accepted))))))

@@ -1,0 +1,51 @@
+-- The mail.
+use mathlib.Core.List.{List, [], _∷_, _++_, map}
+use Prim.Native.Nat.{ℕ, suc, _+_, _-_}
+use lib.Dec.{eqb}
+use lib.ListN.{getD, set, take, drop}
+use Rattle.base.specs.Choice.{pick}
+use Rattle.base.specs.Range.{joined}
+use Rattle.rules.specs.declared.message.Message.{Message}
+use Rattle.rules.specs.declared.message.Message.the-variants.{Empty, Advert}
+use Rattle.rules.specs.declared.message.Slot.{Slot}
+use Rattle.rules.specs.declared.message.Network.{Network}
+use Rattle.rules.specs.declared.rule.Posting.{Posting}
+use Rattle.rules.specs.declared.rule.Posting.the-variants.{Nothing, Letter, Adverts}
+use Rattle.rules.specs.Numbers.{processorId}
+
+abbrev pub slot : Message → Slot
+slot m = record { message = m }
+
+-- what an unused slot holds
+abbrev pub noSlot : Slot
+noSlot = slot Empty
+
+-- the letters in the mail, in order
+unfoldable pub letters : Network → List Message
+letters n = map (λ s. s .message) (take (n .used) (n .slots))
+
+-- the letter at position p, from 1
+unfoldable pub letterAt : Network → ℕ → Message
+letterAt n p = getD (n .slots) (p - 1) noSlot .message
+
+-- "Letters join the mail's end"
+unfoldable pub joinedBy : Network → Message → Network
+joinedBy n m = record { slots = set (n .slots) (n .used) (slot m); used = n .used + 1 }
+
+unfoldable pub joinedByAll : Network → List Message → Network
+joinedByAll n [] = n
+joinedByAll n (m ∷ ms) = joinedByAll (joinedBy n m) ms
+
+-- "taking one closes the gap": without the letter at position p, from 1
+unfoldable pub without : Network → ℕ → Network
+without n p =
+    record {
+      slots = take (p - 1) (n .slots) ++ (drop p (take (n .used) (n .slots)) ++ (noSlot ∷ drop (n .used) (n .slots)));
+      used = n .used - 1;
+    }
+
+-- the letters that a rule posts, in a rig of n desks; "an advert to every other desk in rising order"
+unfoldable pub lettersOf : ℕ → Posting → List Message
+lettersOf n Nothing = []
+lettersOf n (Letter m) = m ∷ []
+lettersOf n (Adverts c d) = joined n (λ k. pick (eqb (suc k) (d .0)) [] (Advert c (processorId (suc k)) d ∷ []))

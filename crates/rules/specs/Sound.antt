@@ -1,0 +1,128 @@
+-- When a rig is not refused by 9: "a number in the rig outside the limits above (desks and tasks are the rig's own; 0 stands only where this
+-- paper names it), an unborn or moving task not as said above, a place 0 or past the last instruction (of a done task, more than one past), a
+-- sending or receiving task that has executed no instruction or whose last executed one is of another kind, or a plan in the rig that 2 to 6
+-- would refuse". Every table entry is looked at, every letter in use, and tasks 1 to T.
+use mathlib.Core.Bool.{Bool, true, false, not, _&&_, _||_}
+use Prim.Native.Nat.{ℕ, _+_, _^_}
+use lib.ListN.{length}
+use lib.Dec.{eqb, ltb, leb}
+use Rattle.base.specs.Choice.{pick, within}
+use Rattle.base.specs.Range.{upTo}
+use Rattle.base.specs.Lists.{every, everyPair}
+use Rattle.plan.specs.declared.TaskId.{TaskId}
+use Rattle.plan.specs.declared.ProcessorId.{ProcessorId}
+use Rattle.plan.specs.declared.ChannelId.{ChannelId}
+use Rattle.plan.specs.Answers.{isAccepted}
+use Rattle.plan.specs.Kinds.{opSend, opReceive}
+use Rattle.plan.specs.Words.{wordNumbers}
+use Rattle.plan.specs.Refusals.{planAnswer}
+use Rattle.rules.specs.declared.task.Task.{Task}
+use Rattle.rules.specs.declared.task.TaskState.the-variants.{Unborn, Sending, Receiving, Moving, Done}
+use Rattle.rules.specs.declared.channel.Hint.{Hint}
+use Rattle.rules.specs.declared.channel.Offer.{Offer}
+use Rattle.rules.specs.declared.message.Message.{Message}
+use Rattle.rules.specs.declared.message.Message.the-variants.{Empty, Offered, Advert, ReadyToReceive, Data, Terminated, Migration}
+use Rattle.rules.specs.declared.message.Network.{Network}
+use Rattle.rules.specs.declared.system.Tables.{Tables}
+use Rattle.rules.specs.declared.system.Channels.{Channels}
+use Rattle.rules.specs.declared.system.System.{System}
+use Rattle.rules.specs.Numbers.{taskId, processorId, isNone}
+use Rattle.rules.specs.Tasks.{isIn}
+use Rattle.rules.specs.Cells.{hint, isUnknown, offer}
+use Rattle.rules.specs.Networks.{letters}
+use Rattle.rules.specs.Systems.{taskAt, programOf, lastOf, meaning}
+
+-- "Desks 1 to 6", of a rig of n desks; "channels 1 to 128"; "tasks", of a rig of m tasks
+abbrev pub processorOk : ℕ → ProcessorId → Bool
+processorOk n d = within 1 n (d .0)
+
+abbrev pub channelOk : ChannelId → Bool
+channelOk c = within 1 128 (c .0)
+
+abbrev pub taskNumberOk : ℕ → TaskId → Bool
+taskNumberOk m t = within 1 m (t .0)
+
+-- "a move count is at most 9,999", "1 at birth"; "Offers are numbered 1 to 64"
+abbrev pub movesOk : ℕ → Bool
+movesOk k = within 1 9999 k
+
+abbrev pub knownOk : ℕ → Hint → Bool
+knownOk n h = processorOk n (h .processor) && movesOk (h .moves)
+
+abbrev pub madeOk : ℕ → Offer → Bool
+madeOk n o = processorOk n (o .processor) && within 1 64 (o .number)
+
+-- "both 0 is unknown"; an offer, or none
+abbrev pub hintOk : ℕ → Hint → Bool
+hintOk n h = pick (isUnknown h) (eqb (h .moves) 0) (knownOk n h)
+
+abbrev pub offerOk : ℕ → Offer → Bool
+offerOk n o = pick (isNone (o .processor)) (eqb (o .number) 0) (madeOk n o)
+
+unfoldable pub tablesOk : ℕ → Tables → Bool
+tablesOk n x =
+    everyPair (λ d k. hintOk n (hint (processorId d) k)) (x .hintprocessors) (x .hintmoves)
+    && (everyPair (λ d w. offerOk n (offer (processorId d) w)) (x .heldprocessors) (x .heldnumbers)
+    && every (λ d. leb d n) (x .notes))
+
+-- "the number called (0 to 64)"
+unfoldable pub channelsOk : ℕ → Channels → Bool
+channelsOk n x =
+    every (λ w. leb w 64) (x .granted)
+    && (everyPair (λ d w. offerOk n (offer (processorId d) w)) (x .carriedprocessors) (x .carriednumbers)
+    && everyPair (λ d k. hintOk n (hint (processorId d) k)) (x .travellingprocessors) (x .travellingmoves))
+
+-- a letter in a rig of n desks and m tasks
+unfoldable pub messageOk : ℕ → ℕ → Message → Bool
+messageOk n m Empty = false
+messageOk n m (Offered c o h) = channelOk c && (madeOk n o && knownOk n h)
+messageOk n m (Advert c d from) = channelOk c && (processorOk n d && processorOk n from)
+messageOk n m (ReadyToReceive c d h) = channelOk c && (processorOk n d && knownOk n h)
+messageOk n m (Data c d w) = channelOk c && processorOk n d
+messageOk n m (Terminated d t) = processorOk n d && taskNumberOk m t
+messageOk n m (Migration d t) = processorOk n d && taskNumberOk m t
+
+-- "256 letters in the mail"
+unfoldable pub networkOk : ℕ → ℕ → Network → Bool
+networkOk n m x = leb (x .used) 256 && every (messageOk n m) (letters x)
+
+-- "An unborn task has desk 0, place 1, word 0, count 0"; "a desk of birth (0 before it)"
+unfoldable pub unbornOk : Task → Bool
+unbornOk x = isNone (x .processor) && (eqb (x .pc) 1 && (every (eqb 0) (wordNumbers (x .word)) && (isNone (x .home) && eqb (x .moves) 0)))
+
+-- "a moving one has desk 0"
+abbrev pub whereOk : ℕ → Task → Bool
+whereOk n x = pick (isIn Moving x) (isNone (x .processor)) (processorOk n (x .processor))
+
+-- "a place 0 or past the last instruction (of a done task, more than one past)", of a program of `size` instructions
+abbrev pub placeOk : ℕ → Task → Bool
+placeOk size x = within 1 (pick (isIn Done x) (size + 1) size) (x .pc)
+
+-- "a sending or receiving task that has executed no instruction or whose last executed one is of another kind"
+abbrev pub lastOk : System → TaskId → Task → Bool
+lastOk r t x =
+    (not (isIn Sending x) || (ltb 1 (x .pc) && eqb (lastOf r t .opcode) opSend))
+    && (not (isIn Receiving x) || (ltb 1 (x .pc) && eqb (lastOf r t .opcode) opReceive))
+
+unfoldable pub bornOk : System → TaskId → Task → Bool
+bornOk r t x =
+    processorOk (r .processors) (x .home)
+    && (movesOk (x .moves)
+    && (whereOk (r .processors) x
+    && (placeOk (length (programOf r t)) x
+    && lastOk r t x)))
+
+-- task t; its living children are tasks of the rig
+unfoldable pub taskOk : System → TaskId → Bool
+taskOk r t =
+    let x = taskAt r t in
+    ltb (x .children) (2 ^ (r .plan .tasks)) && pick (isIn Unborn x) (unbornOk x) (bornOk r t x)
+
+unfoldable pub systemOk : System → Bool
+systemOk r =
+    within 1 6 (r .processors)
+    && (isAccepted (planAnswer (meaning r))
+    && (upTo (r .plan .tasks) (λ t. taskOk r (taskId t))
+    && (tablesOk (r .processors) (r .tables)
+    && (channelsOk (r .processors) (r .channels)
+    && networkOk (r .processors) (r .plan .tasks) (r .network)))))

@@ -1,0 +1,54 @@
+-- "Rig at the start".
+use mathlib.Core.Bool.{false}
+use Prim.Native.Nat.{ℕ}
+use lib.ListN.{replicate}
+use Rattle.plan.specs.declared.Plan.{Plan}
+use Rattle.plan.specs.declared.TaskId.{TaskId}
+use Rattle.plan.specs.declared.ProcessorId.{ProcessorId}
+use Rattle.rules.specs.declared.channel.Cell.{Cell}
+use Rattle.rules.specs.declared.system.System.{System}
+use Rattle.rules.specs.Numbers.{taskId, processorId}
+use Rattle.rules.specs.Tasks.{unborn, born}
+use Rattle.rules.specs.Cells.{hint, withHint}
+use Rattle.rules.specs.Networks.{noSlot}
+use Rattle.rules.specs.Systems.{withTask}
+use Rattle.rules.specs.Effects.{forReceiving}
+
+-- "Birth and arrival at d set d's pointer to (d, move count) for each channel that the task receives on.": for one channel
+abbrev pub located : ProcessorId → ℕ → Cell → Cell
+located d n x = withHint x (hint d n)
+
+-- the birth of task t at d
+unfoldable pub birth : System → TaskId → ProcessorId → System
+birth r t d = forReceiving (withTask r t (born d)) t d (located d 1)
+
+-- "the rest are unborn"; "768 entries each, none at the start"; "one carried offer and one travelling pointer, none at the start"
+unfoldable pub blank : ℕ → Plan → System
+blank n p =
+    record {
+      processors = n;
+      plan = p;
+      tasks = replicate 64 unborn;
+      tables =
+        record {
+          hintprocessors = replicate 768 0;
+          hintmoves = replicate 768 0;
+          heldprocessors = replicate 768 0;
+          heldnumbers = replicate 768 0;
+          notes = replicate 768 0;
+        };
+      channels =
+        record {
+          granted = replicate 128 0;
+          awaiting = replicate 128 false;
+          carriedprocessors = replicate 128 0;
+          carriednumbers = replicate 128 0;
+          travellingprocessors = replicate 128 0;
+          travellingmoves = replicate 128 0;
+        };
+      network = record { slots = replicate 256 noSlot; used = 0 };
+    }
+
+-- "Task 1 is ready at desk 1"; "its start is a birth at desk 1"
+unfoldable pub started : ℕ → Plan → System
+started n p = birth (blank n p) (taskId 1) (processorId 1)

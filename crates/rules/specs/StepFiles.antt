@@ -1,0 +1,84 @@
+-- A run over a step file: what is answered, and what the lent output holds then.
+use mathlib.Core.Bool.{Bool, _&&_}
+use mathlib.Core.List.{List, [], _∷_, _++_}
+use Prim.Native.Nat.{ℕ, _+_, _-_, _*_, _/_, _%_}
+use lib.ListN.{length, drop}
+use lib.Dec.{eqb, leb}
+use Rattle.base.specs.Choice.{pick, unless}
+use Rattle.base.specs.Lists.{table}
+use Rattle.plan.specs.declared.Plan.{Plan}
+use Rattle.plan.specs.declared.PlanAnswer.{PlanAnswer}
+use Rattle.plan.specs.declared.PlanAnswer.the-variants.{Accepted, Refused}
+use Rattle.plan.specs.Programs.{canonical}
+use Rattle.plan.specs.Files.{byteAt, word16, filePrograms, startAnswer}
+use Rattle.rules.specs.declared.step.Step.{Step}
+use Rattle.rules.specs.declared.step.RunAnswer.{RunAnswer}
+use Rattle.rules.specs.declared.step.RunAnswer.the-variants.{Traced, Unstarted, BadSteps, OutputShort}
+use Rattle.rules.specs.declared.system.System.{System}
+use Rattle.rules.specs.Answers.{runNumber}
+use Rattle.rules.specs.Starts.{started}
+use Rattle.rules.specs.Steps.{History, steps}
+use Rattle.rules.specs.Trace.{stepLines, endLine, refusedLine}
+
+-- "A step is 4 bytes: kind .., task, 16-bit number.": the step after the first k
+abbrev pub stepAt : List ℕ → ℕ → Step
+stepAt b k = record { kind = byteAt b (4 * k); task = byteAt b (4 * k + 1); number = word16 b (4 * k + 2) }
+
+unfoldable pub fileSteps : List ℕ → List Step
+fileSteps b = table (length b / 4) (stepAt b)
+
+-- the rig at the start of a plan file
+unfoldable pub startOf : ℕ → List ℕ → System
+startOf n p = started n (canonical (filePrograms p))
+
+-- "The trace has a line a step .. The last line is `end`"
+unfoldable pub traceLines : System → List Step → List (List ℕ)
+traceLines r ss =
+    let h = steps r ss in
+    stepLines 0 (h .reports) ++ (endLine (h .system) ∷ [])
+
+-- lines one after the other
+unfoldable pub text : List (List ℕ) → List ℕ
+text [] = []
+text (l ∷ ls) = l ++ text ls
+
+-- "8, length no multiple of 4 or over 2,000 steps"
+unfoldable pub stepsOk : List ℕ → Bool
+stepsOk b = eqb (length b % 4) 0 && leb (length b / 4) 2000
+
+-- "Step file: 1 to 6 as at start; 8, ..; .. 20, the lent output is too short": of lines in an output of `room` bytes
+abbrev pub answerAfter : PlanAnswer → Bool → List (List ℕ) → ℕ → RunAnswer
+answerAfter (Refused a) ok lines room = Unstarted a
+answerAfter Accepted ok lines room = unless ok BadSteps (unless (leb (length (text lines)) room) OutputShort Traced)
+
+unfoldable pub runFileAnswer : ℕ → List ℕ → List ℕ → List ℕ → RunAnswer
+runFileAnswer n p b out = answerAfter (startAnswer n p) (stepsOk b) (traceLines (startOf n p) (fileSteps b)) (length out)
+
+-- "it holds the longest beginning of whole lines that fits" in `room` bytes
+unfoldable pub fitting : ℕ → List (List ℕ) → List ℕ
+fitting room [] = []
+fitting room (l ∷ ls) = pick (leb (length l) room) (l ++ fitting (room - length l) ls) []
+
+-- what is written: "1 to 6 as at start; 8 ..; the output is untouched"; else what fits
+abbrev pub writtenAfter : RunAnswer → List (List ℕ) → ℕ → List ℕ
+writtenAfter Traced lines room = text lines
+writtenAfter (Unstarted a) lines room = []
+writtenAfter BadSteps lines room = []
+writtenAfter OutputShort lines room = fitting room lines
+
+unfoldable pub runFileText : ℕ → List ℕ → List ℕ → List ℕ → List ℕ
+runFileText n p b out = writtenAfter (runFileAnswer n p b out) (traceLines (startOf n p) (fileSteps b)) (length out)
+
+-- "Here and after acceptance, bytes behind the last line are unchanged."
+unfoldable pub runFileOutput : ℕ → List ℕ → List ℕ → List ℕ → List ℕ
+runFileOutput n p b out =
+    let t = runFileText n p b out in
+    t ++ drop (length t) out
+
+-- what the trace program prints: the trace; "For a refused file it prints only `refused` and the number."
+abbrev pub printedAfter : PlanAnswer → Bool → List (List ℕ) → List ℕ
+printedAfter (Refused a) ok lines = refusedLine (runNumber (Unstarted a))
+printedAfter Accepted ok lines = unless ok (refusedLine (runNumber BadSteps)) (text lines)
+
+unfoldable pub printed : ℕ → List ℕ → List ℕ → List ℕ
+printed n p b = printedAfter (startAnswer n p) (stepsOk b) (traceLines (startOf n p) (fileSteps b))

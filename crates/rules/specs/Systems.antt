@@ -1,0 +1,121 @@
+-- The rig read and changed: a task, a cell, the mail. Nothing above looks into an array.
+use mathlib.Core.Bool.{Bool, false, _&&_}
+use mathlib.Core.List.{List}
+use Prim.Native.Nat.{ℕ, _+_, _-_, _*_}
+use lib.Dec.{eqb, ltb}
+use lib.ListN.{getD, set}
+use Rattle.base.specs.Choice.{pick}
+use Rattle.base.specs.Range.{sumBelow}
+use Rattle.plan.specs.declared.TaskId.{TaskId}
+use Rattle.plan.specs.declared.ProcessorId.{ProcessorId}
+use Rattle.plan.specs.declared.ChannelId.{ChannelId}
+use Rattle.plan.specs.declared.Instruction.{Instruction}
+use Rattle.plan.specs.Kinds.{opSend, isUse, noInstruction}
+use Rattle.plan.specs.Programs.{Program, Programs, programAt, instructionAt, programs}
+use Rattle.rules.specs.declared.task.Task.{Task}
+use Rattle.rules.specs.declared.channel.Entry.{Entry}
+use Rattle.rules.specs.declared.channel.Channel.{Channel}
+use Rattle.rules.specs.declared.channel.Cell.{Cell}
+use Rattle.rules.specs.declared.message.Network.{Network}
+use Rattle.rules.specs.declared.system.Tables.{Tables}
+use Rattle.rules.specs.declared.system.Channels.{Channels}
+use Rattle.rules.specs.declared.system.System.{System}
+use Rattle.rules.specs.Numbers.{processorId}
+use Rattle.rules.specs.Tasks.{noTask}
+use Rattle.rules.specs.Cells.{hint, offer}
+
+-- the rig with one part changed
+abbrev pub withTasks : System → List Task → System
+withTasks r x = record { processors = r .processors; plan = r .plan; tasks = x; tables = r .tables; channels = r .channels; network = r .network }
+
+abbrev pub withTables : System → Tables → System
+withTables r x = record { processors = r .processors; plan = r .plan; tasks = r .tasks; tables = x; channels = r .channels; network = r .network }
+
+abbrev pub withChannels : System → Channels → System
+withChannels r x = record { processors = r .processors; plan = r .plan; tasks = r .tasks; tables = r .tables; channels = x; network = r .network }
+
+abbrev pub withNetwork : System → Network → System
+withNetwork r x = record { processors = r .processors; plan = r .plan; tasks = r .tasks; tables = r .tables; channels = r .channels; network = x }
+
+-- task t; "0 means none"
+unfoldable pub taskAt : System → TaskId → Task
+taskAt r t = pick (eqb (t .0) 0) noTask (getD (r .tasks) (t .0 - 1) noTask)
+
+unfoldable pub withTask : System → TaskId → Task → System
+withTask r t x = pick (eqb (t .0) 0) r (withTasks r (set (r .tasks) (t .0 - 1) x))
+
+-- "six desks by 128 channels, 768 entries each": where the entry of desk d and channel c is
+abbrev pub entryIndex : ProcessorId → ChannelId → ℕ
+entryIndex d c = 128 * (d .0 - 1) + (c .0 - 1)
+
+abbrev readEntry : Tables → ℕ → Entry
+readEntry x i =
+    record {
+      hint = hint (processorId (getD (x .hintprocessors) i 0)) (getD (x .hintmoves) i 0);
+      held = offer (processorId (getD (x .heldprocessors) i 0)) (getD (x .heldnumbers) i 0);
+      noted = processorId (getD (x .notes) i 0);
+    }
+
+abbrev writeEntry : Tables → ℕ → Entry → Tables
+writeEntry x i e =
+    record {
+      hintprocessors = set (x .hintprocessors) i (e .hint .processor .0);
+      hintmoves = set (x .hintmoves) i (e .hint .moves);
+      heldprocessors = set (x .heldprocessors) i (e .held .processor .0);
+      heldnumbers = set (x .heldnumbers) i (e .held .number);
+      notes = set (x .notes) i (e .noted .0);
+    }
+
+-- desk d's entry for channel c
+unfoldable pub entryAt : System → ProcessorId → ChannelId → Entry
+entryAt r d c = readEntry (r .tables) (entryIndex d c)
+
+abbrev readChannel : Channels → ℕ → Channel
+readChannel x i =
+    record {
+      granted = getD (x .granted) i 0;
+      awaiting = getD (x .awaiting) i false;
+      carried = offer (processorId (getD (x .carriedprocessors) i 0)) (getD (x .carriednumbers) i 0);
+      travelling = hint (processorId (getD (x .travellingprocessors) i 0)) (getD (x .travellingmoves) i 0);
+    }
+
+abbrev writeChannel : Channels → ℕ → Channel → Channels
+writeChannel x i k =
+    record {
+      granted = set (x .granted) i (k .granted);
+      awaiting = set (x .awaiting) i (k .awaiting);
+      carriedprocessors = set (x .carriedprocessors) i (k .carried .processor .0);
+      carriednumbers = set (x .carriednumbers) i (k .carried .number);
+      travellingprocessors = set (x .travellingprocessors) i (k .travelling .processor .0);
+      travellingmoves = set (x .travellingmoves) i (k .travelling .moves);
+    }
+
+-- channel c's own entry
+unfoldable pub channelAt : System → ChannelId → Channel
+channelAt r c = readChannel (r .channels) (c .0 - 1)
+
+-- both
+abbrev pub cellAt : System → ProcessorId → ChannelId → Cell
+cellAt r d c = record { entry = entryAt r d c; channel = channelAt r c }
+
+unfoldable pub withCell : System → ProcessorId → ChannelId → Cell → System
+withCell r d c x =
+    withChannels (withTables r (writeEntry (r .tables) (entryIndex d c) (x .entry))) (writeChannel (r .channels) (c .0 - 1) (x .channel))
+
+-- what the rig's plan means, and the program of task t
+abbrev pub meaning : System → Programs
+meaning r = programs (r .plan)
+
+abbrev pub programOf : System → TaskId → Program
+programOf r t = programAt (meaning r) (t .0 - 1)
+
+-- the instruction that task t runs next, and the last that it executed
+unfoldable pub nextOf : System → TaskId → Instruction
+nextOf r t = instructionAt (programOf r t) (taskAt r t .pc - 1)
+
+unfoldable pub lastOf : System → TaskId → Instruction
+lastOf r t = pick (ltb 1 (taskAt r t .pc)) (instructionAt (programOf r t) (taskAt r t .pc - 2)) noInstruction
+
+-- how many of the first n instructions of a program send on channel c
+unfoldable pub sendsOn : Program → ChannelId → ℕ → ℕ
+sendsOn g c n = sumBelow n (λ i. pick (isUse opSend (c .0) (instructionAt g i)) 1 0)

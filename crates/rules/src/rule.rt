@@ -1,0 +1,48 @@
+// What a rule takes and gives back: a rule is a function of what it may touch.
+use crate::channel::Cell;
+use crate::message::Message;
+use crate::task::Task;
+use plan::ChannelId;
+use plan::ProcessorId;
+use plan::Word;
+
+// What the rules about one channel at one desk see.
+pub struct Site {
+    // the channel's sending and receiving task; where there is none, a task that is nowhere
+    pub sender: Task,
+    pub receiver: Task,
+    // the sender is sending on this channel, the receiver is receiving on it
+    pub sending: bool,
+    pub receiving: bool,
+    pub cell: Cell,
+}
+
+// The letters that a rule posts.
+pub enum Posting {
+    Nothing,
+    Letter(Message),
+    // an advert of a channel from a desk to every other desk
+    Adverts(ChannelId, ProcessorId),
+}
+
+// The word that was received, if one was, and its channel.
+pub enum Received {
+    Nothing,
+    Word(ChannelId, Word),
+}
+
+// What such a rule leaves behind.
+pub struct Outcome {
+    pub sender: Task,
+    pub receiver: Task,
+    pub cell: Cell,
+    pub posting: Posting,
+    pub received: Received,
+}
+
+// What a finish leaves behind: the task, its parent, the letter.
+pub struct Finished {
+    pub task: Task,
+    pub parent: Task,
+    pub posting: Posting,
+}

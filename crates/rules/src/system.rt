@@ -1,0 +1,41 @@
+// The rig.
+use crate::message::Network;
+use crate::task::Task;
+use plan::Plan;
+
+// What each desk keeps for each channel: "six desks by 128 channels, 768 entries each". The entry of desk d and channel c is at
+// 128 (d - 1) + (c - 1).
+pub struct Tables {
+    // pointers: desk and count
+    pub hintprocessors: [u8; 768],
+    pub hintmoves: [u16; 768],
+    // held offers: the sender's desk and the number
+    pub heldprocessors: [u8; 768],
+    pub heldnumbers: [u8; 768],
+    // noted adverts: the sender's desk
+    pub notes: [u8; 768],
+}
+
+// What each channel keeps itself, of channel c at c - 1.
+pub struct Channels {
+    // the number called
+    pub granted: [u8; 128],
+    // the mark that the receiver has called
+    pub awaiting: [bool; 128],
+    // carried offers: the sender's desk and the number
+    pub carriedprocessors: [u8; 128],
+    pub carriednumbers: [u8; 128],
+    // travelling pointers: desk and count
+    pub travellingprocessors: [u8; 128],
+    pub travellingmoves: [u16; 128],
+}
+
+// The rig: how many desks, the plan, task t at t - 1, the tables, the channels, the mail.
+pub struct System {
+    pub processors: u8,
+    pub plan: Plan,
+    pub tasks: [Task; 64],
+    pub tables: Tables,
+    pub channels: Channels,
+    pub network: Network,
+}
