@@ -15,8 +15,8 @@ use Rattle.rules.specs.Effects.{forReceiving, forSending}
 use Rattle.rules.specs.Starts.{located}
 
 -- "Ended: the child leaves the set."; "ended, a parent there with that child living": the parent's record at d, after the letter for child t
-unfoldable pub bereaved : Task → ProcessorId → TaskId → Task
-bereaved parent d t = pick (isAt d parent && member (t .0) (parent .children)) (withoutChild parent t) parent
+unfoldable pub terminatedRule : Task → ProcessorId → TaskId → Task
+terminatedRule parent d t = pick (isAt d parent && member (t .0) (parent .children)) (withoutChild parent t) parent
 
 -- "a held offer that counts is taken over, another is dropped": for one channel
 unfoldable pub takenOver : Cell → Cell
@@ -25,15 +25,15 @@ takenOver x =
     (withHeld x noOffer)
 
 -- for one channel that the arriving task receives on: the pointer of a birth or an arrival, and the held offer
-abbrev pub arrivedReceiving : ProcessorId → ℕ → Cell → Cell
-arrivedReceiving d n x = takenOver (located d n x)
+abbrev pub arrivalReceiving : ProcessorId → ℕ → Cell → Cell
+arrivalReceiving d n x = takenOver (located d n x)
 
 -- "for each channel it sends on, the desk's pointer becomes the newer of it and the travelling one, which is cleared"
-abbrev pub arrivedSending : Cell → Cell
-arrivedSending x = withTravelling (withHint x (newer (x .entry .hint) (x .channel .travelling))) unknown
+abbrev pub arrivalSending : Cell → Cell
+arrivalSending x = withTravelling (withHint x (newer (x .entry .hint) (x .channel .travelling))) unknown
 
 -- "Mover: the task is ready here with its carried offers; ..": task t at d
 unfoldable pub arrival : System → TaskId → ProcessorId → System
 arrival r t d =
     let x = taskAt r t in
-    forSending (forReceiving (withTask r t (arrived x d)) t d (arrivedReceiving d (x .moves))) t d arrivedSending
+    forSending (forReceiving (withTask r t (arrived x d)) t d (arrivalReceiving d (x .moves))) t d arrivalSending

@@ -16,8 +16,8 @@ use Rattle.rules.specs.Offers.{kept}
 
 -- "Call: the sender is ready, its desk's pointer becomes the newer of the two, a word letter leaves."; "A call supposes its sender sending on
 -- that channel at the letter's desk"; h is the call's pointer, where the receiver is
-unfoldable pub called : Site → ChannelId → ProcessorId → Hint → Outcome
-called x c d h =
+unfoldable pub callRule : Site → ChannelId → ProcessorId → Hint → Outcome
+callRule x c d h =
     pick (x .sending && isAt d (x .sender))
     (record {
       sender = readied (x .sender);
@@ -29,8 +29,8 @@ called x c d h =
     (kept x (x .cell) Nothing)
 
 -- "Word: the receiver takes it and is ready."; "a word, its receiver there, receiving and having called"
-unfoldable pub delivered : Site → ChannelId → ProcessorId → WordOf → Outcome
-delivered x c d w =
+unfoldable pub dataRule : Site → ChannelId → ProcessorId → WordOf → Outcome
+dataRule x c d w =
     pick (isAt d (x .receiver) && (x .receiving && x .cell .channel .awaiting))
     (record {
       sender = x .sender;

@@ -14,12 +14,12 @@ use Rattle.rules.specs.declared.step.StepAnswer.{StepAnswer}
 use Rattle.rules.specs.declared.step.StepAnswer.the-variants.{Accepted, NoMessage}
 use Rattle.rules.specs.declared.system.System.{System}
 use Rattle.rules.specs.Tasks.{isIn}
-use Rattle.rules.specs.Networks.{letterAt, without}
+use Rattle.rules.specs.Networks.{letterAt, dequeued}
 use Rattle.rules.specs.Systems.{withNetwork, taskAt, withTask, meaning}
 use Rattle.rules.specs.Effects.{Effect, changed, applied}
-use Rattle.rules.specs.Offers.{offered, advertised}
-use Rattle.rules.specs.Calls.{called, delivered}
-use Rattle.rules.specs.Arrivals.{bereaved, arrival}
+use Rattle.rules.specs.Offers.{offerRule, advertRule}
+use Rattle.rules.specs.Calls.{callRule, dataRule}
+use Rattle.rules.specs.Arrivals.{terminatedRule, arrival}
 
 -- a rule about channel c at d, between the channel's two ends
 abbrev pub onChannel : System → ChannelId → ProcessorId → (Site → Outcome) → Effect
@@ -29,7 +29,7 @@ onChannel r c d rule = applied r (senderOf (meaning r) c) (receiverOf (meaning r
 unfoldable pub gotTerminated : System → ProcessorId → TaskId → System
 gotTerminated r d t =
     let p = parentOf (meaning r) t in
-    withTask r p (bereaved (taskAt r p) d t)
+    withTask r p (terminatedRule (taskAt r p) d t)
 
 unfoldable pub gotMigration : System → ProcessorId → TaskId → System
 gotMigration r d t = pick (isIn Moving (taskAt r t)) (arrival r t d) r
@@ -37,16 +37,16 @@ gotMigration r d t = pick (isIn Moving (taskAt r t)) (arrival r t d) r
 -- what a letter does where it goes to; the mail has it no more
 unfoldable pub opened : System → Message → Effect
 opened r Empty = changed r
-opened r (Offered c o h) = onChannel r c (h .processor) (λ x. offered x c o h)
-opened r (Advert c d from) = onChannel r c d (λ x. advertised x c d from)
-opened r (ReadyToReceive c d h) = onChannel r c d (λ x. called x c d h)
-opened r (Data c d w) = onChannel r c d (λ x. delivered x c d w)
+opened r (Offered c o h) = onChannel r c (h .processor) (λ x. offerRule x c o h)
+opened r (Advert c d from) = onChannel r c d (λ x. advertRule x c d from)
+opened r (ReadyToReceive c d h) = onChannel r c d (λ x. callRule x c d h)
+opened r (Data c d w) = onChannel r c d (λ x. dataRule x c d w)
 opened r (Terminated d t) = changed (gotTerminated r d t)
 opened r (Migration d t) = changed (gotMigration r d t)
 
 -- a delivery of the letter at position p
-unfoldable pub tookLetter : System → ℕ → Effect
-tookLetter r p = opened (withNetwork r (without (r .network) p)) (letterAt (r .network) p)
+unfoldable pub delivered : System → ℕ → Effect
+delivered r p = opened (withNetwork r (dequeued (r .network) p)) (letterAt (r .network) p)
 
 -- "Deliver: 14, no letter there."
 unfoldable pub deliverAnswer : System → ℕ → StepAnswer

@@ -1,13 +1,12 @@
 -- How a rule is applied to the rig: what it may touch is fetched, and what it leaves is stored.
-use mathlib.Core.Bool.{Bool, _&&_}
+use mathlib.Core.Bool.{Bool}
 use Prim.Native.Nat.{ℕ, zero, suc}
-use lib.Dec.{eqb}
 use Rattle.base.specs.Choice.{pick}
 use Rattle.plan.specs.declared.TaskId.{TaskId}
 use Rattle.plan.specs.declared.ProcessorId.{ProcessorId}
 use Rattle.plan.specs.declared.ChannelId.{ChannelId}
+use Rattle.plan.specs.Programs.{Programs}
 use Rattle.plan.specs.Users.{senderOf, receiverOf}
-use Rattle.rules.specs.declared.task.Task.{Task}
 use Rattle.rules.specs.declared.task.TaskState.the-variants.{Sending, Receiving}
 use Rattle.rules.specs.declared.channel.Cell.{Cell}
 use Rattle.rules.specs.declared.rule.Site.{Site}
@@ -18,9 +17,9 @@ use Rattle.rules.specs.declared.rule.Received.{Received}
 use Rattle.rules.specs.declared.rule.Received.the-variants.{Nothing as NoWord}
 use Rattle.rules.specs.declared.system.System.{System}
 use Rattle.rules.specs.Numbers.{channelId, sameTask}
-use Rattle.rules.specs.Tasks.{isIn}
-use Rattle.rules.specs.Networks.{joinedByAll, lettersOf}
-use Rattle.rules.specs.Systems.{withNetwork, taskAt, withTask, cellAt, withCell, lastOf, meaning}
+use Rattle.rules.specs.Places.{isOn}
+use Rattle.rules.specs.Networks.{enqueuedAll, lettersOf}
+use Rattle.rules.specs.Systems.{withNetwork, taskAt, withTask, cellAt, withCell, programOf, meaning}
 
 -- what a step does, before its letters join the mail
 pub record Effect : Type 0 where
@@ -37,14 +36,7 @@ changedPosting r p = record { system = r; posting = p; received = NoWord }
 
 -- the rig then, with the letters in its mail
 unfoldable pub completed : Effect → System
-completed e = withNetwork (e .system) (joinedByAll (e .system .network) (lettersOf (e .system .processors) (e .posting)))
-
--- "A task sends or receives on the channel of its last executed instruction."
-unfoldable pub sendingOn : System → TaskId → ChannelId → Bool
-sendingOn r t c = isIn Sending (taskAt r t) && eqb (lastOf r t .operand) (c .0)
-
-unfoldable pub receivingOn : System → TaskId → ChannelId → Bool
-receivingOn r t c = isIn Receiving (taskAt r t) && eqb (lastOf r t .operand) (c .0)
+completed e = withNetwork (e .system) (enqueuedAll (e .system .network) (lettersOf (e .system .processors) (e .posting)))
 
 -- channel c at desk d, from task s to task u
 unfoldable pub siteAt : System → TaskId → TaskId → ChannelId → ProcessorId → Site
@@ -52,8 +44,8 @@ siteAt r s u c d =
     record {
       sender = taskAt r s;
       receiver = taskAt r u;
-      sending = sendingOn r s c;
-      receiving = receivingOn r u c;
+      sending = isOn Sending (programOf r s) c (taskAt r s);
+      receiving = isOn Receiving (programOf r u) c (taskAt r u);
       cell = cellAt r d c;
     }
 
@@ -77,8 +69,14 @@ forChannels (suc n) test rule d r =
     pick (test (channelId (suc n))) (withCell q d (channelId (suc n)) (rule (cellAt q d (channelId (suc n))))) q
 
 -- "for each channel that the task receives on", "for each channel it sends on"
+abbrev pub receivesOn : Programs → TaskId → ChannelId → Bool
+receivesOn m t c = sameTask (receiverOf m c) t
+
+abbrev pub sendsOn : Programs → TaskId → ChannelId → Bool
+sendsOn m t c = sameTask (senderOf m c) t
+
 abbrev pub forReceiving : System → TaskId → ProcessorId → (Cell → Cell) → System
-forReceiving r t d rule = forChannels 128 (λ c. sameTask (receiverOf (meaning r) c) t) rule d r
+forReceiving r t d rule = forChannels 128 (receivesOn (meaning r) t) rule d r
 
 abbrev pub forSending : System → TaskId → ProcessorId → (Cell → Cell) → System
-forSending r t d rule = forChannels 128 (λ c. sameTask (senderOf (meaning r) c) t) rule d r
+forSending r t d rule = forChannels 128 (sendsOn (meaning r) t) rule d r

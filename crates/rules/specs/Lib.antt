@@ -2,6 +2,7 @@
 pub mod Numbers
 pub mod Answers
 pub mod Tasks
+pub mod Places
 pub mod Cells
 pub mod Networks
 pub mod Systems

@@ -14,25 +14,25 @@ use Rattle.rules.specs.Numbers.{sameTask, taskId}
 use Rattle.rules.specs.Tasks.{isAt, withState, withWord, advanced, withChild, isChildless, withoutChild}
 
 -- "Create: the child becomes ready at d .. and joins the living children.": the creating task; the child's is a birth
-abbrev pub creating : Task → TaskId → Task
-creating x u = advanced (withChild x u)
+abbrev pub createRule : Task → TaskId → Task
+createRule x u = advanced (withChild x u)
 
 -- "Sync: waits if children live."
-unfoldable pub syncing : Task → Task
-syncing x = pick (isChildless x) (advanced x) (advanced (withState x Waiting))
+unfoldable pub syncRule : Task → Task
+syncRule x = pick (isChildless x) (advanced x) (advanced (withState x Waiting))
 
 -- "Finish: done. A parent at d loses the child from its set; a parent elsewhere gets an ended letter naming the child, sent to the
 -- child's desk of birth. Task 1 has no parent.": task t, with record x, and its parent's record
-unfoldable pub finishing : TaskId → Task → Task → Finished
-finishing t x parent =
+unfoldable pub finishRule : TaskId → Task → Task → Finished
+finishRule t x parent =
     let done = advanced (withState x Done) in
     pick (sameTask t (taskId 1)) (record { task = done; parent = parent; posting = Nothing })
     (pick (isAt (x .processor) parent) (record { task = done; parent = withoutChild parent t; posting = Nothing })
     (record { task = done; parent = parent; posting = Letter (Terminated (x .home) t) }))
 
 -- "Set stores the task's word; add is taken modulo 65,536."
-abbrev pub setting : Task → Instruction → Task
-setting x i = advanced (withWord x (setWord (x .word) i))
+abbrev pub setRule : Task → Instruction → Task
+setRule x i = advanced (withWord x (setWord (x .word) i))
 
-abbrev pub adding : Task → Instruction → Task
-adding x i = advanced (withWord x (addWord (x .word) i))
+abbrev pub addRule : Task → Instruction → Task
+addRule x i = advanced (withWord x (addWord (x .word) i))

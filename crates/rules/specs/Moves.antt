@@ -21,8 +21,8 @@ use Rattle.rules.specs.Starts.{located}
 use Rattle.rules.specs.Runs.{fits}
 
 -- "d's pointers for its sending channels are copied to the travelling pointers": for one channel
-abbrev pub departedSending : Cell → Cell
-departedSending x = withTravelling x (x .entry .hint)
+abbrev pub departureSending : Cell → Cell
+departureSending x = withTravelling x (x .entry .hint)
 
 -- "Its count goes up by one; d's pointers for its receiving channels become (e, new count); carried offers stay with their channels; d's
 -- pointers for its sending channels are copied ..; one mover letter leaves."
@@ -31,7 +31,7 @@ moved r t e =
     let x = taskAt r t in
     let d = x .processor in
     changedPosting
-    (forSending (forReceiving (withTask r t (departed x)) t d (located e (x .moves + 1))) t d departedSending)
+    (forSending (forReceiving (withTask r t (departed x)) t d (located e (x .moves + 1))) t d departureSending)
     (Letter (Migration e t))
 
 -- "Move: 10; 15, desk outside the rig; 11; 16, already there; 17, living children; 18, move count 9,999; 13."

@@ -29,16 +29,16 @@ unfoldable pub letterAt : Network → ℕ → Message
 letterAt n p = getD (n .slots) (p - 1) noSlot .message
 
 -- "Letters join the mail's end"
-unfoldable pub joinedBy : Network → Message → Network
-joinedBy n m = record { slots = set (n .slots) (n .used) (slot m); used = n .used + 1 }
+unfoldable pub enqueued : Network → Message → Network
+enqueued n m = record { slots = set (n .slots) (n .used) (slot m); used = n .used + 1 }
 
-unfoldable pub joinedByAll : Network → List Message → Network
-joinedByAll n [] = n
-joinedByAll n (m ∷ ms) = joinedByAll (joinedBy n m) ms
+unfoldable pub enqueuedAll : Network → List Message → Network
+enqueuedAll n [] = n
+enqueuedAll n (m ∷ ms) = enqueuedAll (enqueued n m) ms
 
 -- "taking one closes the gap": without the letter at position p, from 1
-unfoldable pub without : Network → ℕ → Network
-without n p =
+unfoldable pub dequeued : Network → ℕ → Network
+dequeued n p =
     record {
       slots = take (p - 1) (n .slots) ++ (drop p (take (n .used) (n .slots)) ++ (noSlot ∷ drop (n .used) (n .slots)));
       used = n .used - 1;

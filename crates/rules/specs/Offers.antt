@@ -29,8 +29,8 @@ pointsOn own letters d = not (sameProcessor (own .processor) d) && ltb (letters 
 -- "Offer at d: if it no longer counts and the receiver is here, dropped. Receiver here, receiving and not called: answered. Receiver here
 -- otherwise: carried. Not here: if d's pointer names another desk with a larger count than the letter's, forwarded there with that count;
 -- else held at d."; h is the letter's pointer, which names d
-unfoldable pub offered : Site → ChannelId → Offer → Hint → Outcome
-offered x c o h =
+unfoldable pub offerRule : Site → ChannelId → Offer → Hint → Outcome
+offerRule x c o h =
     let d = h .processor in
     let own = x .cell .entry .hint in
     pick (not (counts (x .cell) o) && isAt d (x .receiver)) (kept x (x .cell) Nothing)
@@ -40,7 +40,7 @@ offered x c o h =
     (kept x (holding (x .cell) o) Nothing))))
 
 -- "Advert: receiver here, receiving, called 0: answered. Else noted."; it is at d, from the desk `from`
-unfoldable pub advertised : Site → ChannelId → ProcessorId → ProcessorId → Outcome
-advertised x c d from =
+unfoldable pub advertRule : Site → ChannelId → ProcessorId → ProcessorId → Outcome
+advertRule x c d from =
     pick (isAt d (x .receiver) && (x .receiving && noneCalled (x .cell))) (kept x (granting (x .cell)) (callTo from c (x .receiver)))
     (kept x (noting (x .cell) from) Nothing)

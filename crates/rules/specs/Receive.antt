@@ -40,8 +40,8 @@ receiveWaits x cell posting =
 -- "If its sender is sending on c at d: the word passes directly .. Else it is receiving; a carried offer that counts, else if called is 0 an
 -- advert noted at d, is answered: it is removed, called goes up by one and a call letter .. goes to the offering desk."; w is the number
 -- of the sender's last executed send on c
-unfoldable pub got : Site → ChannelId → ℕ → Outcome
-got x c w =
+unfoldable pub receiveRule : Site → ChannelId → ℕ → Outcome
+receiveRule x c w =
     let d = x .receiver .processor in
     let o = x .cell .channel .carried in
     let a = x .cell .entry .noted in

@@ -34,8 +34,8 @@ sendWaits x cell posting =
 -- "If the receiver is at d, receiving on c and has not called: the word passes directly .. Else the sender is sending, and: receiver at d, it
 -- carries offer (d, w); else pointer unknown, an advert to every other desk ..; else pointer names d, the offer is held at d; else an offer
 -- letter (c, d, w, the pointer's count) goes to the pointer's desk."
-unfoldable pub sent : Site → ChannelId → ℕ → Outcome
-sent x c w =
+unfoldable pub sendRule : Site → ChannelId → ℕ → Outcome
+sendRule x c w =
     let d = x .sender .processor in
     let o = offer d w in
     let h = x .cell .entry .hint in

@@ -15,6 +15,7 @@ use Rattle.plan.specs.declared.ChannelId.{ChannelId}
 use Rattle.plan.specs.Answers.{isAccepted}
 use Rattle.plan.specs.Kinds.{opSend, opReceive}
 use Rattle.plan.specs.Words.{wordNumbers}
+use Rattle.plan.specs.Programs.{Program}
 use Rattle.plan.specs.Refusals.{planAnswer}
 use Rattle.rules.specs.declared.task.Task.{Task}
 use Rattle.rules.specs.declared.task.TaskState.the-variants.{Unborn, Sending, Receiving, Moving, Done}
@@ -30,7 +31,8 @@ use Rattle.rules.specs.Numbers.{taskId, processorId, isNone}
 use Rattle.rules.specs.Tasks.{isIn}
 use Rattle.rules.specs.Cells.{hint, isUnknown, offer}
 use Rattle.rules.specs.Networks.{letters}
-use Rattle.rules.specs.Systems.{taskAt, programOf, lastOf, meaning}
+use Rattle.rules.specs.Places.{lastIn}
+use Rattle.rules.specs.Systems.{taskAt, programOf, meaning}
 
 -- "Desks 1 to 6", of a rig of n desks; "channels 1 to 128"; "tasks", of a rig of m tasks
 abbrev pub processorOk : ℕ → ProcessorId → Bool
@@ -98,31 +100,23 @@ whereOk n x = pick (isIn Moving x) (isNone (x .processor)) (processorOk n (x .pr
 abbrev pub placeOk : ℕ → Task → Bool
 placeOk size x = within 1 (pick (isIn Done x) (size + 1) size) (x .pc)
 
--- "a sending or receiving task that has executed no instruction or whose last executed one is of another kind"
-abbrev pub lastOk : System → TaskId → Task → Bool
-lastOk r t x =
-    (not (isIn Sending x) || (ltb 1 (x .pc) && eqb (lastOf r t .opcode) opSend))
-    && (not (isIn Receiving x) || (ltb 1 (x .pc) && eqb (lastOf r t .opcode) opReceive))
+-- "a sending or receiving task that has executed no instruction or whose last executed one is of another kind", in the program g; where
+-- none was executed, the last one has kind 0
+abbrev pub lastOk : Program → Task → Bool
+lastOk g x = (not (isIn Sending x) || eqb (lastIn g x .opcode) opSend) && (not (isIn Receiving x) || eqb (lastIn g x .opcode) opReceive)
 
-unfoldable pub bornOk : System → TaskId → Task → Bool
-bornOk r t x =
-    processorOk (r .processors) (x .home)
-    && (movesOk (x .moves)
-    && (whereOk (r .processors) x
-    && (placeOk (length (programOf r t)) x
-    && lastOk r t x)))
+unfoldable pub bornOk : ℕ → Program → Task → Bool
+bornOk n g x = processorOk n (x .home) && (movesOk (x .moves) && (whereOk n x && (placeOk (length g) x && lastOk g x)))
 
--- task t; its living children are tasks of the rig
-unfoldable pub taskOk : System → TaskId → Bool
-taskOk r t =
-    let x = taskAt r t in
-    ltb (x .children) (2 ^ (r .plan .tasks)) && pick (isIn Unborn x) (unbornOk x) (bornOk r t x)
+-- a task in a rig of n desks and m tasks; its living children are tasks of the rig
+unfoldable pub taskOk : ℕ → ℕ → Program → Task → Bool
+taskOk n m g x = ltb (x .children) (2 ^ m) && pick (isIn Unborn x) (unbornOk x) (bornOk n g x)
 
 unfoldable pub systemOk : System → Bool
 systemOk r =
     within 1 6 (r .processors)
     && (isAccepted (planAnswer (meaning r))
-    && (upTo (r .plan .tasks) (λ t. taskOk r (taskId t))
+    && (upTo (r .plan .tasks) (λ t. taskOk (r .processors) (r .plan .tasks) (programOf r (taskId t)) (taskAt r (taskId t)))
     && (tablesOk (r .processors) (r .tables)
     && (channelsOk (r .processors) (r .channels)
     && networkOk (r .processors) (r .plan .tasks) (r .network)))))

@@ -19,7 +19,7 @@ use Rattle.rules.specs.Numbers.{taskId, processorId, sameChannel}
 use Rattle.rules.specs.Answers.{isAccepted}
 use Rattle.rules.specs.Effects.{Effect, completed}
 use Rattle.rules.specs.Runs.{ran, runAnswer}
-use Rattle.rules.specs.Deliver.{tookLetter, deliverAnswer}
+use Rattle.rules.specs.Deliver.{delivered, deliverAnswer}
 use Rattle.rules.specs.Moves.{moved, moveAnswer}
 use Rattle.rules.specs.Sound.{systemOk}
 
@@ -55,7 +55,7 @@ stepAnswer r s = unless (systemOk r) BadSystem (unless (wellFormed s) BadStep (r
 unfoldable pub performed : System → Step → Effect
 performed r s =
     pick (isRun s) (ran r (taskId (s .task)))
-    (pick (isDeliver s) (tookLetter r (s .number))
+    (pick (isDeliver s) (delivered r (s .number))
     (moved r (taskId (s .task)) (processorId (s .number))))
 
 -- a refused step: "The rig stays as it was."

@@ -1,17 +1,14 @@
 -- The rig read and changed: a task, a cell, the mail. Nothing above looks into an array.
-use mathlib.Core.Bool.{Bool, false, _&&_}
+use mathlib.Core.Bool.{false}
 use mathlib.Core.List.{List}
 use Prim.Native.Nat.{ℕ, _+_, _-_, _*_}
-use lib.Dec.{eqb, ltb}
+use lib.Dec.{eqb}
 use lib.ListN.{getD, set}
 use Rattle.base.specs.Choice.{pick}
-use Rattle.base.specs.Range.{sumBelow}
 use Rattle.plan.specs.declared.TaskId.{TaskId}
 use Rattle.plan.specs.declared.ProcessorId.{ProcessorId}
 use Rattle.plan.specs.declared.ChannelId.{ChannelId}
-use Rattle.plan.specs.declared.Instruction.{Instruction}
-use Rattle.plan.specs.Kinds.{opSend, isUse, noInstruction}
-use Rattle.plan.specs.Programs.{Program, Programs, programAt, instructionAt, programs}
+use Rattle.plan.specs.Programs.{Program, Programs, programAt, programs}
 use Rattle.rules.specs.declared.task.Task.{Task}
 use Rattle.rules.specs.declared.channel.Entry.{Entry}
 use Rattle.rules.specs.declared.channel.Channel.{Channel}
@@ -108,14 +105,3 @@ meaning r = programs (r .plan)
 
 abbrev pub programOf : System → TaskId → Program
 programOf r t = programAt (meaning r) (t .0 - 1)
-
--- the instruction that task t runs next, and the last that it executed
-unfoldable pub nextOf : System → TaskId → Instruction
-nextOf r t = instructionAt (programOf r t) (taskAt r t .pc - 1)
-
-unfoldable pub lastOf : System → TaskId → Instruction
-lastOf r t = pick (ltb 1 (taskAt r t .pc)) (instructionAt (programOf r t) (taskAt r t .pc - 2)) noInstruction
-
--- how many of the first n instructions of a program send on channel c
-unfoldable pub sendsOn : Program → ChannelId → ℕ → ℕ
-sendsOn g c n = sumBelow n (λ i. pick (isUse opSend (c .0) (instructionAt g i)) 1 0)
