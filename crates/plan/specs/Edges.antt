@@ -57,7 +57,7 @@ unfoldable pub starred : List Edge
 starred = file [] 2 ∷ file single 0 ∷ plan (many 65) 2 ∷ []
 
 -- "T=2 (44 bytes; task 1: create 2, set 7, send 3, sync, finish; task 2: receive 3, add 1, finish)", byte by byte
-abbrev worked : List ℕ
+abbrev pub worked : List ℕ
 worked =
     2 ∷ 0 ∷ 8 ∷ 0 ∷ 12 ∷ 0 ∷ 5 ∷ 0 ∷ 32 ∷ 0 ∷ 3 ∷ 0
     ∷ 1 ∷ 0 ∷ 2 ∷ 0 ∷ 6 ∷ 0 ∷ 7 ∷ 0 ∷ 4 ∷ 0 ∷ 3 ∷ 0 ∷ 2 ∷ 0 ∷ 0 ∷ 0 ∷ 3 ∷ 0 ∷ 0 ∷ 0

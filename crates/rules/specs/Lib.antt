@@ -21,3 +21,7 @@ pub mod Sound
 pub mod Steps
 pub mod Trace
 pub mod StepFiles
+pub mod Scripts
+pub mod Scenes
+pub mod Edges
+pub mod SoundEdges

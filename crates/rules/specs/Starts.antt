@@ -30,22 +30,22 @@ blank n p =
       plan = p;
       tasks = replicate 64 unborn;
       tables =
-        record {
-          hintprocessors = replicate 768 0;
-          hintmoves = replicate 768 0;
-          heldprocessors = replicate 768 0;
-          heldnumbers = replicate 768 0;
-          notes = replicate 768 0;
-        };
+          record {
+            hintprocessors = replicate 768 0;
+            hintmoves = replicate 768 0;
+            heldprocessors = replicate 768 0;
+            heldnumbers = replicate 768 0;
+            notes = replicate 768 0;
+          };
       channels =
-        record {
-          granted = replicate 128 0;
-          awaiting = replicate 128 false;
-          carriedprocessors = replicate 128 0;
-          carriednumbers = replicate 128 0;
-          travellingprocessors = replicate 128 0;
-          travellingmoves = replicate 128 0;
-        };
+          record {
+            granted = replicate 128 0;
+            awaiting = replicate 128 false;
+            carriedprocessors = replicate 128 0;
+            carriednumbers = replicate 128 0;
+            travellingprocessors = replicate 128 0;
+            travellingmoves = replicate 128 0;
+          };
       network = record { slots = replicate 256 noSlot; used = 0 };
     }
 

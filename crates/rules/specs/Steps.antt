@@ -40,7 +40,7 @@ wellFormed s =
     (pick (isDeliver s) (eqb (s .task) 0)
     (isMove s))
 
--- the answer of a rig that 9 does not refuse, to a step that 19 does not refuse
+-- the answer of a rig that 9 does not refuse to a step that 19 does not refuse
 unfoldable pub ruleAnswer : System → Step → StepAnswer
 ruleAnswer r s =
     pick (isRun s) (runAnswer r (taskId (s .task)))
@@ -48,8 +48,11 @@ ruleAnswer r s =
     (moveAnswer r (taskId (s .task)) (processorId (s .number))))
 
 -- "Step: 9, ..; 19, .. Then run: .. Deliver: .. Move: .."
+unfoldable pub ruledAnswer : System → Step → StepAnswer
+ruledAnswer r s = unless (wellFormed s) BadStep (ruleAnswer r s)
+
 unfoldable pub stepAnswer : System → Step → StepAnswer
-stepAnswer r s = unless (systemOk r) BadSystem (unless (wellFormed s) BadStep (ruleAnswer r s))
+stepAnswer r s = unless (systemOk r) BadSystem (ruledAnswer r s)
 
 -- what an accepted step does
 unfoldable pub performed : System → Step → Effect
@@ -65,10 +68,16 @@ refused r a = record { report = record { answer = a; received = Nothing }; syste
 abbrev pub accepted : Effect → Stepped
 accepted e = record { report = record { answer = Accepted; received = e .received }; system = completed e }
 
+-- a step that is answered a
+unfoldable pub answered : System → Step → StepAnswer → Stepped
+answered r s a = unless (isAccepted a) (refused r a) (accepted (performed r s))
+
+-- one step; and one step of a rig that 9 does not refuse
 unfoldable pub step : System → Step → Stepped
-step r s =
-    let a = stepAnswer r s in
-    unless (isAccepted a) (refused r a) (accepted (performed r s))
+step r s = answered r s (stepAnswer r s)
+
+unfoldable pub ruledStep : System → Step → Stepped
+ruledStep r s = answered r s (ruledAnswer r s)
 
 -- a run of task t
 abbrev pub runStep : ℕ → Step
@@ -83,12 +92,18 @@ pub record History : Type 0 where
   pub reports : List Report
   pub system : System
 
-unfoldable pub steps : System → List Step → History
-steps r [] = record { reports = []; system = r }
-steps r (s ∷ ss) =
-    let o = step r s in
-    let h = steps (o .system) ss in
+unfoldable pub stepsBy : (System → Step → Stepped) → System → List Step → History
+stepsBy one r [] = record { reports = []; system = r }
+stepsBy one r (s ∷ ss) =
+    let o = one r s in
+    let h = stepsBy one (o .system) ss in
     record { reports = o .report ∷ h .reports; system = h .system }
+
+abbrev pub steps : System → List Step → History
+steps r ss = stepsBy step r ss
+
+abbrev pub ruledSteps : System → List Step → History
+ruledSteps r ss = stepsBy ruledStep r ss
 
 -- "A channel's received words are those passed directly or taken from a word letter on it, in order, just as the steps' trace lines report"
 unfoldable pub wordOn : ChannelId → Received → List WordOf

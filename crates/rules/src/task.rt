@@ -1,4 +1,7 @@
 // A task as the rig keeps it.
+ghost use mathlib.Core.Path.{_≡_};
+ghost use Prim.Native.Nat.{_<_};
+ghost use Rattle.rules.specs.Tasks.{withState, born, departed, arrived};
 use plan::ProcessorId;
 use plan::Word;
 
@@ -27,4 +30,58 @@ pub struct Task {
     // its move count
     pub moves: u16,
     pub children: u64,
+}
+
+// "move, birth and arrival as methods by value": each hands the record back.
+impl Task {
+    // The record in another state.
+    pub fn with_state(self, s: TaskState) -> Task
+        ensures { λ r. ⌜ r ≡ withState self s ⌝ }
+    {
+        let processor = self.processor;
+        let home = self.home;
+        let word = self.word;
+        Task {
+            state: s,
+            processor: processor,
+            pc: self.pc,
+            home: home,
+            word: word,
+            moves: self.moves,
+            children: self.children,
+        }
+    }
+
+    // Birth at desk d, whatever the record was.
+    pub fn birth(mut self, d: ProcessorId) -> Task
+        ensures { λ r. ⌜ r ≡ born d ⌝ }
+    {
+        self.processor = d;
+        self.pc = 1;
+        self.home = d;
+        let zero = Word(0);
+        self.word = zero;
+        self.moves = 1;
+        self.children = 0;
+        self.with_state(TaskState::Ready)
+    }
+
+    // "Its count goes up by one"; a count of 9,999 is refused before, by 18.
+    pub fn departure(mut self) -> Task
+        requires { ⌜ self .moves < 9999 ⌝ }
+        ensures { λ r. ⌜ r ≡ departed self ⌝ }
+    {
+        self.moves = self.moves + 1;
+        let nowhere = ProcessorId(0);
+        self.processor = nowhere;
+        self.with_state(TaskState::Moving)
+    }
+
+    // Arrival at desk d.
+    pub fn arrival(mut self, d: ProcessorId) -> Task
+        ensures { λ r. ⌜ r ≡ arrived self d ⌝ }
+    {
+        self.processor = d;
+        self.with_state(TaskState::Ready)
+    }
 }

@@ -1,0 +1,80 @@
+-- Each edge holds: a test of each list, by computation, and one lemma, `every-at`, that takes it to each entry.
+use mathlib.Core.Path.{_≡_, refl}
+use mathlib.Core.Bool.{Bool, true, false≢true}
+use mathlib.Core.List.{List, [], _∷_}
+use Prim.Native.Nat.{ℕ, _<_}
+use lib.ListN.{length, getD}
+use lib.Dec.{eqb}
+use borrow.Author.Tests.{eqb-true}
+use Rattle.base.specs.Lists.{every}
+use Rattle.base.proofs.Tests.{every-at, and-left, and-right}
+use Rattle.plan.specs.WriteEdges.{sameBytes}
+use Rattle.rules.specs.declared.step.Report.{Report}
+use Rattle.rules.specs.Answers.{stepNumber}
+use Rattle.rules.specs.Steps.{step}
+use Rattle.rules.specs.StepFiles.{printed}
+use Rattle.rules.specs.Sound.{hintOk, offerOk, messageOk, taskOk, systemOk}
+use Rattle.rules.specs.Scripts.{Script, scriptHolds}
+use Rattle.rules.specs.Scenes.{scenes}
+use Rattle.rules.specs.Edges.{TextEdge, textEdges, textHolds, bytesOf, OutputEdge, outputEdges, outputHolds, StepEdge, stepEdges, stepHolds, crowded, sender, mover, family, spent}
+use Rattle.rules.specs.SoundEdges.{Sample, judged, program, hintSamples, offerSamples, messageSamples, taskSamples, small, systemSamples}
+use Rattle.rules.proofs.Opened.{opened-all}
+
+all-texts : every textHolds textEdges ≡ true
+unfolding opened-all textEdges bytesOf
+all-texts = refl
+
+all-outputs : every outputHolds outputEdges ≡ true
+unfolding opened-all outputEdges bytesOf
+all-outputs = refl
+
+all-steps : every stepHolds stepEdges ≡ true
+unfolding opened-all stepEdges crowded sender mover family spent
+all-steps = refl
+
+all-scenes : every scriptHolds scenes ≡ true
+unfolding opened-all scenes
+all-scenes = refl
+
+all-hints : every (judged (hintOk 2)) hintSamples ≡ true
+unfolding opened-all hintSamples
+all-hints = refl
+
+all-offers : every (judged (offerOk 2)) offerSamples ≡ true
+unfolding opened-all offerSamples
+all-offers = refl
+
+all-messages : every (judged (messageOk 2 3)) messageSamples ≡ true
+unfolding opened-all messageSamples
+all-messages = refl
+
+all-tasks : every (judged (taskOk 2 3 program)) taskSamples ≡ true
+unfolding opened-all taskSamples
+all-tasks = refl
+
+all-systems : every (judged systemOk) systemSamples ≡ true
+unfolding opened-all small systemSamples
+all-systems = refl
+
+-- bytes that are found the same are the same
+same-bytes : (xs ys : List ℕ) → sameBytes xs ys ≡ true → xs ≡ ys
+unfolding sameBytes
+same-bytes [] [] h = refl
+same-bytes [] (y ∷ ys) h = absurd (false≢true h)
+same-bytes (x ∷ xs) [] h = absurd (false≢true h)
+same-bytes (x ∷ xs) (y ∷ ys) h = rw (eqb-true x y (and-left (eqb x y) (sameBytes xs ys) h), same-bytes xs ys (and-right (eqb x y) (sameBytes xs ys) h))
+
+-- entry k of a list; e stands for what is behind its end
+pub text-edge : (e : TextEdge) (k : ℕ) → k < length textEdges
+    → printed (getD textEdges k e .desks) (getD textEdges k e .file) (getD textEdges k e .steps) ≡ getD textEdges k e .text
+text-edge e k h = same-bytes _ _ (every-at textHolds textEdges k e h all-texts)
+
+pub output-edge : (e : OutputEdge) (k : ℕ) → k < length outputEdges → outputHolds (getD outputEdges k e) ≡ true
+output-edge e k h = every-at outputHolds outputEdges k e h all-outputs
+
+pub step-edge : (e : StepEdge) (k : ℕ) → k < length stepEdges
+    → stepNumber (step (getD stepEdges k e .system) (getD stepEdges k e .step) .report .answer) ≡ getD stepEdges k e .number
+step-edge e k h = eqb-true _ _ (every-at stepHolds stepEdges k e h all-steps)
+
+pub scene : (e : Script) (k : ℕ) → k < length scenes → scriptHolds (getD scenes k e) ≡ true
+scene e k h = every-at scriptHolds scenes k e h all-scenes

@@ -1,0 +1,4 @@
+-- What is shown of the definitions.
+pub mod Opened
+pub mod Edges
+pub mod Cases

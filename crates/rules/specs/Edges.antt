@@ -1,0 +1,170 @@
+-- The paper's starred edges that concern a rig, and steps of rigs made by hand: inputs and outcomes.
+use mathlib.Core.Bool.{Bool, _&&_}
+use mathlib.Core.List.{List, [], _∷_, _++_}
+use Prim.Native.Nat.{ℕ, _-_, _/_, _%_}
+use lib.Dec.{eqb}
+use lib.ListN.{replicate}
+use Rattle.plan.specs.Programs.{Programs}
+use Rattle.plan.specs.WriteEdges.{sameBytes}
+use Rattle.plan.specs.Edges.{worked}
+use Rattle.rules.specs.declared.message.Message.{Message}
+use Rattle.rules.specs.declared.message.Message.the-variants.{Advert}
+use Rattle.rules.specs.declared.step.Step.{Step}
+use Rattle.rules.specs.declared.system.System.{System}
+use Rattle.rules.specs.Numbers.{taskId, processorId, channelId}
+use Rattle.rules.specs.Answers.{stepNumber, runNumber}
+use Rattle.rules.specs.Tasks.{withMoves}
+use Rattle.rules.specs.Networks.{slot, noSlot}
+use Rattle.rules.specs.Systems.{withNetwork, taskAt, withTask}
+use Rattle.rules.specs.Steps.{step, ruledSteps}
+use Rattle.rules.specs.StepFiles.{printed, runFileAnswer, runFileOutput}
+use Rattle.rules.specs.Scripts.{create, sync, finish, send, receive, set, add, raw, run, deliver, move, startOn}
+
+-- desks, a plan file, a step file, and what the trace program prints
+pub record TextEdge : Type 0 where
+  pub desks : ℕ
+  pub file : List ℕ
+  pub steps : List ℕ
+  pub text : List ℕ
+
+abbrev pub textHolds : TextEdge → Bool
+textHolds e = sameBytes (printed (e .desks) (e .file) (e .steps)) (e .text)
+
+-- the bytes of steps
+unfoldable pub bytesOf : List Step → List ℕ
+bytesOf [] = []
+bytesOf (s ∷ ss) = s .kind ∷ s .task ∷ s .number % 256 ∷ s .number / 256 ∷ bytesOf ss
+
+-- "run 1, run 1, move 2 to 2, run 1, deliver 2, deliver 1, run 2, deliver 1, deliver 1, run 2, run 2, run 1, deliver 1, run 1, run 1"
+abbrev pub workedSteps : List Step
+workedSteps =
+    run 1 ∷ run 1 ∷ move 2 2 ∷ run 1 ∷ deliver 2 ∷ deliver 1 ∷ run 2 ∷ deliver 1 ∷ deliver 1 ∷ run 2 ∷ run 2 ∷ run 1 ∷ deliver 1 ∷ run 1 ∷ run 1 ∷ []
+
+-- "it prints": `1 0` to `8 0`; `9 0 3 7`; `10 0` to `14 0`; `15 11`; `end 1 0`
+abbrev pub workedText : List ℕ
+workedText =
+    49 ∷ 32 ∷ 48 ∷ 10 ∷ 50 ∷ 32 ∷ 48 ∷ 10 ∷ 51 ∷ 32 ∷ 48 ∷ 10 ∷ 52 ∷ 32 ∷ 48 ∷ 10
+    ∷ 53 ∷ 32 ∷ 48 ∷ 10 ∷ 54 ∷ 32 ∷ 48 ∷ 10 ∷ 55 ∷ 32 ∷ 48 ∷ 10 ∷ 56 ∷ 32 ∷ 48 ∷ 10
+    ∷ 57 ∷ 32 ∷ 48 ∷ 32 ∷ 51 ∷ 32 ∷ 55 ∷ 10
+    ∷ 49 ∷ 48 ∷ 32 ∷ 48 ∷ 10 ∷ 49 ∷ 49 ∷ 32 ∷ 48 ∷ 10 ∷ 49 ∷ 50 ∷ 32 ∷ 48 ∷ 10 ∷ 49 ∷ 51 ∷ 32 ∷ 48 ∷ 10 ∷ 49 ∷ 52 ∷ 32 ∷ 48 ∷ 10
+    ∷ 49 ∷ 53 ∷ 32 ∷ 49 ∷ 49 ∷ 10
+    ∷ 101 ∷ 110 ∷ 100 ∷ 32 ∷ 49 ∷ 32 ∷ 48 ∷ 10 ∷ []
+
+-- `end 0 0`
+abbrev pub endText : List ℕ
+endText = 101 ∷ 110 ∷ 100 ∷ 32 ∷ 48 ∷ 32 ∷ 48 ∷ 10 ∷ []
+
+-- `refused` and a number of one digit
+abbrev pub refusedText : ℕ → List ℕ
+refusedText n = 114 ∷ 101 ∷ 102 ∷ 117 ∷ 115 ∷ 101 ∷ 100 ∷ 32 ∷ n ∷ 10 ∷ []
+
+-- `1 0` to `4 0`, `end 0 2`: the first four steps of the run above leave two letters
+abbrev pub fourText : List ℕ
+fourText =
+    49 ∷ 32 ∷ 48 ∷ 10 ∷ 50 ∷ 32 ∷ 48 ∷ 10 ∷ 51 ∷ 32 ∷ 48 ∷ 10 ∷ 52 ∷ 32 ∷ 48 ∷ 10
+    ∷ 101 ∷ 110 ∷ 100 ∷ 32 ∷ 48 ∷ 32 ∷ 50 ∷ 10 ∷ []
+
+-- "*The run above. *Empty step file: `end 0 0`."; refusals 1, 2 and 8, each before the next
+unfoldable pub textEdges : List TextEdge
+textEdges =
+    record { desks = 2; file = worked; steps = bytesOf workedSteps; text = workedText }
+    ∷ record { desks = 2; file = worked; steps = []; text = endText }
+    ∷ record { desks = 2; file = worked; steps = bytesOf (run 1 ∷ run 1 ∷ move 2 2 ∷ run 1 ∷ []); text = fourText }
+    ∷ record { desks = 7; file = worked; steps = 1 ∷ []; text = refusedText 49 }
+    ∷ record { desks = 2; file = []; steps = 1 ∷ []; text = refusedText 50 }
+    ∷ record { desks = 2; file = worked; steps = 1 ∷ []; text = refusedText 56 }
+    ∷ []
+
+-- the same with an output: what it holds before, the number that is answered, and what it holds then
+pub record OutputEdge : Type 0 where
+  pub desks : ℕ
+  pub file : List ℕ
+  pub steps : List ℕ
+  pub before : List ℕ
+  pub number : ℕ
+  pub after : List ℕ
+
+abbrev pub outputHolds : OutputEdge → Bool
+outputHolds e =
+    eqb (runNumber (runFileAnswer (e .desks) (e .file) (e .steps) (e .before))) (e .number)
+    && sameBytes (runFileOutput (e .desks) (e .file) (e .steps) (e .before)) (e .after)
+
+-- on the worked plan, an output of nines
+abbrev pub nines : ℕ → List ℕ
+nines n = replicate n 9
+
+abbrev pub outputEdge : ℕ → List ℕ → ℕ → ℕ → List ℕ → OutputEdge
+outputEdge n steps room number after = record { desks = n; file = worked; steps = steps; before = nines room; number = number; after = after }
+
+-- `1 14` and `end 0 0` are 13 bytes: deliver 0
+abbrev pub shortText : List ℕ
+shortText = 49 ∷ 32 ∷ 49 ∷ 52 ∷ 10 ∷ endText
+
+-- "20, the lent output is too short: it holds the longest beginning of whole lines that fits. Here and after acceptance, bytes behind the last
+-- line are unchanged."; "the output is untouched"
+unfoldable pub outputEdges : List OutputEdge
+outputEdges =
+    outputEdge 2 (bytesOf (deliver 0 ∷ [])) 15 0 (shortText ++ nines 2)
+    ∷ outputEdge 2 (bytesOf (deliver 0 ∷ [])) 13 0 shortText
+    ∷ outputEdge 2 (bytesOf (deliver 0 ∷ [])) 12 20 (49 ∷ 32 ∷ 49 ∷ 52 ∷ 10 ∷ nines 7)
+    ∷ outputEdge 2 (bytesOf (deliver 0 ∷ [])) 5 20 (49 ∷ 32 ∷ 49 ∷ 52 ∷ 10 ∷ [])
+    ∷ outputEdge 2 (bytesOf (deliver 0 ∷ [])) 4 20 (nines 4)
+    ∷ outputEdge 2 [] 0 20 []
+    ∷ outputEdge 2 (1 ∷ 1 ∷ 0 ∷ []) 9 8 (nines 9)
+    ∷ outputEdge 0 (1 ∷ 1 ∷ 0 ∷ []) 9 1 (nines 9)
+    ∷ []
+
+-- a rig, a step of it, and the number that is answered
+pub record StepEdge : Type 0 where
+  pub system : System
+  pub step : Step
+  pub number : ℕ
+
+abbrev pub stepHolds : StepEdge → Bool
+stepHolds e = eqb (stepNumber (step (e .system) (e .step) .report .answer)) (e .number)
+
+-- a rig with n letters in its mail, all alike
+unfoldable pub crowded : ℕ → System → System
+crowded n r =
+    withNetwork r
+    (record { slots = replicate n (slot (Advert (channelId 1) (processorId 1) (processorId 1))) ++ replicate (256 - n) noSlot; used = n })
+
+-- a rig of six desks whose task 1 sends
+unfoldable pub sender : System
+sender = startOn 6 ((send 3 ∷ finish ∷ []) ∷ [])
+
+-- a rig of two desks whose task 1 has moved n - 1 times
+unfoldable pub mover : ℕ → System
+mover n =
+    let r = startOn 2 ((finish ∷ []) ∷ []) in
+    withTask r (taskId 1) (withMoves (taskAt r (taskId 1)) n)
+
+-- task 2, at desk 2, is about to finish; its child 3 lives and its parent is at desk 1
+unfoldable pub family : System
+family =
+    ruledSteps (startOn 2 ((create 2 ∷ sync ∷ finish ∷ []) ∷ (create 3 ∷ finish ∷ []) ∷ (finish ∷ []) ∷ []))
+    (run 1 ∷ move 2 2 ∷ deliver 1 ∷ run 2 ∷ []) .system
+
+-- the same, its count spent
+unfoldable pub spent : System → System
+spent r = withTask r (taskId 2) (withMoves (taskAt r (taskId 2)) 9999)
+
+-- "*Send to five other desks with 251 letters: accepted; *252: 13. Move count 9,998 moves, *9,999: 18. *Deliver 0: 14. *Finish with a living
+-- child and 256 letters: 12."
+unfoldable pub stepEdges : List StepEdge
+stepEdges =
+    record { system = crowded 251 sender; step = run 1; number = 0 }
+    ∷ record { system = crowded 252 sender; step = run 1; number = 13 }
+    ∷ record { system = mover 9998; step = move 1 2; number = 0 }
+    ∷ record { system = mover 9999; step = move 1 2; number = 18 }
+    ∷ record { system = mover 1; step = deliver 0; number = 14 }
+    ∷ record { system = crowded 256 family; step = run 2; number = 12 }
+    -- refusals of a move in their order, where several hold; 9 before 19
+    ∷ record { system = crowded 256 (mover 9999); step = move 1 2; number = 18 }
+    ∷ record { system = crowded 256 (mover 9998); step = move 1 2; number = 13 }
+    ∷ record { system = spent family; step = move 2 1; number = 17 }
+    ∷ record { system = spent family; step = move 2 2; number = 16 }
+    ∷ record { system = mover 10000; step = raw 4 0 0; number = 9 }
+    ∷ record { system = mover 1; step = raw 4 0 0; number = 19 }
+    ∷ record { system = mover 1; step = raw 0 0 0; number = 19 }
+    ∷ []

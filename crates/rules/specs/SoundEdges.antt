@@ -1,0 +1,137 @@
+-- Both sides of each condition of 9: parts of a rig of two desks and three tasks, and whole rigs.
+use mathlib.Core.Bool.{Bool, true, false}
+use mathlib.Core.List.{List, [], _∷_}
+use Prim.Native.Nat.{ℕ}
+use lib.ListN.{set}
+use Rattle.plan.specs.declared.Word.{Word}
+use Rattle.plan.specs.Programs.{Program, canonical}
+use Rattle.plan.specs.Words.{zeroWord}
+use Rattle.rules.specs.declared.task.Task.{Task}
+use Rattle.rules.specs.declared.task.TaskState.{TaskState}
+use Rattle.rules.specs.declared.task.TaskState.the-variants.{Unborn, Ready, Waiting, Sending, Receiving, Moving, Done}
+use Rattle.rules.specs.declared.channel.Hint.{Hint}
+use Rattle.rules.specs.declared.channel.Offer.{Offer}
+use Rattle.rules.specs.declared.channel.Cell.{Cell}
+use Rattle.rules.specs.declared.message.Message.{Message}
+use Rattle.rules.specs.declared.message.Message.the-variants.{Empty, Offered, Advert, ReadyToReceive, Data, Terminated, Migration}
+use Rattle.rules.specs.declared.system.System.{System}
+use Rattle.rules.specs.Numbers.{taskId, processorId, channelId}
+use Rattle.rules.specs.Tasks.{noTask, unborn}
+use Rattle.rules.specs.Cells.{hint, unknown, offer, noOffer, withHint, withHeld, withNoted, withGranted, withCarried, withTravelling}
+use Rattle.rules.specs.Networks.{enqueued}
+use Rattle.rules.specs.Systems.{withNetwork, withTask, cellAt, withCell}
+use Rattle.rules.specs.Sound.{hintOk, offerOk, messageOk, taskOk, systemOk}
+use Rattle.rules.specs.Scripts.{create, sync, finish, send, receive, startOn, sameBool}
+
+-- something of a rig, and whether 9 lets it pass
+pub record Sample (A : Type 0) : Type 0 where
+  pub it : A
+  pub ok : Bool
+
+abbrev fine : {A : Type 0} → A → Sample A
+fine x = record { it = x; ok = true }
+
+abbrev wrong : {A : Type 0} → A → Sample A
+wrong x = record { it = x; ok = false }
+
+abbrev pub judged : {A : Type 0} → (A → Bool) → Sample A → Bool
+judged test s = sameBool (test (s .it)) (s .ok)
+
+-- "(desk, count; both 0 is unknown)"; "a move count is at most 9,999"
+unfoldable pub hintSamples : List (Sample Hint)
+hintSamples =
+    fine unknown ∷ wrong (hint (processorId 0) 1) ∷ wrong (hint (processorId 1) 0) ∷ fine (hint (processorId 1) 1) ∷ fine (hint (processorId 2) 9999)
+    ∷ wrong (hint (processorId 3) 1) ∷ wrong (hint (processorId 2) 10000) ∷ []
+
+-- "Offers are numbered 1 to 64"
+unfoldable pub offerSamples : List (Sample Offer)
+offerSamples =
+    fine noOffer ∷ wrong (offer (processorId 0) 1) ∷ wrong (offer (processorId 1) 0) ∷ fine (offer (processorId 1) 1) ∷ fine (offer (processorId 2) 64)
+    ∷ wrong (offer (processorId 3) 1) ∷ wrong (offer (processorId 2) 65) ∷ []
+
+-- letters: channels 1 to 128, desks of the rig, tasks of the rig; none is empty
+unfoldable pub messageSamples : List (Sample Message)
+messageSamples =
+    wrong Empty
+    ∷ fine (Offered (channelId 128) (offer (processorId 2) 64) (hint (processorId 1) 9999))
+    ∷ wrong (Offered (channelId 129) (offer (processorId 2) 64) (hint (processorId 1) 9999))
+    ∷ wrong (Offered (channelId 1) noOffer (hint (processorId 1) 1))
+    ∷ wrong (Offered (channelId 1) (offer (processorId 1) 1) unknown)
+    ∷ fine (Advert (channelId 1) (processorId 2) (processorId 1))
+    ∷ wrong (Advert (channelId 0) (processorId 2) (processorId 1))
+    ∷ wrong (Advert (channelId 1) (processorId 3) (processorId 1))
+    ∷ wrong (Advert (channelId 1) (processorId 2) (processorId 0))
+    ∷ fine (ReadyToReceive (channelId 1) (processorId 1) (hint (processorId 2) 1))
+    ∷ wrong (ReadyToReceive (channelId 0) (processorId 1) (hint (processorId 2) 1))
+    ∷ wrong (ReadyToReceive (channelId 1) (processorId 0) (hint (processorId 2) 1))
+    ∷ wrong (ReadyToReceive (channelId 1) (processorId 1) unknown)
+    ∷ fine (Data (channelId 1) (processorId 1) zeroWord)
+    ∷ wrong (Data (channelId 129) (processorId 1) zeroWord)
+    ∷ wrong (Data (channelId 1) (processorId 3) zeroWord)
+    ∷ fine (Terminated (processorId 1) (taskId 3))
+    ∷ wrong (Terminated (processorId 0) (taskId 3))
+    ∷ wrong (Terminated (processorId 1) (taskId 4))
+    ∷ fine (Migration (processorId 2) (taskId 1))
+    ∷ wrong (Migration (processorId 3) (taskId 1))
+    ∷ wrong (Migration (processorId 2) (taskId 0))
+    ∷ []
+
+-- a program of four instructions
+abbrev pub program : Program
+program = create 2 ∷ send 1 ∷ receive 2 ∷ finish ∷ []
+
+-- a task in a state, at a desk, at a place, with a desk of birth, a word, a move count and children
+abbrev task : TaskState → ℕ → ℕ → ℕ → Word → ℕ → ℕ → Task
+task s d pc home w n kids = record { state = s; processor = processorId d; pc = pc; home = processorId home; word = w; moves = n; children = kids }
+
+abbrev someWord : Word
+someWord = record { 0 = 1 }
+
+-- "An unborn task has desk 0, place 1, word 0, count 0"; "a moving one has desk 0"; places; last instructions; children of the rig
+unfoldable pub taskSamples : List (Sample Task)
+taskSamples =
+    fine unborn
+    ∷ wrong (task Unborn 1 1 0 zeroWord 0 0) ∷ wrong (task Unborn 0 2 0 zeroWord 0 0) ∷ wrong (task Unborn 0 1 1 zeroWord 0 0)
+    ∷ wrong (task Unborn 0 1 0 someWord 0 0) ∷ wrong (task Unborn 0 1 0 zeroWord 1 0)
+    ∷ fine (task Ready 2 4 1 someWord 9999 7)
+    ∷ wrong (task Ready 0 1 1 zeroWord 1 0) ∷ wrong (task Ready 3 1 1 zeroWord 1 0) ∷ wrong (task Ready 1 0 1 zeroWord 1 0)
+    ∷ wrong (task Ready 1 5 1 zeroWord 1 0) ∷ wrong (task Ready 1 1 0 zeroWord 1 0) ∷ wrong (task Ready 1 1 3 zeroWord 1 0)
+    ∷ wrong (task Ready 1 1 1 zeroWord 0 0) ∷ wrong (task Ready 1 1 1 zeroWord 10000 0) ∷ wrong (task Ready 1 1 1 zeroWord 1 8)
+    ∷ fine (task Waiting 1 1 1 zeroWord 1 0) ∷ wrong (task Waiting 0 1 1 zeroWord 1 0)
+    ∷ fine (task Moving 0 1 1 zeroWord 2 0) ∷ wrong (task Moving 1 1 1 zeroWord 2 0)
+    ∷ fine (task Done 1 5 1 zeroWord 1 0) ∷ wrong (task Done 1 6 1 zeroWord 1 0) ∷ wrong (task Done 0 5 1 zeroWord 1 0)
+    ∷ fine (task Sending 1 3 1 zeroWord 1 0) ∷ wrong (task Sending 1 1 1 zeroWord 1 0) ∷ wrong (task Sending 1 4 1 zeroWord 1 0)
+    ∷ fine (task Receiving 1 4 1 zeroWord 1 0) ∷ wrong (task Receiving 1 1 1 zeroWord 1 0) ∷ wrong (task Receiving 1 3 1 zeroWord 1 0)
+    ∷ []
+
+-- a rig of two desks; with another number of desks; with a cell changed at the last entry; with a record, a letter or a plan that is wrong
+unfoldable pub small : System
+small = startOn 2 ((finish ∷ []) ∷ [])
+
+abbrev onDesks : ℕ → System → System
+onDesks n r = record { processors = n; plan = r .plan; tasks = r .tasks; tables = r .tables; channels = r .channels; network = r .network }
+
+abbrev withCellBy : (Cell → Cell) → System → System
+withCellBy f r = withCell r (processorId 6) (channelId 128) (f (cellAt r (processorId 6) (channelId 128)))
+
+abbrev withUsed : ℕ → System → System
+withUsed n r = withNetwork r (record { slots = r .network .slots; used = n })
+
+abbrev withPlan : List Program → System → System
+withPlan m r = record { processors = r .processors; plan = canonical m; tasks = r .tasks; tables = r .tables; channels = r .channels; network = r .network }
+
+unfoldable pub systemSamples : List (Sample System)
+systemSamples =
+    fine small ∷ wrong (onDesks 0 small) ∷ fine (onDesks 6 small) ∷ wrong (onDesks 7 small)
+    ∷ wrong (withPlan ((sync ∷ []) ∷ []) small)
+    ∷ wrong (withTask small (taskId 1) noTask) ∷ fine (withTask small (taskId 2) noTask)
+    ∷ fine (withCellBy (λ x. withHint x (hint (processorId 2) 1)) small) ∷ wrong (withCellBy (λ x. withHint x (hint (processorId 3) 1)) small)
+    ∷ wrong (withCellBy (λ x. withHeld x (offer (processorId 2) 65)) small)
+    ∷ fine (withCellBy (λ x. withNoted x (processorId 2)) small) ∷ wrong (withCellBy (λ x. withNoted x (processorId 3)) small)
+    ∷ fine (withCellBy (λ x. withGranted x 64) small) ∷ wrong (withCellBy (λ x. withGranted x 65) small)
+    ∷ wrong (withCellBy (λ x. withCarried x (offer (processorId 0) 1)) small)
+    ∷ wrong (withCellBy (λ x. withTravelling x (hint (processorId 1) 0)) small)
+    ∷ wrong (withUsed 1 small) ∷ wrong (withUsed 257 small)
+    ∷ fine (withNetwork small (enqueued (small .network) (Migration (processorId 2) (taskId 1))))
+    ∷ wrong (withNetwork small (enqueued (small .network) (Migration (processorId 2) (taskId 2))))
+    ∷ []
