@@ -8,6 +8,7 @@ use Rattle.plan.specs.declared.ProcessorId.{ProcessorId}
 use Rattle.plan.specs.declared.ChannelId.{ChannelId}
 use Rattle.plan.specs.declared.Word.{Word as WordOf}
 use Rattle.rules.specs.declared.task.Task.{Task}
+use Rattle.rules.specs.declared.task.TaskState.the-variants.{Waiting}
 use Rattle.rules.specs.declared.channel.Hint.{Hint}
 use Rattle.rules.specs.declared.channel.Offer.{Offer}
 use Rattle.rules.specs.declared.channel.Channel.{Channel}
@@ -134,6 +135,11 @@ offer-held : offerRule (site false 3 true (withGranted empty 3)) one (offer (des
 unfolding opened-all
 offer-held = refl
 
+-- "with a larger count than the letter's": one that is not larger does not send it on
+offer-equal : offerRule (site false 3 true (withHint empty (hint (desk 3) 4))) one (offer (desk 1) 1) (hint (desk 2) 4) .posting ≡ Nothing
+unfolding opened-all
+offer-equal = refl
+
 -- "Where that isn't so, the letter is removed without effect"
 idle-call : (h : Hint) → callRule (site true 2 true empty) one (desk 2) h ≡ kept (site true 2 true empty) empty Nothing
 unfolding opened-all
@@ -155,3 +161,13 @@ elsewhere-terminated = refl
 moving-parent : finishRule (taskId 2) (born (desk 1)) (departed (born (desk 1))) .posting ≡ Letter (Terminated (desk 1) (taskId 2))
 unfolding opened-all
 moving-parent = refl
+
+-- "A parent at d loses the child from its set"; "It is ready again when the set is empty."
+child-leaves : finishRule (taskId 2) (born (desk 1)) (withState (withChild (born (desk 1)) (taskId 2)) Waiting) .parent ≡ born (desk 1)
+unfolding opened-all
+child-leaves = refl
+
+-- "Task 1 has no parent."
+root-finishes : (x p : Task) → finishRule (taskId 1) x p .posting ≡ Nothing
+unfolding opened-all
+root-finishes x p = refl

@@ -56,14 +56,16 @@ impl Task {
     pub fn birth(mut self, d: ProcessorId) -> Task
         ensures { λ r. ⌜ r ≡ born d ⌝ }
     {
-        self.processor = d;
+        let at = d;
+        self.processor = at;
         self.pc = 1;
-        self.home = d;
+        self.home = at;
         let zero = Word(0);
         self.word = zero;
         self.moves = 1;
         self.children = 0;
-        self.with_state(TaskState::Ready)
+        let ready = TaskState::Ready;
+        self.with_state(ready)
     }
 
     // "Its count goes up by one"; a count of 9,999 is refused before, by 18.
