@@ -4,3 +4,7 @@ pub mod Folds
 pub mod Slots
 pub mod Tables
 pub mod Joins
+pub mod Choices
+pub mod Maps
+pub mod Pairs
+pub mod Sets

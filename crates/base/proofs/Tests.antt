@@ -33,6 +33,11 @@ pub and-true : (a : Bool) → a && true ≡ a
 and-true true = refl
 and-true false = refl
 
+-- the first of two tests fails where both together do and the second holds
+pub first-fails : (a b : Bool) → a && b ≡ false → b ≡ true → a ≡ false
+first-fails true b h q = cc
+first-fails false b h q = refl
+
 -- a number that is within bounds is at least the lower and at most the upper
 pub within-low : (low high n : ℕ) → within low high n ≡ true → low ≤ n
 within-low low high n h = leb-true low n (and-left (leb low n) (leb n high) h)

@@ -14,8 +14,6 @@ use Rattle.rules.specs.Answers.{stepNumber}
 use Rattle.rules.specs.Steps.{step}
 use Rattle.rules.specs.StepFiles.{printed}
 use Rattle.rules.specs.Sound.{hintOk, offerOk, messageOk, taskOk, systemOk}
-use Rattle.rules.specs.Scripts.{Script, scriptHolds}
-use Rattle.rules.specs.Scenes.{scenes}
 use Rattle.rules.specs.Edges.{TextEdge, textEdges, textHolds, bytesOf, OutputEdge, outputEdges, outputHolds, StepEdge, stepEdges, stepHolds, crowded, sender, mover, family, spent}
 use Rattle.rules.specs.SoundEdges.{Sample, judged, program, hintSamples, offerSamples, messageSamples, taskSamples, small, systemSamples}
 use Rattle.rules.proofs.Opened.{opened-all}
@@ -31,10 +29,6 @@ all-outputs = refl
 all-steps : every stepHolds stepEdges ≡ true
 unfolding opened-all stepEdges crowded sender mover family spent
 all-steps = refl
-
-all-scenes : every scriptHolds scenes ≡ true
-unfolding opened-all scenes
-all-scenes = refl
 
 all-hints : every (judged (hintOk 2)) hintSamples ≡ true
 unfolding opened-all hintSamples
@@ -75,6 +69,3 @@ output-edge e k h = every-at outputHolds outputEdges k e h all-outputs
 pub step-edge : (e : StepEdge) (k : ℕ) → k < length stepEdges
     → stepNumber (step (getD stepEdges k e .system) (getD stepEdges k e .step) .report .answer) ≡ getD stepEdges k e .number
 step-edge e k h = eqb-true _ _ (every-at stepHolds stepEdges k e h all-steps)
-
-pub scene : (e : Script) (k : ℕ) → k < length scenes → scriptHolds (getD scenes k e) ≡ true
-scene e k h = every-at scriptHolds scenes k e h all-scenes

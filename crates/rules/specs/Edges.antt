@@ -105,11 +105,7 @@ shortText = 49 ∷ 32 ∷ 49 ∷ 52 ∷ 10 ∷ endText
 unfoldable pub outputEdges : List OutputEdge
 outputEdges =
     outputEdge 2 (bytesOf (deliver 0 ∷ [])) 15 0 (shortText ++ nines 2)
-    ∷ outputEdge 2 (bytesOf (deliver 0 ∷ [])) 13 0 shortText
     ∷ outputEdge 2 (bytesOf (deliver 0 ∷ [])) 12 20 (49 ∷ 32 ∷ 49 ∷ 52 ∷ 10 ∷ nines 7)
-    ∷ outputEdge 2 (bytesOf (deliver 0 ∷ [])) 5 20 (49 ∷ 32 ∷ 49 ∷ 52 ∷ 10 ∷ [])
-    ∷ outputEdge 2 (bytesOf (deliver 0 ∷ [])) 4 20 (nines 4)
-    ∷ outputEdge 2 [] 0 20 []
     ∷ outputEdge 2 (1 ∷ 1 ∷ 0 ∷ []) 9 8 (nines 9)
     ∷ outputEdge 0 (1 ∷ 1 ∷ 0 ∷ []) 9 1 (nines 9)
     ∷ []

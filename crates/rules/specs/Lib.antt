@@ -22,6 +22,6 @@ pub mod Steps
 pub mod Trace
 pub mod StepFiles
 pub mod Scripts
-pub mod Scenes
 pub mod Edges
 pub mod SoundEdges
+pub mod Sites

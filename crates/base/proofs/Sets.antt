@@ -1,0 +1,143 @@
+-- Laws of sets in the bits of a number: a number that was put in is a member, one that was taken out is none, the others stay as they were,
+-- and a set of numbers up to m stays below 2 ^ m.
+use mathlib.Core.Path.{_≡_, refl, sym, _∙_, ap}
+use mathlib.Core.Bool.{true, false}
+use mathlib.Core.Logic.{_≢_, by-cases}
+use Prim.Native.Nat.{ℕ, zero, suc, _+_, _-_, _*_, _/_, _%_, _^_, _<_, _≤_}
+use native.Mathlib.Nat.{add-div-right, add-mul-div-right, zero-div, div-lt-iff-lt-mul, div-eq-of-lt}
+use native.Mathlib.Omega.{arith}
+use native.Mathlib.Decide.{decLt}
+use lib.Pow.{pow-add, pow-pos, shr-shr}
+use lib.Dec.{eqb}
+use borrow.Author.Tests.{eqb-true, eqb-false, eq-eqb, ne-eqb}
+use Rattle.base.specs.Sets.{member, inserted, removed}
+use Rattle.base.proofs.Choices.{pick-cases}
+
+-- bit k of s
+abbrev bit : ℕ → ℕ → ℕ
+bit k s = s / 2 ^ k % 2
+
+module _ (s : ℕ) where
+  -- a power of two added: its own place, and a place i + 1 below and above
+  quotient : (k : ℕ) → (s + 2 ^ k) / 2 ^ k ≡ s / 2 ^ k + 1
+  quotient k = add-div-right s (pow-pos k)
+
+  bit-below : (i j : ℕ) → bit j (s + 2 ^ (suc i + j)) ≡ bit j s
+  bit-below i j =
+      let e : (s + 2 ^ suc i * 2 ^ j) / 2 ^ j ≡ s / 2 ^ j + 2 ^ suc i = add-mul-div-right s (2 ^ suc i) (pow-pos j) in
+      rw (pow-add 2 (suc i) j, e) (omega arith)
+
+  half : (k : ℕ) → bit k s ≡ 0 → (s + 2 ^ k) / 2 ^ (k + 1) ≡ s / 2 ^ (k + 1)
+  half k h =
+      let e : (s / 2 ^ k + 1) / 2 ≡ s / 2 ^ k / 2 = omega arith in
+      sym (shr-shr (s + 2 ^ k) k 1) ∙ rw (quotient k) e ∙ shr-shr s k 1
+
+  bit-above : (k i : ℕ) → bit k s ≡ 0 → bit (k + 1 + i) (s + 2 ^ k) ≡ bit (k + 1 + i) s
+  bit-above k i h = rw (← shr-shr (s + 2 ^ k) (k + 1) i, ← shr-shr s (k + 1) i, half k h) refl
+
+  bit-same : (k : ℕ) → bit k s ≡ 0 → bit k (s + 2 ^ k) ≡ 1
+  bit-same k h = rw (quotient k) (omega arith)
+
+  bit-other : (k j : ℕ) → bit k s ≡ 0 → j ≢ k → bit j (s + 2 ^ k) ≡ bit j s
+  bit-other k j h ne =
+      by-cases
+      (decLt j k)
+      (λ l. let e : suc (k - suc j) + j ≡ k = omega arith in rw e at (bit-below (k - suc j) j))
+      (λ l. let e : k + 1 + (j - suc k) ≡ j = omega arith in rw e at (bit-above k (j - suc k) h))
+
+  bit-room : (i k : ℕ) → bit k s ≡ 0 → s < 2 ^ (suc i + k) → s + 2 ^ k < 2 ^ (suc i + k)
+  bit-room i k h l =
+      let p = pow-add 2 (suc i) k in
+      let a : s / 2 ^ k < 2 ^ suc i = div-lt-iff-lt-mul (pow-pos k) .1 (rw p at l) in
+      let b : (s + 2 ^ k) / 2 ^ k < 2 ^ suc i = rw (quotient k) (omega arith) in
+      rw p (div-lt-iff-lt-mul (pow-pos k) .0 b)
+
+  -- a power of two that is there: the rest lacks it
+  bit-low : (k : ℕ) → bit k s ≡ 1 → 2 ^ k ≤ s
+  bit-low k h = by-cases (decLt s (2 ^ k)) (λ l. absurd (omega (arith, div-eq-of-lt l))) (λ l. omega arith)
+
+-- a member by its bit, and the other way round
+zero-bit : (t s : ℕ) → member t s ≡ false → bit (t - 1) s ≡ 0
+unfolding member
+zero-bit t s h = omega (arith, eqb-false (bit (t - 1) s) 1 h)
+
+one-bit : (t s : ℕ) → member t s ≡ true → bit (t - 1) s ≡ 1
+unfolding member
+one-bit t s h = eqb-true (bit (t - 1) s) 1 h
+
+is-member : (t s : ℕ) → bit (t - 1) s ≡ 1 → member t s ≡ true
+unfolding member
+is-member t s h = eq-eqb (bit (t - 1) s) 1 h
+
+not-member : (t s : ℕ) → bit (t - 1) s ≡ 0 → member t s ≡ false
+unfolding member
+not-member t s h = ne-eqb (bit (t - 1) s) 1 (λ z. omega arith)
+
+same-bit : (t s x : ℕ) → bit (t - 1) s ≡ bit (t - 1) x → member t s ≡ member t x
+unfolding member
+same-bit t s x e = ap (λ (b : ℕ). eqb b 1) e
+
+-- what is left, and the number taken out
+module _ (t s : ℕ) (h : member t s ≡ true) where
+  whole : (s - 2 ^ (t - 1)) + 2 ^ (t - 1) ≡ s
+  whole = omega (arith, bit-low s (t - 1) (one-bit t s h))
+
+  rest-bit : bit (t - 1) (s - 2 ^ (t - 1)) ≡ 0
+  rest-bit =
+      let q = quotient (s - 2 ^ (t - 1)) (t - 1) in
+      let e : s / 2 ^ (t - 1) ≡ (s - 2 ^ (t - 1)) / 2 ^ (t - 1) + 1 = rw whole at q in
+      omega (arith, one-bit t s h)
+
+module _ (t s : ℕ) where
+  pub member-inserted : member t (inserted t s) ≡ true
+  unfolding inserted
+  member-inserted =
+      pick-cases (λ x. member t x ≡ true) (member t s) s (s + 2 ^ (t - 1)) (λ e. e)
+      (λ e. is-member t (s + 2 ^ (t - 1)) (bit-same s (t - 1) (zero-bit t s e)))
+
+  pub member-removed : member t (removed t s) ≡ false
+  unfolding removed
+  member-removed =
+      pick-cases (λ x. member t x ≡ false) (member t s) (s - 2 ^ (t - 1)) s
+      (λ e. not-member t (s - 2 ^ (t - 1)) (rest-bit t s e))
+      (λ e. e)
+
+  module _ (u : ℕ) (some : 1 ≤ t) (other : 1 ≤ u) (ne : t ≢ u) where
+    pub other-inserted : member u (inserted t s) ≡ member u s
+    unfolding inserted
+    other-inserted =
+        pick-cases (λ x. member u x ≡ member u s) (member t s) s (s + 2 ^ (t - 1)) (λ e. refl)
+        (λ e. same-bit u (s + 2 ^ (t - 1)) s (bit-other s (t - 1) (u - 1) (zero-bit t s e) (λ z. ne (omega arith))))
+
+    pub other-removed : member u (removed t s) ≡ member u s
+    unfolding removed
+    other-removed =
+        pick-cases (λ x. member u x ≡ member u s) (member t s) (s - 2 ^ (t - 1)) s
+        (λ e.
+        let b = bit-other (s - 2 ^ (t - 1)) (t - 1) (u - 1) (rest-bit t s e) (λ z. ne (omega arith)) in
+        same-bit u (s - 2 ^ (t - 1)) s (sym (rw (whole t s e) at b)))
+        (λ e. refl)
+
+  pub inserted-below : (m : ℕ) → 1 ≤ t → t ≤ m → s < 2 ^ m → inserted t s < 2 ^ m
+  unfolding inserted
+  inserted-below m some few l =
+      let n : suc (m - t) + (t - 1) ≡ m = omega arith in
+      pick-cases (λ x. x < 2 ^ m) (member t s) s (s + 2 ^ (t - 1)) (λ e. l) (λ e. rw n at (bit-room s (m - t) (t - 1) (zero-bit t s e) (rw n l)))
+
+  pub removed-at-most : removed t s ≤ s
+  unfolding removed
+  removed-at-most = pick-cases (λ x. x ≤ s) (member t s) (s - 2 ^ (t - 1)) s (λ e. omega arith) (λ e. omega arith)
+
+-- the empty set
+pub none-member : (t : ℕ) → member t 0 ≡ false
+unfolding member
+none-member t = rw (zero-div (2 ^ (t - 1))) refl
+
+pub no-member : (m s : ℕ) → s < 2 ^ m → ((t : ℕ) → 1 ≤ t → t ≤ m → member t s ≡ false) → s ≡ 0
+no-member zero s l h = omega arith
+no-member (suc m) s l h =
+    let e : suc m - 1 ≡ m = omega arith in
+    let b : bit m s ≡ 0 = rw e at (zero-bit (suc m) s (h (suc m) (omega arith) (omega arith))) in
+    let q : s / 2 ^ m < 2 = div-lt-iff-lt-mul (pow-pos m) .1 (omega arith) in
+    let z : s < 1 * 2 ^ m = div-lt-iff-lt-mul (pow-pos m) .0 (omega arith) in
+    no-member m s (omega arith) (λ t p r. h t p (omega arith))

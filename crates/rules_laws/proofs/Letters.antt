@@ -1,0 +1,87 @@
+-- The mail as a list of letters: those that join it stand at its end, in order, and one that is taken leaves no gap.
+use mathlib.Core.Path.{_≡_, refl, sym, _∙_, ap}
+use mathlib.Core.List.{List, [], _∷_, _++_, map-append, append-assoc, append-nil}
+use Prim.Native.Nat.{ℕ, suc, _+_, _-_, _≤_, _<_}
+use native.Mathlib.Numerals.{add-one}
+use native.Mathlib.Omega.{arith}
+use lib.ListN.{length, getD, take, drop, length-append, length-take, length-drop, length-set, length-map, List·getD-map}
+use lib.Seq.{length-take-le, take-suc-set, take-at, take-take, split-at, getD-take}
+use Rattle.base.proofs.Maps.{map-take, map-drop}
+use Rattle.rules.specs.declared.message.Message.{Message}
+use Rattle.rules.specs.declared.message.Message.the-variants.{Empty}
+use Rattle.rules.specs.declared.message.Slot.{Slot}
+use Rattle.rules.specs.declared.message.Network.{Network}
+use Rattle.rules.specs.Networks.{slot, noSlot, letters, letterAt, enqueued, enqueuedAll, dequeued}
+
+abbrev inSlot : Slot → Message
+inSlot s = s .message
+
+pub length-letters : (n : Network) → n .used ≤ length (n .slots) → length (letters n) ≡ n .used
+unfolding letters
+length-letters n h = length-map (take (n .used) (n .slots)) inSlot ∙ length-take-le (n .used) (n .slots) h
+
+-- letters that join
+module _ (n : Network) (m : Message) where
+  pub enqueued-used : enqueued n m .used ≡ n .used + 1
+  unfolding enqueued
+  enqueued-used = refl
+
+  pub enqueued-size : length (enqueued n m .slots) ≡ length (n .slots)
+  unfolding enqueued
+  enqueued-size = length-set (n .slots) (n .used) (slot m)
+
+  pub letters-enqueued : n .used < length (n .slots) → letters (enqueued n m) ≡ letters n ++ (m ∷ [])
+  unfolding letters enqueued
+  letters-enqueued h = rw (add-one (n .used), take-suc-set (n .slots) (n .used) (slot m) h) (map-append inSlot (take (n .used) (n .slots)) (slot m ∷ []))
+
+pub enqueuedAll-used : (n : Network) (ms : List Message) → enqueuedAll n ms .used ≡ n .used + length ms
+unfolding enqueuedAll
+enqueuedAll-used n [] = omega arith
+enqueuedAll-used n (m ∷ ms) = enqueuedAll-used (enqueued n m) ms ∙ rw (enqueued-used n m) (omega arith)
+
+pub enqueuedAll-size : (n : Network) (ms : List Message) → length (enqueuedAll n ms .slots) ≡ length (n .slots)
+unfolding enqueuedAll
+enqueuedAll-size n [] = refl
+enqueuedAll-size n (m ∷ ms) = enqueuedAll-size (enqueued n m) ms ∙ enqueued-size n m
+
+pub letters-enqueuedAll : (n : Network) (ms : List Message) → n .used + length ms ≤ length (n .slots) → letters (enqueuedAll n ms) ≡ letters n ++ ms
+unfolding enqueuedAll
+letters-enqueuedAll n [] h = sym (append-nil (letters n))
+letters-enqueuedAll n (m ∷ ms) h =
+    letters-enqueuedAll (enqueued n m) ms (omega (arith, enqueued-used n m, enqueued-size n m))
+    ∙ rw (letters-enqueued n m (omega arith), append-assoc) refl
+
+-- the letter at position p, and the mail without it
+pub dequeued-used : (n : Network) (p : ℕ) → dequeued n p .used ≡ n .used - 1
+unfolding dequeued
+dequeued-used n p = refl
+
+module _ (n : Network) (p : ℕ) (some : 1 ≤ p) (there : p ≤ n .used) where
+  pub letterAt-letters : letterAt n p ≡ getD (letters n) (p - 1) Empty
+  unfolding letters letterAt
+  letterAt-letters = sym (List·getD-map inSlot (take (n .used) (n .slots)) (p - 1) noSlot ∙ ap inSlot (getD-take (n .used) (n .slots) (p - 1) noSlot (omega arith)))
+
+  abbrev front : List Slot
+  front = take (p - 1) (n .slots) ++ drop p (take (n .used) (n .slots))
+
+  module _ (room : n .used ≤ length (n .slots)) where
+    pub letters-split : letters n ≡ take (p - 1) (letters n) ++ (letterAt n p ∷ drop p (letters n))
+    letters-split =
+        let e : suc (p - 1) ≡ p = omega arith in
+        let s = split-at (letters n) (p - 1) Empty (omega (arith, length-letters n room)) in
+        rw letterAt-letters (rw e at s)
+
+    length-front : length front ≡ n .used - 1
+    length-front = simp (length-append, length-take, length-drop) (omega arith)
+
+    pub dequeued-size : length (dequeued n p .slots) ≡ length (n .slots)
+    unfolding dequeued
+    dequeued-size = simp (length-append, length-take, length-drop) (omega arith)
+
+    pub letters-dequeued : letters (dequeued n p) ≡ take (p - 1) (letters n) ++ drop p (letters n)
+    unfolding letters dequeued
+    letters-dequeued =
+        let u = take (n .used) (n .slots) in
+        let rest = noSlot ∷ drop (n .used) (n .slots) in
+        rw (← append-assoc (take (p - 1) (n .slots)) (drop p u) rest, take-at front rest (n .used - 1) length-front, map-append inSlot)
+        (rw (← take-take (p - 1) (n .used) (n .slots) (omega arith), map-take inSlot (p - 1) u, map-drop inSlot p u) refl)

@@ -1,0 +1,10 @@
+-- The laws of the rules: what is read and written, the mail, steps, what each step keeps.
+pub mod TaskAt
+pub mod CellAt
+pub mod ForChannels
+pub mod Letters
+pub mod Steps
+pub mod Sound
+pub mod StepKinds
+pub mod Changes
+pub mod Shapes

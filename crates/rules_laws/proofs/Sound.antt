@@ -1,0 +1,57 @@
+-- What it says of a rig that 9 does not refuse it, part by part, and the other way round.
+use mathlib.Core.Path.{_≡_}
+use mathlib.Core.Bool.{Bool, true}
+use Prim.Native.Nat.{ℕ, _≤_}
+use lib.Dec.{leb}
+use borrow.Author.Tests.{leb-true}
+use Rattle.base.specs.Choice.{within}
+use Rattle.base.specs.Range.{upTo}
+use Rattle.base.proofs.Tests.{and-left, and-right, and-both}
+use Rattle.plan.specs.Answers.{isAccepted}
+use Rattle.plan.specs.Refusals.{planAnswer}
+use Rattle.rules.specs.declared.system.System.{System}
+use Rattle.rules.specs.Numbers.{taskId}
+use Rattle.rules.specs.Systems.{taskAt, programOf, meaning}
+use Rattle.rules.specs.Sound.{taskOk, tablesOk, channelsOk, networkOk, systemOk}
+
+-- task t is in order
+abbrev pub taskOkIn : System → ℕ → Bool
+taskOkIn r t = taskOk (r .processors) (r .plan .tasks) (programOf r (taskId t)) (taskAt r (taskId t))
+
+pub record SystemPassed (r : System) : Type 0 where
+  pub processors : within 1 6 (r .processors) ≡ true
+  pub plan : isAccepted (planAnswer (meaning r)) ≡ true
+  pub tasks : upTo (r .plan .tasks) (taskOkIn r) ≡ true
+  pub tables : tablesOk (r .processors) (r .tables) ≡ true
+  pub channels : channelsOk (r .processors) (r .channels) ≡ true
+  pub network : networkOk (r .processors) (r .plan .tasks) (r .network) ≡ true
+
+pub system-passed : (r : System) → systemOk r ≡ true → SystemPassed r
+unfolding systemOk
+system-passed r h =
+    let h₁ = and-right (within 1 6 (r .processors)) _ h in
+    let h₂ = and-right (isAccepted (planAnswer (meaning r))) _ h₁ in
+    let h₃ = and-right (upTo (r .plan .tasks) (taskOkIn r)) _ h₂ in
+    let h₄ = and-right (tablesOk (r .processors) (r .tables)) _ h₃ in
+    record {
+      processors = and-left (within 1 6 (r .processors)) _ h;
+      plan = and-left (isAccepted (planAnswer (meaning r))) _ h₁;
+      tasks = and-left (upTo (r .plan .tasks) (taskOkIn r)) _ h₂;
+      tables = and-left (tablesOk (r .processors) (r .tables)) _ h₃;
+      channels = and-left (channelsOk (r .processors) (r .channels)) _ h₄;
+      network = and-right (channelsOk (r .processors) (r .channels)) _ h₄;
+    }
+
+pub system-ok : (r : System) → SystemPassed r → systemOk r ≡ true
+unfolding systemOk
+system-ok r h =
+    and-both (within 1 6 (r .processors)) _ (h .processors)
+    (and-both (isAccepted (planAnswer (meaning r))) _ (h .plan)
+    (and-both (upTo (r .plan .tasks) (taskOkIn r)) _ (h .tasks)
+    (and-both (tablesOk (r .processors) (r .tables)) _ (h .tables)
+    (and-both (channelsOk (r .processors) (r .channels)) _ (h .channels) (h .network)))))
+
+-- "256 letters in the mail"
+pub letters-fit : (r : System) → systemOk r ≡ true → r .network .used ≤ 256
+unfolding networkOk
+letters-fit r h = leb-true (r .network .used) 256 (and-left (leb (r .network .used) 256) _ (system-passed r h .network))

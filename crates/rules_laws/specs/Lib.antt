@@ -1,0 +1,2 @@
+-- What the laws of the rules are stated with.
+pub mod Shapes

@@ -1,0 +1,1 @@
+// The laws of the rules, as definitions and theorems: see specs/ and proofs/.

@@ -1,0 +1,2 @@
+-- Each run has its trace.
+pub mod Scenes

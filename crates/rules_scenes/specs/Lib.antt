@@ -1,0 +1,2 @@
+-- Runs of the rig with their traces.
+pub mod Scenes

@@ -1,0 +1,1 @@
+// Runs of the rig with their traces; see specs/Scenes.

@@ -1,0 +1,34 @@
+-- A birth at a desk of the rig leaves it standing.
+use mathlib.Core.Path.{_≡_, refl}
+use mathlib.Core.Bool.{true}
+use Prim.Native.Nat.{ℕ, _≤_}
+use native.Mathlib.Omega.{arith}
+use lib.Pow.{pow-pos}
+use Rattle.base.proofs.Tests.{and-both, within-low, within-high}
+use Rattle.plan.specs.declared.Plan.{Plan}
+use Rattle.plan.specs.declared.TaskId.{TaskId}
+use Rattle.plan.specs.declared.ProcessorId.{ProcessorId}
+use Rattle.rules.specs.declared.message.Network.{Network}
+use Rattle.rules.specs.declared.system.System.{System}
+use Rattle.rules.specs.Tasks.{born}
+use Rattle.rules.specs.Systems.{withTask}
+use Rattle.rules.specs.Starts.{located, birth}
+use Rattle.rules.specs.Sound.{processorOk}
+use Rattle.rules_sound.specs.Sound.{programIn, Startable}
+use Rattle.rules_sound.specs.Stands.{Stands}
+use Rattle.rules_sound.proofs.LifeRules.{birth-ok}
+use Rattle.rules_sound.proofs.ChannelRules.{located-fine}
+use Rattle.rules_sound.proofs.Rigs.{task-stands, receiving-stands}
+use Rattle.rules_sound.proofs.Frames.{tasks-few, program-in}
+
+pub birth-stands : (n : ℕ) (p : Plan) (k : Network) → Startable n p → (r : System) → Stands n p k r
+    → (t : TaskId) → t .0 ≤ p .tasks → (d : ProcessorId) → processorOk n d ≡ true
+    → Stands n p k (birth r t d)
+unfolding birth
+birth-stands n p k s r w t h d o =
+    let q = withTask r t (born d) in
+    let low = within-low 1 n (d .0) o in
+    let high = within-high 1 n (d .0) o in
+    let known = and-both (processorOk n d) _ o refl in
+    receiving-stands n p k (located d 1) (λ x f. located-fine n x f d 1 known) d low (omega (arith, s .few)) t q
+    (task-stands n p k r w (tasks-few n p s) t (born d) (λ l. birth-ok n (p .tasks) (programIn p t) d o (pow-pos (p .tasks)) (program-in n p s t l h .some)))

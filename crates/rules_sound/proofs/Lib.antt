@@ -1,0 +1,27 @@
+-- An accepted step leaves a rig that 9 does not refuse.
+pub mod Cells
+pub mod ChannelRules
+pub mod Born
+pub mod Settled
+pub mod TaskRules
+pub mod LifeRules
+pub mod Postings
+pub mod SendRule
+pub mod ReceiveRule
+pub mod DeliverRules
+pub mod FinishRule
+pub mod Programs
+pub mod Frames
+pub mod Rigs
+pub mod Sites
+pub mod Births
+pub mod ChannelRuns
+pub mod Runs
+pub mod Moves
+pub mod Deliveries
+pub mod Mail
+pub mod Entries
+pub mod Sound
+pub mod Answers
+pub mod Kept
+pub mod Starts

@@ -1,0 +1,95 @@
+-- What an accepted plan says of one instruction of one of its programs; the tasks that use a channel; the number of a send.
+use mathlib.Core.Path.{_≡_, refl}
+use mathlib.Core.Bool.{Bool, true, false, not}
+use mathlib.Core.List.{List, [], _∷_}
+use Prim.Native.Nat.{ℕ, zero, suc, _≤_, _<_}
+use native.Mathlib.Omega.{arith}
+use lib.Dec.{leb}
+use lib.ListN.{length}
+use borrow.Author.Tests.{leb-true, le-leb}
+use Rattle.base.specs.Choice.{pick, within}
+use Rattle.base.specs.Range.{fold}
+use Rattle.base.specs.Lists.{every}
+use Rattle.base.proofs.Choices.{pick-cases, pick-either}
+use Rattle.base.proofs.Tests.{and-left, and-right, every-at}
+use Rattle.plan.specs.declared.PlanAnswer.the-variants.{Accepted}
+use Rattle.plan.specs.declared.ChannelId.{ChannelId}
+use Rattle.plan.specs.declared.Instruction.{Instruction}
+use Rattle.plan.specs.declared.Refusal.the-variants.{BadFinish}
+use Rattle.plan.specs.Kinds.{opCreate, opSend, opReceive, isFinish, isUse, noInstruction}
+use Rattle.plan.specs.Programs.{Program, Programs, programAt, instructionAt}
+use Rattle.plan.specs.Users.{usesIn, users, firstOf}
+use Rattle.plan.specs.Refusals.{instructionOk, instructionsOk, finishOk, finishesOk, structureAnswer, planAnswer}
+use Rattle.plan_laws.proofs.Answers.{unless-accepted, InRange, sized, plan-passed}
+use Rattle.plan_laws.proofs.Sums.{sum-at-most}
+use Rattle.rules.specs.Places.{sendNumber}
+use Rattle.base.proofs.Joins.{every-joined}
+
+-- an instruction that is no finish is not the last of a program that ends in its only one
+not-last : (g : Program) (i : ℕ) → finishOk g ≡ true → i < length g → isFinish (instructionAt g i) ≡ false → suc i < length g
+unfolding finishOk
+not-last [] i h l e = absurd (omega arith)
+not-last (x ∷ []) zero h l e = let z : _≡_ {A = ℕ} 0 1 = cc in absurd (omega arith)
+not-last (x ∷ []) (suc i) h l e = absurd (omega arith)
+not-last (x ∷ y ∷ g) zero h l e = omega arith
+not-last (x ∷ y ∷ g) (suc i) h l e = omega (arith, not-last (y ∷ g) i (and-right (not (isFinish x)) (finishOk (y ∷ g)) h) (omega arith) e)
+
+-- program k of an accepted plan, from 0
+module _ (m : Programs) (a : planAnswer m ≡ Accepted) (k : ℕ) (h : k < length m) where
+  pub program-size : InRange (length (programAt m k))
+  program-size = sized m (plan-passed m a .sizes) .counts k h
+
+  module _ (i : ℕ) (l : i < length (programAt m k)) where
+    pub instruction-fine : instructionOk (length m) (instructionAt (programAt m k) i) ≡ true
+    unfolding instructionsOk
+    instruction-fine = every-at _ (programAt m k) i noInstruction l (every-at _ m k [] h (plan-passed m a .instructions))
+
+    pub more-after : isFinish (instructionAt (programAt m k) i) ≡ false → suc i < length (programAt m k)
+    unfolding structureAnswer finishesOk
+    more-after e =
+        let (f, rest) = unless-accepted (finishesOk m) BadFinish _ (plan-passed m a .structure) in
+        not-last (programAt m k) i (every-at finishOk m k [] h f) l e
+
+-- the arguments of a create, and of a send or a receive
+module _ (n : ℕ) (i : Instruction) (h : instructionOk n i ≡ true) where
+  pub create-operand : i .opcode ≡ opCreate → within 2 n (i .operand) ≡ true
+  unfolding instructionOk
+  create-operand e = rw e at h
+
+  pub send-operand : i .opcode ≡ opSend → within 1 128 (i .operand) ≡ true
+  unfolding instructionOk
+  send-operand e = rw e at h
+
+  pub receive-operand : i .opcode ≡ opReceive → within 1 128 (i .operand) ≡ true
+  unfolding instructionOk
+  receive-operand e = rw e at h
+
+-- the first of the tasks that have such an instruction is none or one of the plan
+first-few : (b : ℕ) (l : List ℕ) → every (λ t. leb t b) l ≡ true → firstOf l ≤ b
+unfolding every
+first-few b [] h = omega arith
+first-few b (t ∷ l) h = leb-true t b (and-left (leb t b) _ h)
+
+pub user-few : (m : Programs) (k a : ℕ) → firstOf (users m k a) ≤ length m
+unfolding users every
+user-few m k a =
+    first-few (length m) (users m k a)
+    (every-joined (λ t. leb t (length m)) (length m) (λ j. usesIn k a (suc j) (programAt m j))
+    (λ j h.
+    every-joined (λ t. leb t (length m)) (length (programAt m j)) _
+    (λ i q.
+    pick-cases (λ l. every (λ t. leb t (length m)) l ≡ true) (isUse k a (instructionAt (programAt m j) i)) (suc j ∷ []) []
+    (λ e. rw (le-leb (suc j) (length m) h) refl)
+    (λ e. refl))))
+
+-- the number of a send
+module _ (g : Program) (c : ChannelId) where
+  pub send-few : (n : ℕ) → sendNumber g c n ≤ n
+  unfolding sendNumber
+  send-few n =
+      let sends : ℕ → Bool = λ i. isUse opSend (c .0) (instructionAt g i) in
+      omega (arith, sum-at-most 1 n (λ i. pick (sends i) 1 0) (λ i h. pick-either (λ w. w ≤ 1) (sends i) 1 0 (omega arith) (omega arith)))
+
+  pub send-some : (n : ℕ) → isUse opSend (c .0) (instructionAt g n) ≡ true → 1 ≤ sendNumber g c (suc n)
+  unfolding sendNumber fold
+  send-some n e = rw e (omega arith)

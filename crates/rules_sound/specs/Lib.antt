@@ -1,0 +1,6 @@
+-- What it is for a rig, or a part of one, not to be refused by 9.
+pub mod Fine
+pub mod Settled
+pub mod Sites
+pub mod Sound
+pub mod Stands

@@ -1,0 +1,45 @@
+-- A rig that 9 does not refuse: by fields, what the test says of each task, of each desk and channel, and of the mail.
+use mathlib.Core.Path.{_≡_}
+use mathlib.Core.Bool.{true}
+use Prim.Native.Nat.{ℕ, _-_, _≤_}
+use Rattle.base.specs.Lists.{every}
+use Rattle.plan.specs.declared.Plan.{Plan}
+use Rattle.plan.specs.declared.TaskId.{TaskId}
+use Rattle.plan.specs.declared.ProcessorId.{ProcessorId}
+use Rattle.plan.specs.declared.ChannelId.{ChannelId}
+use Rattle.plan.specs.declared.PlanAnswer.the-variants.{Accepted}
+use Rattle.plan.specs.Programs.{Program, programAt, programs}
+use Rattle.plan.specs.Refusals.{planAnswer}
+use Rattle.rules.specs.declared.message.Network.{Network}
+use Rattle.rules.specs.declared.system.System.{System}
+use Rattle.rules.specs.Networks.{letters}
+use Rattle.rules.specs.Systems.{taskAt, entryAt, channelAt}
+use Rattle.rules.specs.Sound.{taskOk, messageOk}
+use Rattle.rules_sound.specs.Fine.{FineEntry, FineChannel}
+
+-- the program of task t of a plan value
+abbrev pub programIn : Plan → TaskId → Program
+programIn p t = programAt (programs p) (t .0 - 1)
+
+-- the tasks, tables and channels of a rig of n desks with the plan p
+pub record Holds (n : ℕ) (p : Plan) (r : System) : Type 0 where
+  pub tasks : (t : TaskId) → 1 ≤ t .0 → t .0 ≤ p .tasks → taskOk n (p .tasks) (programIn p t) (taskAt r t) ≡ true
+  pub entries : (d : ProcessorId) (c : ChannelId) → 1 ≤ d .0 → d .0 ≤ 6 → 1 ≤ c .0 → c .0 ≤ 128 → FineEntry n (entryAt r d c)
+  pub channels : (c : ChannelId) → 1 ≤ c .0 → c .0 ≤ 128 → FineChannel n (channelAt r c)
+
+-- the mail of such a rig
+pub record HoldsMail (n : ℕ) (p : Plan) (k : Network) : Type 0 where
+  pub letters : every (messageOk n (p .tasks)) (letters k) ≡ true
+  pub used : k .used ≤ 256
+
+-- a number of desks and a plan of which there can be a rig
+pub record Startable (n : ℕ) (p : Plan) : Type 0 where
+  pub some : 1 ≤ n
+  pub few : n ≤ 6
+  pub plan : planAnswer (programs p) ≡ Accepted
+
+-- the whole rig
+pub record Sound (r : System) : Type 0 where
+  pub frame : Startable (r .processors) (r .plan)
+  pub rig : Holds (r .processors) (r .plan) r
+  pub mail : HoldsMail (r .processors) (r .plan) (r .network)
