@@ -5,8 +5,8 @@ use Prim.Native.Nat.{ℕ, zero, suc, _+_}
 
 -- ((e ∘ f 0) ∘ f 1) ∘ .. ∘ f (n - 1)
 unfoldable pub fold : {A : Type 0} → (A → A → A) → A → ℕ → (ℕ → A) → A
-fold _∘_ e zero f = e
-fold _∘_ e (suc n) f = _∘_ (fold _∘_ e n f) (f n)
+fold op e zero f = e
+fold op e (suc n) f = op (fold op e n f) (f n)
 
 -- p holds of each number below n
 abbrev pub below : ℕ → (ℕ → Bool) → Bool

@@ -27,7 +27,7 @@ file b n = record { desks = 1; file = b; number = n }
 abbrev plan : Programs → ℕ → Edge
 plan m n = file (layout m) n
 
-abbrev does : ℕ → ℕ → Instruction
+abbrev pub does : ℕ → ℕ → Instruction
 does k a = record { opcode = k; operand = a }
 
 abbrev end : Instruction

@@ -21,7 +21,7 @@ programAt m k = getD m k []
 abbrev pub instructionAt : Program → ℕ → Instruction
 instructionAt g i = getD g i noInstruction
 
--- the instruction in slot s of a plan value; "64 tasks of 64 instructions": task k + 1's instruction i + 1 is in slot 64 k + i
+-- the instruction in slot s of a plan value; 64 tasks of 64 instructions: task k + 1's instruction i + 1 is in slot 64 k + i
 abbrev pub slotOf : Plan → ℕ → Instruction
 slotOf p s = record { opcode = getD (p .opcodes) s 0; operand = getD (p .operands) s 0 }
 

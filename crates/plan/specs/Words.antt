@@ -4,17 +4,20 @@ use Prim.Native.Nat.{ℕ, _+_, _%_}
 use Rattle.plan.specs.declared.Instruction.{Instruction}
 use Rattle.plan.specs.declared.Word.{Word}
 
--- "a word (0 at birth)"
+-- the word of a number; "a word (0 at birth)"
+abbrev pub wordOf : ℕ → Word
+wordOf n = record { 0 = n }
+
 abbrev pub zeroWord : Word
-zeroWord = record { 0 = 0 }
+zeroWord = wordOf 0
 
 -- "Set stores the task's word": the word w after the set instruction i
 unfoldable pub setWord : Word → Instruction → Word
-setWord w i = record { 0 = i .operand }
+setWord w i = wordOf (i .operand)
 
 -- "add is taken modulo 65,536": the word w after the add instruction i
 unfoldable pub addWord : Word → Instruction → Word
-addWord w i = record { 0 = (w .0 + i .operand) % 65536 }
+addWord w i = wordOf ((w .0 + i .operand) % 65536)
 
 -- the numbers that stand for a word in a trace line
 abbrev pub wordNumbers : Word → List ℕ

@@ -1,6 +1,6 @@
 -- Each edge holds: a test of each list, by computation, and one lemma, `every-at`, that takes it to each entry.
 use mathlib.Core.Path.{_≡_, refl}
-use mathlib.Core.Bool.{Bool, true, false≢true}
+use mathlib.Core.Bool.{true, false≢true}
 use mathlib.Core.List.{List, [], _∷_}
 use Prim.Native.Nat.{ℕ, _<_}
 use lib.ListN.{length, getD}
@@ -9,45 +9,44 @@ use borrow.Author.Tests.{eqb-true}
 use Rattle.base.specs.Lists.{every}
 use Rattle.base.proofs.Tests.{every-at, and-left, and-right}
 use Rattle.plan.specs.WriteEdges.{sameBytes}
-use Rattle.rules.specs.declared.step.Report.{Report}
 use Rattle.rules.specs.Answers.{stepNumber}
 use Rattle.rules.specs.Steps.{step}
 use Rattle.rules.specs.StepFiles.{printed}
 use Rattle.rules.specs.Sound.{hintOk, offerOk, messageOk, taskOk, systemOk}
 use Rattle.rules.specs.Edges.{TextEdge, textEdges, textHolds, bytesOf, OutputEdge, outputEdges, outputHolds, StepEdge, stepEdges, stepHolds, crowded, sender, mover, family, spent}
-use Rattle.rules.specs.SoundEdges.{Sample, judged, program, hintSamples, offerSamples, messageSamples, taskSamples, small, systemSamples}
-use Rattle.rules.proofs.Opened.{opened-all}
+use Rattle.rules.specs.SoundEdges.{judged, program, hintSamples, offerSamples, messageSamples, taskSamples, small, pair, systemSamples}
+use Rattle.rules.proofs.Evaluated.{evaluated}
 
 all-texts : every textHolds textEdges ≡ true
-unfolding opened-all textEdges bytesOf
+unfolding evaluated textEdges bytesOf
 all-texts = refl
 
 all-outputs : every outputHolds outputEdges ≡ true
-unfolding opened-all outputEdges bytesOf
+unfolding evaluated outputEdges bytesOf
 all-outputs = refl
 
 all-steps : every stepHolds stepEdges ≡ true
-unfolding opened-all stepEdges crowded sender mover family spent
+unfolding evaluated stepEdges crowded sender mover family spent
 all-steps = refl
 
 all-hints : every (judged (hintOk 2)) hintSamples ≡ true
-unfolding opened-all hintSamples
+unfolding evaluated hintSamples
 all-hints = refl
 
 all-offers : every (judged (offerOk 2)) offerSamples ≡ true
-unfolding opened-all offerSamples
+unfolding evaluated offerSamples
 all-offers = refl
 
 all-messages : every (judged (messageOk 2 3)) messageSamples ≡ true
-unfolding opened-all messageSamples
+unfolding evaluated messageSamples
 all-messages = refl
 
 all-tasks : every (judged (taskOk 2 3 program)) taskSamples ≡ true
-unfolding opened-all taskSamples
+unfolding evaluated taskSamples
 all-tasks = refl
 
 all-systems : every (judged systemOk) systemSamples ≡ true
-unfolding opened-all small systemSamples
+unfolding evaluated small pair crowded systemSamples
 all-systems = refl
 
 -- bytes that are found the same are the same

@@ -4,7 +4,6 @@ use mathlib.Core.Bool.{true, false}
 use Rattle.plan.specs.declared.Word.{Word as WordOf}
 use Rattle.rules.specs.declared.channel.Hint.{Hint}
 use Rattle.rules.specs.declared.message.Message.the-variants.{Offered, ReadyToReceive, Data}
-use Rattle.rules.specs.declared.rule.Outcome.{Outcome}
 use Rattle.rules.specs.declared.rule.Posting.the-variants.{Nothing, Letter}
 use Rattle.rules.specs.declared.rule.Received.the-variants.{Nothing as NoWord, Word}
 use Rattle.rules.specs.Tasks.{taking}
@@ -12,104 +11,116 @@ use Rattle.rules.specs.Cells.{hint, offer, withHint, withHeld, withNoted
 use Rattle.rules.specs.Offers.{kept, offerRule, advertRule}
 use Rattle.rules.specs.Calls.{callRule, dataRule}
 use Rattle.rules.specs.Sites.{desk, one, seven, empty, talker, listener, site}
-use Rattle.rules.proofs.Opened.{opened-all}
+use Rattle.rules.proofs.Evaluated.{evaluated}
 
 -- an offer with number 5 at desk 2, sent along a pointer of count 4. It no longer counts and the receiver is here: dropped
 offer-dropped : offerRule (site true 2 true (withGranted empty 5)) one (offer (desk 1) 5) (hint (desk 2) 4)
     ≡ kept (site true 2 true empty) (withGranted empty 5) Nothing
-unfolding opened-all
+unfolding evaluated
 offer-dropped = refl
 
 -- the receiver is here: it receives and has not called; it has called; it does not receive
 offer-answered : offerRule (site true 2 true (withGranted empty 4)) one (offer (desk 1) 5) (hint (desk 2) 4)
-    ≡ kept (site true 2 true empty) (withAwaiting (withGranted empty 5) true) (Letter (ReadyToReceive one (desk 1) (hint (desk 2) 1)))
-unfolding opened-all
+    ≡ kept (site true 2 true empty) (withAwaiting (withGranted empty 5) true) (Letter (ReadyToReceive one (desk 1) (hint (desk 2) 3)))
+unfolding evaluated
 offer-answered = refl
+
+-- another that is carried stays beside the answer
+offer-beside : offerRule (site true 2 true (withCarried empty (offer (desk 3) 9))) one (offer (desk 1) 5) (hint (desk 2) 4) .cell
+    ≡ withAwaiting (withGranted (withCarried empty (offer (desk 3) 9)) 1) true
+unfolding evaluated
+offer-beside = refl
 
 offer-called : offerRule (site true 2 true (withAwaiting empty true)) one (offer (desk 1) 5) (hint (desk 2) 4)
     ≡ kept (site true 2 true empty) (withCarried (withAwaiting empty true) (offer (desk 1) 5)) Nothing
-unfolding opened-all
+unfolding evaluated
 offer-called = refl
 
 offer-carried : offerRule (site true 2 false empty) one (offer (desk 1) 5) (hint (desk 2) 4)
     ≡ kept (site true 2 false empty) (withCarried empty (offer (desk 1) 5)) Nothing
-unfolding opened-all
+unfolding evaluated
 offer-carried = refl
 
 -- it is not here: the desk's pointer names another desk with a larger count; not a larger one; this desk; none
 offer-forwarded : offerRule (site true 3 true (withHint empty (hint (desk 3) 5))) one (offer (desk 1) 5) (hint (desk 2) 4)
     ≡ kept (site true 3 true empty) (withHint empty (hint (desk 3) 5)) (Letter (Offered one (offer (desk 1) 5) (hint (desk 3) 5)))
-unfolding opened-all
+unfolding evaluated
 offer-forwarded = refl
 
 offer-equal : offerRule (site true 3 true (withHint empty (hint (desk 3) 4))) one (offer (desk 1) 5) (hint (desk 2) 4)
     ≡ kept (site true 3 true empty) (withHeld (withHint empty (hint (desk 3) 4)) (offer (desk 1) 5)) Nothing
-unfolding opened-all
+unfolding evaluated
 offer-equal = refl
 
 offer-expected : offerRule (site true 3 true (withHint empty (hint (desk 2) 5))) one (offer (desk 1) 5) (hint (desk 2) 4)
     ≡ kept (site true 3 true empty) (withHeld (withHint empty (hint (desk 2) 5)) (offer (desk 1) 5)) Nothing
-unfolding opened-all
+unfolding evaluated
 offer-expected = refl
 
 -- one that no longer counts is held there too
 offer-stale : offerRule (site true 3 true (withGranted empty 5)) one (offer (desk 1) 5) (hint (desk 2) 4)
     ≡ kept (site true 3 true empty) (withHeld (withGranted empty 5) (offer (desk 1) 5)) Nothing
-unfolding opened-all
+unfolding evaluated
 offer-stale = refl
 
 -- an advert at desk 2: answered where none was called; else noted
 advert-answered : advertRule (site true 2 true empty) one (desk 2) (desk 1)
-    ≡ kept (site true 2 true empty) (withAwaiting (withGranted empty 1) true) (Letter (ReadyToReceive one (desk 1) (hint (desk 2) 1)))
-unfolding opened-all
+    ≡ kept (site true 2 true empty) (withAwaiting (withGranted empty 1) true) (Letter (ReadyToReceive one (desk 1) (hint (desk 2) 3)))
+unfolding evaluated
 advert-answered = refl
+
+-- whether it has called is not asked
+advert-marked : advertRule (site true 2 true (withAwaiting empty true)) one (desk 2) (desk 1) .cell ≡ withAwaiting (withGranted empty 1) true
+unfolding evaluated
+advert-marked = refl
 
 advert-late : advertRule (site true 2 true (withGranted empty 1)) one (desk 2) (desk 1)
     ≡ kept (site true 2 true empty) (withNoted (withGranted empty 1) (desk 1)) Nothing
-unfolding opened-all
+unfolding evaluated
 advert-late = refl
 
 advert-busy : advertRule (site true 2 false empty) one (desk 2) (desk 1) ≡ kept (site true 2 false empty) (withNoted empty (desk 1)) Nothing
-unfolding opened-all
+unfolding evaluated
 advert-busy = refl
 
 advert-elsewhere : advertRule (site true 3 true empty) one (desk 2) (desk 1) ≡ kept (site true 3 true empty) (withNoted empty (desk 1)) Nothing
-unfolding opened-all
+unfolding evaluated
 advert-elsewhere = refl
 
 -- a call at desk 1 from desk 2: the desk learns where the receiver is, unless it knows better
 call-taken : callRule (site true 2 true (withHint empty (hint (desk 3) 3))) one (desk 1) (hint (desk 2) 4)
     ≡ record { sender = talker false; receiver = listener 2; cell = withHint empty (hint (desk 2) 4); posting = Letter (Data one (desk 2) seven); received = NoWord }
-unfolding opened-all
+unfolding evaluated
 call-taken = refl
 
-call-older : callRule (site true 2 true (withHint empty (hint (desk 3) 5))) one (desk 1) (hint (desk 2) 4) .cell ≡ withHint empty (hint (desk 3) 5)
-unfolding opened-all
+call-older : callRule (site true 2 true (withHint empty (hint (desk 3) 5))) one (desk 1) (hint (desk 2) 4)
+    ≡ record { sender = talker false; receiver = listener 2; cell = withHint empty (hint (desk 3) 5); posting = Letter (Data one (desk 2) seven); received = NoWord }
+unfolding evaluated
 call-older = refl
 
 -- a word letter at desk 2: the receiver takes it, and the mark is cleared
 data-taken : dataRule (site false 2 true (withAwaiting (withGranted empty 1) true)) one (desk 2) seven
     ≡ record { sender = talker false; receiver = taking (listener 2) seven; cell = withGranted empty 1; posting = Nothing; received = Word one seven }
-unfolding opened-all
+unfolding evaluated
 data-taken = refl
 
 -- "Where that isn't so, the letter is removed without effect": no sender sends here; no receiver receives here, or it has not called
 idle-call : (h : Hint) → callRule (site false 2 true empty) one (desk 1) h ≡ kept (site false 2 true empty) empty Nothing
-unfolding opened-all
+unfolding evaluated
 idle-call h = refl
 
 far-call : (h : Hint) → callRule (site true 2 true empty) one (desk 2) h ≡ kept (site true 2 true empty) empty Nothing
-unfolding opened-all
+unfolding evaluated
 far-call h = refl
 
 idle-data : (w : WordOf) → dataRule (site true 2 true empty) one (desk 2) w ≡ kept (site true 2 true empty) empty Nothing
-unfolding opened-all
+unfolding evaluated
 idle-data w = refl
 
 busy-data : (w : WordOf) → dataRule (site true 2 false (withAwaiting empty true)) one (desk 2) w ≡ kept (site true 2 false empty) (withAwaiting empty true) Nothing
-unfolding opened-all
+unfolding evaluated
 busy-data w = refl
 
 far-data : (w : WordOf) → dataRule (site true 3 true (withAwaiting empty true)) one (desk 2) w ≡ kept (site true 3 true empty) (withAwaiting empty true) Nothing
-unfolding opened-all
+unfolding evaluated
 far-data w = refl

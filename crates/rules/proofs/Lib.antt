@@ -1,5 +1,5 @@
 -- What is shown of the definitions.
-pub mod Opened
+pub mod Evaluated
 pub mod Edges
 pub mod SendCases
 pub mod LetterCases

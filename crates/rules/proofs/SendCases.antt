@@ -3,91 +3,104 @@ use mathlib.Core.Path.{_≡_, refl}
 use mathlib.Core.Bool.{true, false}
 use mathlib.Core.List.{[], _∷_}
 use Rattle.rules.specs.declared.message.Message.the-variants.{Offered, ReadyToReceive}
-use Rattle.rules.specs.declared.task.TaskState.the-variants.{Receiving}
-use Rattle.rules.specs.declared.rule.Outcome.{Outcome}
 use Rattle.rules.specs.declared.rule.Posting.the-variants.{Nothing, Letter, Adverts}
-use Rattle.rules.specs.declared.rule.Received.the-variants.{Nothing as NoWord, Word}
-use Rattle.rules.specs.Numbers.{channelId, noProcessor}
-use Rattle.rules.specs.Tasks.{withState, advanced, taking, readied}
-use Rattle.rules.specs.Cells.{hint, offer, noOffer, withHint, withHeld, withNoted, withGranted, withAwaiting, withCarried}
+use Rattle.rules.specs.declared.rule.Received.the-variants.{Word}
+use Rattle.rules.specs.Numbers.{channelId}
+use Rattle.rules.specs.Tasks.{advanced, taking}
+use Rattle.rules.specs.Cells.{hint, offer, withHint, withHeld, withNoted, withGranted, withAwaiting, withCarried}
 use Rattle.rules.specs.Places.{sendNumber}
 use Rattle.rules.specs.Send.{sendRule, sendWaits}
 use Rattle.rules.specs.Receive.{receiveRule, receiveWaits}
-use Rattle.rules.specs.Scripts.{send, finish}
+use Rattle.rules.specs.Scripts.{send, receive, set, finish}
 use Rattle.rules.specs.Sites.{desk, one, seven, empty, talker, listener, site}
-use Rattle.rules.proofs.Opened.{opened-all}
+use Rattle.rules.proofs.Evaluated.{evaluated}
 
 -- the receiver is here and receives: the word passes, and the number called becomes 5
 send-passes : sendRule (site false 1 true empty) one 5
     ≡ record { sender = advanced (talker false); receiver = taking (listener 1) seven; cell = withGranted empty 5; posting = Nothing; received = Word one seven }
-unfolding opened-all
+unfolding evaluated
 send-passes = refl
+
+-- a carried offer stays
+send-keeps-carried : sendRule (site false 1 true (withCarried empty (offer (desk 3) 9))) one 5 .cell ≡ withGranted (withCarried empty (offer (desk 3) 9)) 5
+unfolding evaluated
+send-keeps-carried = refl
 
 -- it has called: it carries the offer
 send-called : sendRule (site false 1 true (withAwaiting empty true)) one 5
     ≡ sendWaits (site false 1 true empty) (withCarried (withAwaiting empty true) (offer (desk 1) 5)) Nothing
-unfolding opened-all
+unfolding evaluated
 send-called = refl
 
 -- it is here and does not receive on this channel: the same
 send-carried : sendRule (site false 1 false empty) one 5 ≡ sendWaits (site false 1 false empty) (withCarried empty (offer (desk 1) 5)) Nothing
-unfolding opened-all
+unfolding evaluated
 send-carried = refl
 
 -- it is elsewhere: pointer unknown, naming this desk, naming another
 send-unknown : sendRule (site false 2 true empty) one 5 ≡ sendWaits (site false 2 true empty) empty (Adverts one (desk 1))
-unfolding opened-all
+unfolding evaluated
 send-unknown = refl
 
 send-held : sendRule (site false 2 true (withHint empty (hint (desk 1) 4))) one 5
     ≡ sendWaits (site false 2 true empty) (withHeld (withHint empty (hint (desk 1) 4)) (offer (desk 1) 5)) Nothing
-unfolding opened-all
+unfolding evaluated
 send-held = refl
 
 send-posted : sendRule (site false 2 true (withHint empty (hint (desk 3) 4))) one 5
     ≡ sendWaits (site false 2 true empty) (withHint empty (hint (desk 3) 4)) (Letter (Offered one (offer (desk 1) 5) (hint (desk 3) 4)))
-unfolding opened-all
+unfolding evaluated
 send-posted = refl
 
 -- the sender is here and sends: the word passes, the number called becomes 5, a carried offer is dropped
 receive-passes : receiveRule (site true 1 false (withCarried empty (offer (desk 1) 5))) one 5
     ≡ record { sender = talker false; receiver = advanced (taking (listener 1) seven); cell = withGranted empty 5; posting = Nothing; received = Word one seven }
-unfolding opened-all
+unfolding evaluated
 receive-passes = refl
+
+-- a note stays, a mark is cleared
+receive-keeps-note : receiveRule (site true 1 false (withAwaiting (withNoted empty (desk 3)) true)) one 5 .cell ≡ withGranted (withNoted empty (desk 3)) 5
+unfolding evaluated
+receive-keeps-note = refl
 
 -- it sends elsewhere, or does not send on this channel
 receive-elsewhere : receiveRule (site true 2 false empty) one 5 ≡ receiveWaits (site true 2 false empty) empty Nothing
-unfolding opened-all
+unfolding evaluated
 receive-elsewhere = refl
 
 receive-waits : receiveRule (site false 1 false empty) one 5 ≡ receiveWaits (site false 1 false empty) empty Nothing
-unfolding opened-all
+unfolding evaluated
 receive-waits = refl
+
+-- a receive that waits leaves the mark
+receive-marked : receiveRule (site false 1 false (withAwaiting empty true)) one 5 .cell ≡ withAwaiting empty true
+unfolding evaluated
+receive-marked = refl
 
 -- a carried offer that counts is answered before a note
 receive-carried : receiveRule (site false 2 false (withNoted (withCarried empty (offer (desk 1) 1)) (desk 3))) one 5
-    ≡ receiveWaits (site false 2 false empty) (withAwaiting (withGranted (withNoted empty (desk 3)) 1) true) (Letter (ReadyToReceive one (desk 1) (hint (desk 2) 1)))
-unfolding opened-all
+    ≡ receiveWaits (site false 2 false empty) (withAwaiting (withGranted (withNoted empty (desk 3)) 1) true) (Letter (ReadyToReceive one (desk 1) (hint (desk 2) 3)))
+unfolding evaluated
 receive-carried = refl
 
 -- one that does not count stays
 receive-stale : receiveRule (site false 2 false (withGranted (withCarried empty (offer (desk 1) 1)) 1)) one 5
     ≡ receiveWaits (site false 2 false empty) (withGranted (withCarried empty (offer (desk 1) 1)) 1) Nothing
-unfolding opened-all
+unfolding evaluated
 receive-stale = refl
 
 -- a note is answered where none was called, and only there
 receive-noted : receiveRule (site false 2 false (withNoted empty (desk 1))) one 5
-    ≡ receiveWaits (site false 2 false empty) (withAwaiting (withGranted empty 1) true) (Letter (ReadyToReceive one (desk 1) (hint (desk 2) 1)))
-unfolding opened-all
+    ≡ receiveWaits (site false 2 false empty) (withAwaiting (withGranted empty 1) true) (Letter (ReadyToReceive one (desk 1) (hint (desk 2) 3)))
+unfolding evaluated
 receive-noted = refl
 
 receive-noted-late : receiveRule (site false 2 false (withNoted (withGranted empty 1) (desk 1))) one 5
     ≡ receiveWaits (site false 2 false empty) (withNoted (withGranted empty 1) (desk 1)) Nothing
-unfolding opened-all
+unfolding evaluated
 receive-noted-late = refl
 
 -- "the sender's w-th on that channel"
-own-channel : sendNumber (send 1 ∷ send 2 ∷ send 2 ∷ finish ∷ []) (channelId 2) 3 ≡ 2
-unfolding opened-all
+own-channel : sendNumber (send 1 ∷ send 2 ∷ set 2 ∷ receive 2 ∷ send 2 ∷ send 2 ∷ finish ∷ []) (channelId 2) 5 ≡ 2
+unfolding evaluated
 own-channel = refl

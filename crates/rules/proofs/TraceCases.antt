@@ -6,34 +6,33 @@ use Prim.Native.Nat.{ℕ}
 use Rattle.plan.specs.declared.PlanAnswer.the-variants.{Accepted, Refused}
 use Rattle.plan.specs.declared.Refusal.the-variants.{BadFinish}
 use Rattle.rules.specs.declared.rule.Received.the-variants.{Nothing, Word}
-use Rattle.rules.specs.declared.step.Report.{Report}
-use Rattle.rules.specs.declared.step.StepAnswer.the-variants.{BadStep, Accepted as Done}
+use Rattle.rules.specs.declared.step.StepAnswer.the-variants.{BadStep, Accepted as Ok}
 use Rattle.rules.specs.declared.step.RunAnswer.the-variants.{Traced, Unstarted, BadSteps, OutputShort}
 use Rattle.rules.specs.Trace.{decimal, stepLine}
 use Rattle.rules.specs.StepFiles.{answerAfter, fitting}
 use Rattle.rules.specs.Sites.{one, seven}
-use Rattle.rules.proofs.Opened.{opened-all}
+use Rattle.rules.proofs.Evaluated.{evaluated}
 
 -- `0`, `100`, `65535`
 zero : decimal 0 ≡ 48 ∷ []
-unfolding opened-all
+unfolding evaluated
 zero = refl
 
 hundred : decimal 100 ≡ 49 ∷ 48 ∷ 48 ∷ []
-unfolding opened-all
+unfolding evaluated
 hundred = refl
 
 greatest : decimal 65535 ≡ 54 ∷ 53 ∷ 53 ∷ 51 ∷ 53 ∷ []
-unfolding opened-all
+unfolding evaluated
 greatest = refl
 
 -- `12 0 1 7` and `2000 19`
-word-line : stepLine 12 (record { answer = Done; received = Word one seven }) ≡ 49 ∷ 50 ∷ 32 ∷ 48 ∷ 32 ∷ 49 ∷ 32 ∷ 55 ∷ 10 ∷ []
-unfolding opened-all
+word-line : stepLine 12 (record { answer = Ok; received = Word one seven }) ≡ 49 ∷ 50 ∷ 32 ∷ 48 ∷ 32 ∷ 49 ∷ 32 ∷ 55 ∷ 10 ∷ []
+unfolding evaluated
 word-line = refl
 
 refused-line : stepLine 2000 (record { answer = BadStep; received = Nothing }) ≡ 50 ∷ 48 ∷ 48 ∷ 48 ∷ 32 ∷ 49 ∷ 57 ∷ 10 ∷ []
-unfolding opened-all
+unfolding evaluated
 refused-line = refl
 
 -- lines of two, one and two bytes: in five bytes, in four, in two, in one
@@ -41,35 +40,35 @@ abbrev lines : List (List ℕ)
 lines = (1 ∷ 2 ∷ []) ∷ (3 ∷ []) ∷ (4 ∷ 5 ∷ []) ∷ []
 
 fits-five : fitting 5 lines ≡ 1 ∷ 2 ∷ 3 ∷ 4 ∷ 5 ∷ []
-unfolding opened-all
+unfolding evaluated
 fits-five = refl
 
 fits-four : fitting 4 lines ≡ 1 ∷ 2 ∷ 3 ∷ []
-unfolding opened-all
+unfolding evaluated
 fits-four = refl
 
 fits-two : fitting 2 lines ≡ 1 ∷ 2 ∷ []
-unfolding opened-all
+unfolding evaluated
 fits-two = refl
 
 -- a later line is not put where an earlier one has no room
 fits-one : fitting 1 lines ≡ []
-unfolding opened-all
+unfolding evaluated
 fits-one = refl
 
 -- the answers about them: 0, 20, 8, 4
 traced : answerAfter Accepted true lines 5 ≡ Traced
-unfolding opened-all
+unfolding evaluated
 traced = refl
 
 short : answerAfter Accepted true lines 4 ≡ OutputShort
-unfolding opened-all
+unfolding evaluated
 short = refl
 
 malformed : answerAfter Accepted false lines 4 ≡ BadSteps
-unfolding opened-all
+unfolding evaluated
 malformed = refl
 
 unstarted : answerAfter (Refused BadFinish) false lines 4 ≡ Unstarted BadFinish
-unfolding opened-all
+unfolding evaluated
 unstarted = refl

@@ -6,15 +6,13 @@ use Rattle.base.specs.Choice.{pick}
 use Rattle.plan.specs.declared.ProcessorId.{ProcessorId}
 use Rattle.rules.specs.declared.channel.Hint.{Hint}
 use Rattle.rules.specs.declared.channel.Offer.{Offer}
-use Rattle.rules.specs.declared.channel.Entry.{Entry}
-use Rattle.rules.specs.declared.channel.Channel.{Channel}
 use Rattle.rules.specs.declared.channel.Cell.{Cell}
 use Rattle.rules.specs.Numbers.{noProcessor, isNone}
 
 abbrev pub hint : ProcessorId → ℕ → Hint
 hint d n = record { processor = d; moves = n }
 
--- "both 0 is unknown"
+-- "both 0 is unknown"; 9 refuses a count without a desk
 abbrev pub unknown : Hint
 unknown = hint noProcessor 0
 
@@ -36,8 +34,8 @@ unfoldable pub larger : Offer → Offer → Offer
 larger earlier later = pick (ltb (earlier .number) (later .number)) later earlier
 
 -- the same of adverts: "an advert is number 1"
-unfoldable pub earlier : ProcessorId → ProcessorId → ProcessorId
-earlier first later = pick (isNone first) later first
+unfoldable pub firstNoted : ProcessorId → ProcessorId → ProcessorId
+firstNoted first later = pick (isNone first) later first
 
 -- "An offer numbered w counts only if w > called"
 abbrev pub counts : Cell → Offer → Bool
@@ -80,7 +78,7 @@ abbrev pub holding : Cell → Offer → Cell
 holding x o = withHeld x (larger (x .entry .held) o)
 
 abbrev pub noting : Cell → ProcessorId → Cell
-noting x d = withNoted x (earlier (x .entry .noted) d)
+noting x d = withNoted x (firstNoted (x .entry .noted) d)
 
 -- "called goes up by one and a call letter .. goes": "since it began this receive, a call letter left .. the channel keeps a mark"
 abbrev pub granting : Cell → Cell

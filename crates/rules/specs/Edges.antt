@@ -5,9 +5,9 @@ use Prim.Native.Nat.{ℕ, _-_, _/_, _%_}
 use lib.Dec.{eqb}
 use lib.ListN.{replicate}
 use Rattle.plan.specs.Programs.{Programs}
+use Rattle.plan.specs.Layout.{layout}
 use Rattle.plan.specs.WriteEdges.{sameBytes}
 use Rattle.plan.specs.Edges.{worked}
-use Rattle.rules.specs.declared.message.Message.{Message}
 use Rattle.rules.specs.declared.message.Message.the-variants.{Advert}
 use Rattle.rules.specs.declared.step.Step.{Step}
 use Rattle.rules.specs.declared.system.System.{System}
@@ -64,13 +64,35 @@ fourText =
     49 ∷ 32 ∷ 48 ∷ 10 ∷ 50 ∷ 32 ∷ 48 ∷ 10 ∷ 51 ∷ 32 ∷ 48 ∷ 10 ∷ 52 ∷ 32 ∷ 48 ∷ 10
     ∷ 101 ∷ 110 ∷ 100 ∷ 32 ∷ 48 ∷ 32 ∷ 50 ∷ 10 ∷ []
 
--- "*The run above. *Empty step file: `end 0 0`."; refusals 1, 2 and 8, each before the next
+-- task 1 sets 65,535, adds 1 and sends; task 2 receives
+abbrev pub overTheTop : Programs
+overTheTop = (create 2 ∷ set 65535 ∷ add 1 ∷ send 1 ∷ finish ∷ []) ∷ (receive 1 ∷ finish ∷ []) ∷ []
+
+-- `1 0` to `4 0`, `5 0 1 0`, `end 0 0`
+abbrev pub overText : List ℕ
+overText =
+    49 ∷ 32 ∷ 48 ∷ 10 ∷ 50 ∷ 32 ∷ 48 ∷ 10 ∷ 51 ∷ 32 ∷ 48 ∷ 10 ∷ 52 ∷ 32 ∷ 48 ∷ 10
+    ∷ 53 ∷ 32 ∷ 48 ∷ 32 ∷ 49 ∷ 32 ∷ 48 ∷ 10
+    ∷ endText
+
+-- steps with numbers over 255 and task numbers outside the plan: `1 19`, `2 15`, `3 10`, `4 10`, `5 10`, `end 0 0`
+abbrev pub oddSteps : List Step
+oddSteps = raw 1 1 256 ∷ move 1 257 ∷ run 0 ∷ run 3 ∷ move 3 7 ∷ []
+
+abbrev pub oddText : List ℕ
+oddText =
+    49 ∷ 32 ∷ 49 ∷ 57 ∷ 10 ∷ 50 ∷ 32 ∷ 49 ∷ 53 ∷ 10 ∷ 51 ∷ 32 ∷ 49 ∷ 48 ∷ 10 ∷ 52 ∷ 32 ∷ 49 ∷ 48 ∷ 10 ∷ 53 ∷ 32 ∷ 49 ∷ 48 ∷ 10
+    ∷ endText
+
+-- "*The run above. *Empty step file: `end 0 0`. .. *Word 65,535 add 1: 0."; odd numbers; refusals 1, 2 and 8, each before the next
 unfoldable pub textEdges : List TextEdge
 textEdges =
     record { desks = 2; file = worked; steps = bytesOf workedSteps; text = workedText }
     ∷ record { desks = 2; file = worked; steps = []; text = endText }
     ∷ record { desks = 2; file = worked; steps = bytesOf (run 1 ∷ run 1 ∷ move 2 2 ∷ run 1 ∷ []); text = fourText }
-    ∷ record { desks = 7; file = worked; steps = 1 ∷ []; text = refusedText 49 }
+    ∷ record { desks = 1; file = layout overTheTop; steps = bytesOf (run 1 ∷ run 1 ∷ run 1 ∷ run 1 ∷ run 2 ∷ []); text = overText }
+    ∷ record { desks = 2; file = worked; steps = bytesOf oddSteps; text = oddText }
+    ∷ record { desks = 7; file = []; steps = 1 ∷ []; text = refusedText 49 }
     ∷ record { desks = 2; file = []; steps = 1 ∷ []; text = refusedText 50 }
     ∷ record { desks = 2; file = worked; steps = 1 ∷ []; text = refusedText 56 }
     ∷ []

@@ -19,7 +19,7 @@ use Rattle.rules.specs.declared.system.System.{System}
 use Rattle.rules.specs.Numbers.{channelId, sameTask}
 use Rattle.rules.specs.Places.{isOn}
 use Rattle.rules.specs.Networks.{enqueuedAll, lettersOf}
-use Rattle.rules.specs.Systems.{withNetwork, taskAt, withTask, cellAt, withCell, programOf, meaning}
+use Rattle.rules.specs.Systems.{withNetwork, taskAt, withTask, cellAt, withCell, taskProgram, meaning}
 
 -- what a step does, before its letters join the mail
 pub record Effect : Type 0 where
@@ -44,8 +44,8 @@ siteAt r s u c d =
     record {
       sender = taskAt r s;
       receiver = taskAt r u;
-      sending = isOn Sending (programOf r s) c (taskAt r s);
-      receiving = isOn Receiving (programOf r u) c (taskAt r u);
+      sending = isOn Sending (taskProgram r s) c (taskAt r s);
+      receiving = isOn Receiving (taskProgram r u) c (taskAt r u);
       cell = cellAt r d c;
     }
 

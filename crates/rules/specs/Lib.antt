@@ -1,4 +1,5 @@
--- What the paper says of the rig, in its order.
+-- What the paper says of the rig: first what it is made of and how it is read and changed, then start, run, deliver, move, refusal 9, steps,
+-- trace and step file; at the end the edges and what they are written with.
 pub mod Numbers
 pub mod Answers
 pub mod Tasks

@@ -1,6 +1,4 @@
 -- Run: the instructions that use no channel.
-use mathlib.Core.Bool.{not, _||_}
-use lib.Dec.{eqb}
 use Rattle.base.specs.Choice.{pick}
 use Rattle.plan.specs.declared.TaskId.{TaskId}
 use Rattle.plan.specs.declared.Instruction.{Instruction}

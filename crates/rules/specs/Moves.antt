@@ -1,11 +1,10 @@
 -- "Move: a ready task from d to e".
 use mathlib.Core.Bool.{not}
-use Prim.Native.Nat.{ℕ, _+_}
-use lib.Dec.{eqb, ltb}
-use Rattle.base.specs.Choice.{unless, within}
+use Prim.Native.Nat.{_+_}
+use lib.Dec.{eqb}
+use Rattle.base.specs.Choice.{unless}
 use Rattle.plan.specs.declared.TaskId.{TaskId}
 use Rattle.plan.specs.declared.ProcessorId.{ProcessorId}
-use Rattle.rules.specs.declared.task.Task.{Task}
 use Rattle.rules.specs.declared.task.TaskState.the-variants.{Ready}
 use Rattle.rules.specs.declared.channel.Cell.{Cell}
 use Rattle.rules.specs.declared.message.Message.the-variants.{Migration}
@@ -13,6 +12,7 @@ use Rattle.rules.specs.declared.rule.Posting.the-variants.{Letter}
 use Rattle.rules.specs.declared.step.StepAnswer.{StepAnswer}
 use Rattle.rules.specs.declared.step.StepAnswer.the-variants.{Accepted, NoTask, NotReady, NetworkFull, NoProcessor, AlreadyThere, MoveWithChildren, MovesSpent}
 use Rattle.rules.specs.declared.system.System.{System}
+use Rattle.rules.specs.Numbers.{taskNumberOk, processorOk, mostMoves}
 use Rattle.rules.specs.Tasks.{isIn, isAt, isChildless, departed}
 use Rattle.rules.specs.Cells.{withTravelling}
 use Rattle.rules.specs.Systems.{taskAt, withTask}
@@ -37,11 +37,11 @@ moved r t e =
 -- "Move: 10; 15, desk outside the rig; 11; 16, already there; 17, living children; 18, move count 9,999; 13."
 unfoldable pub moveAnswer : System → TaskId → ProcessorId → StepAnswer
 moveAnswer r t e =
-    unless (within 1 (r .plan .tasks) (t .0)) NoTask
-    (unless (within 1 (r .processors) (e .0)) NoProcessor
+    unless (taskNumberOk (r .plan .tasks) t) NoTask
+    (unless (processorOk (r .processors) e) NoProcessor
     (unless (isIn Ready (taskAt r t)) NotReady
     (unless (not (isAt e (taskAt r t))) AlreadyThere
     (unless (isChildless (taskAt r t)) MoveWithChildren
-    (unless (not (eqb (taskAt r t .moves) 9999)) MovesSpent
+    (unless (not (eqb (taskAt r t .moves) mostMoves)) MovesSpent
     (unless (fits r (moved r t e)) NetworkFull
     Accepted))))))

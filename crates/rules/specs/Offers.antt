@@ -22,9 +22,9 @@ use Rattle.rules.specs.Receive.{callTo}
 abbrev pub kept : Site → Cell → Posting → Outcome
 kept x cell posting = record { sender = x .sender; receiver = x .receiver; cell = cell; posting = posting; received = NoWord }
 
--- "d's pointer names another desk with a larger count than the letter's"
+-- "d's pointer names another desk with a larger count than the letter's": the desk's own, and the one that the letter came along
 abbrev pub pointsOn : Hint → Hint → ProcessorId → Bool
-pointsOn own letters d = not (sameProcessor (own .processor) d) && ltb (letters .moves) (own .moves)
+pointsOn own along d = not (sameProcessor (own .processor) d) && ltb (along .moves) (own .moves)
 
 -- "Offer at d: if it no longer counts and the receiver is here, dropped. Receiver here, receiving and not called: answered. Receiver here
 -- otherwise: carried. Not here: if d's pointer names another desk with a larger count than the letter's, forwarded there with that count;

@@ -6,17 +6,15 @@ use lib.Dec.{eqb}
 use Rattle.plan.specs.declared.Instruction.{Instruction}
 use Rattle.plan.specs.Kinds.{opCreate, opSync, opFinish, opSend, opReceive, opSet, opAdd}
 use Rattle.plan.specs.Programs.{Programs, canonical}
+use Rattle.plan.specs.Edges.{does}
 use Rattle.plan.specs.WriteEdges.{sameBytes}
 use Rattle.rules.specs.declared.step.Step.{Step}
 use Rattle.rules.specs.declared.step.Report.{Report}
 use Rattle.rules.specs.declared.system.System.{System}
 use Rattle.rules.specs.Answers.{stepNumber}
 use Rattle.rules.specs.Starts.{started}
-use Rattle.rules.specs.Steps.{History, ruledSteps, quiescent}
+use Rattle.rules.specs.Steps.{History, ruledSteps, runStep, quiescent}
 use Rattle.rules.specs.Trace.{receivedFields}
-
-abbrev does : ℕ → ℕ → Instruction
-does k a = record { opcode = k; operand = a }
 
 abbrev pub create : ℕ → Instruction
 create u = does opCreate u
@@ -44,7 +42,7 @@ abbrev pub raw : ℕ → ℕ → ℕ → Step
 raw k t n = record { kind = k; task = t; number = n }
 
 abbrev pub run : ℕ → Step
-run t = raw 1 t 0
+run t = runStep t
 
 abbrev pub deliver : ℕ → Step
 deliver p = raw 2 0 p

@@ -1,17 +1,17 @@
 -- Small sites and rigs, for the cases.
-use mathlib.Core.Bool.{Bool, true, false}
-use mathlib.Core.List.{List, [], _∷_}
+use mathlib.Core.Bool.{Bool, false}
 use Prim.Native.Nat.{ℕ}
 use Rattle.base.specs.Choice.{pick}
 use Rattle.plan.specs.declared.ProcessorId.{ProcessorId}
 use Rattle.plan.specs.declared.ChannelId.{ChannelId}
 use Rattle.plan.specs.declared.Word.{Word}
+use Rattle.plan.specs.Words.{wordOf}
 use Rattle.rules.specs.declared.task.Task.{Task}
 use Rattle.rules.specs.declared.task.TaskState.the-variants.{Ready, Sending}
 use Rattle.rules.specs.declared.channel.Cell.{Cell}
 use Rattle.rules.specs.declared.rule.Site.{Site}
 use Rattle.rules.specs.Numbers.{processorId, channelId, noProcessor}
-use Rattle.rules.specs.Tasks.{born, withState, withWord}
+use Rattle.rules.specs.Tasks.{born, withState, withWord, withMoves}
 use Rattle.rules.specs.Cells.{unknown, noOffer}
 
 abbrev pub desk : ℕ → ProcessorId
@@ -21,7 +21,7 @@ abbrev pub one : ChannelId
 one = channelId 1
 
 abbrev pub seven : Word
-seven = record { 0 = 7 }
+seven = wordOf 7
 
 -- a cell with nothing in it
 abbrev pub empty : Cell
@@ -31,12 +31,12 @@ empty =
       channel = record { granted = 0; awaiting = false; carried = noOffer; travelling = unknown };
     }
 
--- a sender at desk 1 with word 7, sending or ready; a receiver at desk d
+-- a sender at desk 1 with word 7, sending or ready; a receiver at desk d, with a move count of 3
 abbrev pub talker : Bool → Task
 talker sending = withState (withWord (born (desk 1)) seven) (pick sending Sending Ready)
 
 abbrev pub listener : ℕ → Task
-listener d = born (desk d)
+listener d = withMoves (born (desk d)) 3
 
 -- the two, sending and receiving on the channel or not, and what is kept for it
 abbrev pub site : Bool → ℕ → Bool → Cell → Site

@@ -2,16 +2,13 @@
 -- paper names it), an unborn or moving task not as said above, a place 0 or past the last instruction (of a done task, more than one past), a
 -- sending or receiving task that has executed no instruction or whose last executed one is of another kind, or a plan in the rig that 2 to 6
 -- would refuse". Every table entry is looked at, every letter in use, and tasks 1 to T.
-use mathlib.Core.Bool.{Bool, true, false, not, _&&_, _||_}
+use mathlib.Core.Bool.{Bool, false, not, _&&_, _||_}
 use Prim.Native.Nat.{ℕ, _+_, _^_}
 use lib.ListN.{length}
 use lib.Dec.{eqb, ltb, leb}
 use Rattle.base.specs.Choice.{pick, within}
 use Rattle.base.specs.Range.{upTo}
 use Rattle.base.specs.Lists.{every, everyPair}
-use Rattle.plan.specs.declared.TaskId.{TaskId}
-use Rattle.plan.specs.declared.ProcessorId.{ProcessorId}
-use Rattle.plan.specs.declared.ChannelId.{ChannelId}
 use Rattle.plan.specs.Answers.{isAccepted}
 use Rattle.plan.specs.Kinds.{opSend, opReceive}
 use Rattle.plan.specs.Words.{wordNumbers}
@@ -27,26 +24,16 @@ use Rattle.rules.specs.declared.message.Network.{Network}
 use Rattle.rules.specs.declared.system.Tables.{Tables}
 use Rattle.rules.specs.declared.system.Channels.{Channels}
 use Rattle.rules.specs.declared.system.System.{System}
-use Rattle.rules.specs.Numbers.{taskId, processorId, isNone}
+use Rattle.rules.specs.Numbers.{taskId, processorId, isNone, processorOk, taskNumberOk, channelNumberOk, mailSize, mostMoves}
 use Rattle.rules.specs.Tasks.{isIn}
 use Rattle.rules.specs.Cells.{hint, isUnknown, offer}
 use Rattle.rules.specs.Networks.{letters}
 use Rattle.rules.specs.Places.{lastIn}
-use Rattle.rules.specs.Systems.{taskAt, programOf, meaning}
-
--- "Desks 1 to 6", of a rig of n desks; "channels 1 to 128"; "tasks", of a rig of m tasks
-abbrev pub processorOk : ℕ → ProcessorId → Bool
-processorOk n d = within 1 n (d .0)
-
-abbrev pub channelOk : ChannelId → Bool
-channelOk c = within 1 128 (c .0)
-
-abbrev pub taskNumberOk : ℕ → TaskId → Bool
-taskNumberOk m t = within 1 m (t .0)
+use Rattle.rules.specs.Systems.{taskAt, taskProgram, meaning}
 
 -- "a move count is at most 9,999", "1 at birth"; "Offers are numbered 1 to 64"
 abbrev pub movesOk : ℕ → Bool
-movesOk k = within 1 9999 k
+movesOk k = within 1 mostMoves k
 
 abbrev pub knownOk : ℕ → Hint → Bool
 knownOk n h = processorOk n (h .processor) && movesOk (h .moves)
@@ -68,8 +55,8 @@ tablesOk n x =
     && every (λ d. leb d n) (x .notes))
 
 -- "the number called (0 to 64)"
-unfoldable pub channelsOk : ℕ → Channels → Bool
-channelsOk n x =
+unfoldable pub channelEntriesOk : ℕ → Channels → Bool
+channelEntriesOk n x =
     every (λ w. leb w 64) (x .granted)
     && (everyPair (λ d w. offerOk n (offer (processorId d) w)) (x .carriedprocessors) (x .carriednumbers)
     && everyPair (λ d k. hintOk n (hint (processorId d) k)) (x .travellingprocessors) (x .travellingmoves))
@@ -77,16 +64,16 @@ channelsOk n x =
 -- a letter in a rig of n desks and m tasks
 unfoldable pub messageOk : ℕ → ℕ → Message → Bool
 messageOk n m Empty = false
-messageOk n m (Offered c o h) = channelOk c && (madeOk n o && knownOk n h)
-messageOk n m (Advert c d from) = channelOk c && (processorOk n d && processorOk n from)
-messageOk n m (ReadyToReceive c d h) = channelOk c && (processorOk n d && knownOk n h)
-messageOk n m (Data c d w) = channelOk c && processorOk n d
+messageOk n m (Offered c o h) = channelNumberOk c && (madeOk n o && knownOk n h)
+messageOk n m (Advert c d from) = channelNumberOk c && (processorOk n d && processorOk n from)
+messageOk n m (ReadyToReceive c d h) = channelNumberOk c && (processorOk n d && knownOk n h)
+messageOk n m (Data c d w) = channelNumberOk c && processorOk n d
 messageOk n m (Terminated d t) = processorOk n d && taskNumberOk m t
 messageOk n m (Migration d t) = processorOk n d && taskNumberOk m t
 
 -- "256 letters in the mail"
 unfoldable pub networkOk : ℕ → ℕ → Network → Bool
-networkOk n m x = leb (x .used) 256 && every (messageOk n m) (letters x)
+networkOk n m x = leb (x .used) mailSize && every (messageOk n m) (letters x)
 
 -- "An unborn task has desk 0, place 1, word 0, count 0"; "a desk of birth (0 before it)"
 unfoldable pub unbornOk : Task → Bool
@@ -116,7 +103,7 @@ unfoldable pub systemOk : System → Bool
 systemOk r =
     within 1 6 (r .processors)
     && (isAccepted (planAnswer (meaning r))
-    && (upTo (r .plan .tasks) (λ t. taskOk (r .processors) (r .plan .tasks) (programOf r (taskId t)) (taskAt r (taskId t)))
+    && (upTo (r .plan .tasks) (λ t. taskOk (r .processors) (r .plan .tasks) (taskProgram r (taskId t)) (taskAt r (taskId t)))
     && (tablesOk (r .processors) (r .tables)
-    && (channelsOk (r .processors) (r .channels)
+    && (channelEntriesOk (r .processors) (r .channels)
     && networkOk (r .processors) (r .plan .tasks) (r .network)))))

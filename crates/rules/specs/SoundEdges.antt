@@ -2,10 +2,9 @@
 use mathlib.Core.Bool.{Bool, true, false}
 use mathlib.Core.List.{List, [], _∷_}
 use Prim.Native.Nat.{ℕ}
-use lib.ListN.{set}
 use Rattle.plan.specs.declared.Word.{Word}
 use Rattle.plan.specs.Programs.{Program, canonical}
-use Rattle.plan.specs.Words.{zeroWord}
+use Rattle.plan.specs.Words.{wordOf, zeroWord}
 use Rattle.rules.specs.declared.task.Task.{Task}
 use Rattle.rules.specs.declared.task.TaskState.{TaskState}
 use Rattle.rules.specs.declared.task.TaskState.the-variants.{Unborn, Ready, Waiting, Sending, Receiving, Moving, Done}
@@ -16,11 +15,12 @@ use Rattle.rules.specs.declared.message.Message.{Message}
 use Rattle.rules.specs.declared.message.Message.the-variants.{Empty, Offered, Advert, ReadyToReceive, Data, Terminated, Migration}
 use Rattle.rules.specs.declared.system.System.{System}
 use Rattle.rules.specs.Numbers.{taskId, processorId, channelId}
-use Rattle.rules.specs.Tasks.{noTask, unborn}
+use Rattle.rules.specs.Tasks.{noTask, unborn, born, withState, withProcessor, withPc, withWord, withMoves, withChildren}
 use Rattle.rules.specs.Cells.{hint, unknown, offer, noOffer, withHint, withHeld, withNoted, withGranted, withCarried, withTravelling}
 use Rattle.rules.specs.Networks.{enqueued}
 use Rattle.rules.specs.Systems.{withNetwork, withTask, cellAt, withCell}
-use Rattle.rules.specs.Sound.{hintOk, offerOk, messageOk, taskOk, systemOk}
+use Rattle.rules.specs.Starts.{blank}
+use Rattle.rules.specs.Edges.{crowded}
 use Rattle.rules.specs.Scripts.{create, sync, finish, send, receive, startOn, sameBool}
 
 -- something of a rig, and whether 9 lets it pass
@@ -82,10 +82,10 @@ program = create 2 ∷ send 1 ∷ receive 2 ∷ finish ∷ []
 
 -- a task in a state, at a desk, at a place, with a desk of birth, a word, a move count and children
 abbrev task : TaskState → ℕ → ℕ → ℕ → Word → ℕ → ℕ → Task
-task s d pc home w n kids = record { state = s; processor = processorId d; pc = pc; home = processorId home; word = w; moves = n; children = kids }
+task s d pc home w n kids = withChildren (withMoves (withWord (withPc (withProcessor (withState (born (processorId home)) s) (processorId d)) pc) w) n) kids
 
 abbrev someWord : Word
-someWord = record { 0 = 1 }
+someWord = wordOf 1
 
 -- "An unborn task has desk 0, place 1, word 0, count 0"; "a moving one has desk 0"; places; last instructions; children of the rig
 unfoldable pub taskSamples : List (Sample Task)
@@ -93,6 +93,7 @@ taskSamples =
     fine unborn
     ∷ wrong (task Unborn 1 1 0 zeroWord 0 0) ∷ wrong (task Unborn 0 2 0 zeroWord 0 0) ∷ wrong (task Unborn 0 1 1 zeroWord 0 0)
     ∷ wrong (task Unborn 0 1 0 someWord 0 0) ∷ wrong (task Unborn 0 1 0 zeroWord 1 0)
+    ∷ fine (task Unborn 0 1 0 zeroWord 0 7) ∷ wrong (task Unborn 0 1 0 zeroWord 0 8)
     ∷ fine (task Ready 2 4 1 someWord 9999 7)
     ∷ wrong (task Ready 0 1 1 zeroWord 1 0) ∷ wrong (task Ready 3 1 1 zeroWord 1 0) ∷ wrong (task Ready 1 0 1 zeroWord 1 0)
     ∷ wrong (task Ready 1 5 1 zeroWord 1 0) ∷ wrong (task Ready 1 1 0 zeroWord 1 0) ∷ wrong (task Ready 1 1 3 zeroWord 1 0)
@@ -100,16 +101,16 @@ taskSamples =
     ∷ fine (task Waiting 1 1 1 zeroWord 1 0) ∷ wrong (task Waiting 0 1 1 zeroWord 1 0)
     ∷ fine (task Moving 0 1 1 zeroWord 2 0) ∷ wrong (task Moving 1 1 1 zeroWord 2 0)
     ∷ fine (task Done 1 5 1 zeroWord 1 0) ∷ wrong (task Done 1 6 1 zeroWord 1 0) ∷ wrong (task Done 0 5 1 zeroWord 1 0)
-    ∷ fine (task Sending 1 3 1 zeroWord 1 0) ∷ wrong (task Sending 1 1 1 zeroWord 1 0) ∷ wrong (task Sending 1 4 1 zeroWord 1 0)
+    ∷ fine (task Sending 1 3 1 zeroWord 1 0) ∷ wrong (task Sending 0 3 1 zeroWord 1 0) ∷ wrong (task Receiving 0 4 1 zeroWord 1 0) ∷ wrong (task Sending 1 1 1 zeroWord 1 0) ∷ wrong (task Sending 1 4 1 zeroWord 1 0)
     ∷ fine (task Receiving 1 4 1 zeroWord 1 0) ∷ wrong (task Receiving 1 1 1 zeroWord 1 0) ∷ wrong (task Receiving 1 3 1 zeroWord 1 0)
     ∷ []
 
--- a rig of two desks; with another number of desks; with a cell changed at the last entry; with a record, a letter or a plan that is wrong
+-- a rig of two desks; one with two tasks; with a cell changed at the last entry; with another plan; with 256 letters
 unfoldable pub small : System
 small = startOn 2 ((finish ∷ []) ∷ [])
 
-abbrev onDesks : ℕ → System → System
-onDesks n r = record { processors = n; plan = r .plan; tasks = r .tasks; tables = r .tables; channels = r .channels; network = r .network }
+unfoldable pub pair : System
+pair = startOn 2 ((create 2 ∷ finish ∷ []) ∷ (finish ∷ []) ∷ [])
 
 abbrev withCellBy : (Cell → Cell) → System → System
 withCellBy f r = withCell r (processorId 6) (channelId 128) (f (cellAt r (processorId 6) (channelId 128)))
@@ -122,16 +123,17 @@ withPlan m r = record { processors = r .processors; plan = canonical m; tasks = 
 
 unfoldable pub systemSamples : List (Sample System)
 systemSamples =
-    fine small ∷ wrong (onDesks 0 small) ∷ fine (onDesks 6 small) ∷ wrong (onDesks 7 small)
+    fine small ∷ wrong (blank 0 (small .plan)) ∷ fine (blank 1 (small .plan)) ∷ fine (blank 6 (small .plan)) ∷ wrong (blank 7 (small .plan))
     ∷ wrong (withPlan ((sync ∷ []) ∷ []) small)
     ∷ wrong (withTask small (taskId 1) noTask) ∷ fine (withTask small (taskId 2) noTask)
+    ∷ fine pair ∷ wrong (withTask pair (taskId 2) noTask) ∷ fine (withTask pair (taskId 3) noTask)
     ∷ fine (withCellBy (λ x. withHint x (hint (processorId 2) 1)) small) ∷ wrong (withCellBy (λ x. withHint x (hint (processorId 3) 1)) small)
     ∷ wrong (withCellBy (λ x. withHeld x (offer (processorId 2) 65)) small)
     ∷ fine (withCellBy (λ x. withNoted x (processorId 2)) small) ∷ wrong (withCellBy (λ x. withNoted x (processorId 3)) small)
     ∷ fine (withCellBy (λ x. withGranted x 64) small) ∷ wrong (withCellBy (λ x. withGranted x 65) small)
     ∷ wrong (withCellBy (λ x. withCarried x (offer (processorId 0) 1)) small)
     ∷ wrong (withCellBy (λ x. withTravelling x (hint (processorId 1) 0)) small)
-    ∷ wrong (withUsed 1 small) ∷ wrong (withUsed 257 small)
+    ∷ wrong (withUsed 1 small) ∷ fine (crowded 256 small) ∷ wrong (withUsed 257 (crowded 256 small))
     ∷ fine (withNetwork small (enqueued (small .network) (Migration (processorId 2) (taskId 1))))
     ∷ wrong (withNetwork small (enqueued (small .network) (Migration (processorId 2) (taskId 2))))
     ∷ []

@@ -14,7 +14,8 @@ use Rattle.rules.specs.Networks.{noSlot}
 use Rattle.rules.specs.Systems.{withTask}
 use Rattle.rules.specs.Effects.{forReceiving}
 
--- "Birth and arrival at d set d's pointer to (d, move count) for each channel that the task receives on.": for one channel
+-- "Birth and arrival at d set d's pointer to (d, move count) for each channel that the task receives on."; a move: "d's pointers for its
+-- receiving channels become (e, new count)". For one channel
 abbrev pub located : ProcessorId → ℕ → Cell → Cell
 located d n x = withHint x (hint d n)
 

@@ -6,7 +6,6 @@ use lib.ListN.{length, drop}
 use lib.Dec.{eqb, leb}
 use Rattle.base.specs.Choice.{pick, unless}
 use Rattle.base.specs.Lists.{table}
-use Rattle.plan.specs.declared.Plan.{Plan}
 use Rattle.plan.specs.declared.PlanAnswer.{PlanAnswer}
 use Rattle.plan.specs.declared.PlanAnswer.the-variants.{Accepted, Refused}
 use Rattle.plan.specs.Programs.{canonical}
@@ -17,7 +16,7 @@ use Rattle.rules.specs.declared.step.RunAnswer.the-variants.{Traced, Uns
 use Rattle.rules.specs.declared.system.System.{System}
 use Rattle.rules.specs.Answers.{runNumber}
 use Rattle.rules.specs.Starts.{started}
-use Rattle.rules.specs.Steps.{History, steps}
+use Rattle.rules.specs.Steps.{steps}
 use Rattle.rules.specs.Trace.{stepLines, endLine, refusedLine}
 
 -- "A step is 4 bytes: kind .., task, 16-bit number.": the step after the first k
@@ -76,9 +75,10 @@ runFileOutput n p b out =
     t ++ drop (length t) out
 
 -- what the trace program prints: the trace; "For a refused file it prints only `refused` and the number."
-abbrev pub printedAfter : PlanAnswer → Bool → List (List ℕ) → List ℕ
-printedAfter (Refused a) ok lines = refusedLine (runNumber (Unstarted a))
-printedAfter Accepted ok lines = unless ok (refusedLine (runNumber BadSteps)) (text lines)
+abbrev pub printedAfter : RunAnswer → List (List ℕ) → List ℕ
+printedAfter a lines = pick (eqb (runNumber a) 0) (text lines) (refusedLine (runNumber a))
 
 unfoldable pub printed : ℕ → List ℕ → List ℕ → List ℕ
-printed n p b = printedAfter (startAnswer n p) (stepsOk b) (traceLines (startOf n p) (fileSteps b))
+printed n p b =
+    let lines = traceLines (startOf n p) (fileSteps b) in
+    printedAfter (answerAfter (startAnswer n p) (stepsOk b) lines (length (text lines))) lines

@@ -1,5 +1,5 @@
 -- One step, a list of steps, and the report of rest.
-use mathlib.Core.Bool.{Bool, false, not, _&&_}
+use mathlib.Core.Bool.{Bool, not, _&&_}
 use mathlib.Core.List.{List, [], _∷_, _++_}
 use Prim.Native.Nat.{ℕ}
 use lib.Dec.{eqb}
@@ -41,15 +41,15 @@ wellFormed s =
     (isMove s))
 
 -- the answer of a rig that 9 does not refuse to a step that 19 does not refuse
-unfoldable pub ruleAnswer : System → Step → StepAnswer
-ruleAnswer r s =
+unfoldable pub kindAnswer : System → Step → StepAnswer
+kindAnswer r s =
     pick (isRun s) (runAnswer r (taskId (s .task)))
     (pick (isDeliver s) (deliverAnswer r (s .number))
     (moveAnswer r (taskId (s .task)) (processorId (s .number))))
 
 -- "Step: 9, ..; 19, .. Then run: .. Deliver: .. Move: .."
 unfoldable pub ruledAnswer : System → Step → StepAnswer
-ruledAnswer r s = unless (wellFormed s) BadStep (ruleAnswer r s)
+ruledAnswer r s = unless (wellFormed s) BadStep (kindAnswer r s)
 
 unfoldable pub stepAnswer : System → Step → StepAnswer
 stepAnswer r s = unless (systemOk r) BadSystem (ruledAnswer r s)

@@ -41,7 +41,7 @@ taskAt r t = pick (eqb (t .0) 0) noTask (getD (r .tasks) (t .0 - 1) noTask)
 unfoldable pub withTask : System → TaskId → Task → System
 withTask r t x = pick (eqb (t .0) 0) r (withTasks r (set (r .tasks) (t .0 - 1) x))
 
--- "six desks by 128 channels, 768 entries each": where the entry of desk d and channel c is
+-- "six desks by 128 channels, 768 entries each": where the entry of desk d and channel c is, both from 1
 abbrev pub entryIndex : ProcessorId → ChannelId → ℕ
 entryIndex d c = 128 * (d .0 - 1) + (c .0 - 1)
 
@@ -99,9 +99,9 @@ unfoldable pub withCell : System → ProcessorId → ChannelId → Cell → Syst
 withCell r d c x =
     withChannels (withTables r (writeEntry (r .tables) (entryIndex d c) (x .entry))) (writeChannel (r .channels) (c .0 - 1) (x .channel))
 
--- what the rig's plan means, and the program of task t
+-- what the rig's plan means, and the program of task t, from 1
 abbrev pub meaning : System → Programs
 meaning r = programs (r .plan)
 
-abbrev pub programOf : System → TaskId → Program
-programOf r t = programAt (meaning r) (t .0 - 1)
+abbrev pub taskProgram : System → TaskId → Program
+taskProgram r t = programAt (meaning r) (t .0 - 1)

@@ -16,7 +16,7 @@ unfoldable pub digits : ℕ → ℕ → List ℕ
 digits zero n = []
 digits (suc k) n = pick (ltb n 10) ((48 + n) ∷ []) (digits k (n / 10) ++ ((48 + n % 10) ∷ []))
 
--- a number has no more digits than itself and one
+-- n has at most n + 1 digits
 abbrev pub decimal : ℕ → List ℕ
 decimal n = digits (suc n) n
 

@@ -11,19 +11,19 @@ use Rattle.plan.specs.Answers.{isAccepted}
 use Rattle.plan.specs.Refusals.{planAnswer}
 use Rattle.rules.specs.declared.system.System.{System}
 use Rattle.rules.specs.Numbers.{taskId}
-use Rattle.rules.specs.Systems.{taskAt, programOf, meaning}
-use Rattle.rules.specs.Sound.{taskOk, tablesOk, channelsOk, networkOk, systemOk}
+use Rattle.rules.specs.Systems.{taskAt, taskProgram, meaning}
+use Rattle.rules.specs.Sound.{taskOk, tablesOk, channelEntriesOk, networkOk, systemOk}
 
 -- task t is in order
 abbrev pub taskOkIn : System → ℕ → Bool
-taskOkIn r t = taskOk (r .processors) (r .plan .tasks) (programOf r (taskId t)) (taskAt r (taskId t))
+taskOkIn r t = taskOk (r .processors) (r .plan .tasks) (taskProgram r (taskId t)) (taskAt r (taskId t))
 
 pub record SystemPassed (r : System) : Type 0 where
   pub processors : within 1 6 (r .processors) ≡ true
   pub plan : isAccepted (planAnswer (meaning r)) ≡ true
   pub tasks : upTo (r .plan .tasks) (taskOkIn r) ≡ true
   pub tables : tablesOk (r .processors) (r .tables) ≡ true
-  pub channels : channelsOk (r .processors) (r .channels) ≡ true
+  pub channels : channelEntriesOk (r .processors) (r .channels) ≡ true
   pub network : networkOk (r .processors) (r .plan .tasks) (r .network) ≡ true
 
 pub system-passed : (r : System) → systemOk r ≡ true → SystemPassed r
@@ -38,8 +38,8 @@ system-passed r h =
       plan = and-left (isAccepted (planAnswer (meaning r))) _ h₁;
       tasks = and-left (upTo (r .plan .tasks) (taskOkIn r)) _ h₂;
       tables = and-left (tablesOk (r .processors) (r .tables)) _ h₃;
-      channels = and-left (channelsOk (r .processors) (r .channels)) _ h₄;
-      network = and-right (channelsOk (r .processors) (r .channels)) _ h₄;
+      channels = and-left (channelEntriesOk (r .processors) (r .channels)) _ h₄;
+      network = and-right (channelEntriesOk (r .processors) (r .channels)) _ h₄;
     }
 
 pub system-ok : (r : System) → SystemPassed r → systemOk r ≡ true
@@ -49,7 +49,7 @@ system-ok r h =
     (and-both (isAccepted (planAnswer (meaning r))) _ (h .plan)
     (and-both (upTo (r .plan .tasks) (taskOkIn r)) _ (h .tasks)
     (and-both (tablesOk (r .processors) (r .tables)) _ (h .tables)
-    (and-both (channelsOk (r .processors) (r .channels)) _ (h .channels) (h .network)))))
+    (and-both (channelEntriesOk (r .processors) (r .channels)) _ (h .channels) (h .network)))))
 
 -- "256 letters in the mail"
 pub letters-fit : (r : System) → systemOk r ≡ true → r .network .used ≤ 256

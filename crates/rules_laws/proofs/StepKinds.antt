@@ -14,13 +14,13 @@ use Rattle.rules.specs.Numbers.{taskId, processorId}
 use Rattle.rules.specs.Runs.{ran, runAnswer}
 use Rattle.rules.specs.Deliver.{delivered, deliverAnswer}
 use Rattle.rules.specs.Moves.{moved, moveAnswer}
-use Rattle.rules.specs.Steps.{isRun, isDeliver, isMove, ruleAnswer, performed}
+use Rattle.rules.specs.Steps.{isRun, isDeliver, isMove, kindAnswer, performed}
 
 module _ (r : System) (s : Step) where
   -- a run
   module _ (kind : isRun s ≡ true) where
-    pub answer-run : ruleAnswer r s ≡ runAnswer r (taskId (s .task))
-    unfolding ruleAnswer
+    pub answer-run : kindAnswer r s ≡ runAnswer r (taskId (s .task))
+    unfolding kindAnswer
     answer-run = rw kind refl
 
     pub performed-run : performed r s ≡ ran r (taskId (s .task))
@@ -32,8 +32,8 @@ module _ (r : System) (s : Step) where
     no-run : isRun s ≡ false
     no-run = ne-eqb (s .kind) 1 (λ e. omega (arith, eqb-true (s .kind) 2 kind))
 
-    pub answer-deliver : ruleAnswer r s ≡ deliverAnswer r (s .number)
-    unfolding ruleAnswer
+    pub answer-deliver : kindAnswer r s ≡ deliverAnswer r (s .number)
+    unfolding kindAnswer
     answer-deliver = rw (no-run, kind) refl
 
     pub performed-deliver : performed r s ≡ delivered r (s .number)
@@ -48,8 +48,8 @@ module _ (r : System) (s : Step) where
     nor-deliver : isDeliver s ≡ false
     nor-deliver = ne-eqb (s .kind) 2 (λ e. omega (arith, eqb-true (s .kind) 3 kind))
 
-    pub answer-move : ruleAnswer r s ≡ moveAnswer r (taskId (s .task)) (processorId (s .number))
-    unfolding ruleAnswer
+    pub answer-move : kindAnswer r s ≡ moveAnswer r (taskId (s .task)) (processorId (s .number))
+    unfolding kindAnswer
     answer-move = rw (neither-run, nor-deliver) refl
 
     pub performed-move : performed r s ≡ moved r (taskId (s .task)) (processorId (s .number))

@@ -14,7 +14,7 @@ use Rattle.rules.specs.declared.step.Stepped.{Stepped}
 use Rattle.rules.specs.declared.system.System.{System}
 use Rattle.rules.specs.Answers.{isAccepted}
 use Rattle.rules.specs.Sound.{systemOk}
-use Rattle.rules.specs.Steps.{wellFormed, ruleAnswer, ruledAnswer, stepAnswer, performed, refused, accepted, answered, step, ruledStep, stepsBy, wordOn, receivedOn}
+use Rattle.rules.specs.Steps.{wellFormed, kindAnswer, ruledAnswer, stepAnswer, performed, refused, accepted, answered, step, ruledStep, stepsBy, wordOn, receivedOn}
 
 -- only one answer has number 0
 pub accepted-is : (a : StepAnswer) → isAccepted a ≡ true → a ≡ Accepted
@@ -63,13 +63,13 @@ step-answer r s = step-cases r s (λ o. o .report .answer ≡ stepAnswer r s) (�
 pub record StepPassed (r : System) (s : Step) : Type 0 where
   pub system : systemOk r ≡ true
   pub form : wellFormed s ≡ true
-  pub rule : ruleAnswer r s ≡ Accepted
+  pub rule : kindAnswer r s ≡ Accepted
 
 pub step-passed : (r : System) (s : Step) → stepAnswer r s ≡ Accepted → StepPassed r s
 unfolding stepAnswer ruledAnswer
 step-passed r s h =
     let (o, h₁) = unless-not-refused (systemOk r) BadSystem _ Accepted (λ e. let z : _≡_ {A = ℕ} 0 1 = cc in omega arith) h in
-    let (f, a) = unless-not-refused (wellFormed s) BadStep (ruleAnswer r s) Accepted (λ e. let z : _≡_ {A = ℕ} 0 1 = cc in omega arith) h₁ in
+    let (f, a) = unless-not-refused (wellFormed s) BadStep (kindAnswer r s) Accepted (λ e. let z : _≡_ {A = ℕ} 0 1 = cc in omega arith) h₁ in
     record { system = o; form = f; rule = a }
 
 -- steps, then more steps, one by one in any way

@@ -6,11 +6,11 @@ use lib.ListN.{length, getD}
 use Rattle.base.specs.Lists.{every}
 use Rattle.base.proofs.Tests.{every-at}
 use Rattle.rules.specs.Scripts.{Script, scriptHolds}
-use Rattle.rules.proofs.Opened.{opened-all}
+use Rattle.rules.proofs.Evaluated.{evaluated}
 use Rattle.rules_scenes.specs.Scenes.{scenes}
 
 all-scenes : every scriptHolds scenes ≡ true
-unfolding opened-all scenes
+unfolding evaluated scenes
 all-scenes = refl
 
 -- scene k; e stands for what is behind the end

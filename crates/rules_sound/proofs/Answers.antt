@@ -22,7 +22,7 @@ use Rattle.rules.specs.Runs.{ran, fits, finishesEarly, runAnswer}
 use Rattle.rules.specs.Deliver.{deliverAnswer}
 use Rattle.rules.specs.Moves.{moved, moveAnswer}
 use Rattle.rules.specs.Sound.{systemOk}
-use Rattle.rules.specs.Steps.{isRun, isDeliver, wellFormed, ruleAnswer, ruledAnswer, stepAnswer}
+use Rattle.rules.specs.Steps.{isRun, isDeliver, wellFormed, kindAnswer, ruledAnswer, stepAnswer}
 
 -- an answer of another number is no acceptance
 passed : (ok : Bool) (a rest : StepAnswer) → eqb (stepNumber a) 0 ≡ false → unless ok a rest ≡ Accepted → (ok ≡ true) × (rest ≡ Accepted)
@@ -97,7 +97,7 @@ module _ (r : System) where
       (other (fits r (moved r t e)) NetworkFull Accepted refl refl))))))
 
   pub not-bad : (s : Step) → systemOk r ≡ true → stepAnswer r s ≢ BadSystem
-  unfolding stepAnswer ruledAnswer ruleAnswer
+  unfolding stepAnswer ruledAnswer kindAnswer
   not-bad s h e =
       let rule =
       pick-either Other (isRun s) _ _ (run-other (taskId (s .task)))

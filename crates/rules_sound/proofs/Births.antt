@@ -8,12 +8,12 @@ use Rattle.base.proofs.Tests.{and-both, within-low, within-high}
 use Rattle.plan.specs.declared.Plan.{Plan}
 use Rattle.plan.specs.declared.TaskId.{TaskId}
 use Rattle.plan.specs.declared.ProcessorId.{ProcessorId}
+use Rattle.rules.specs.Numbers.{processorOk}
 use Rattle.rules.specs.declared.message.Network.{Network}
 use Rattle.rules.specs.declared.system.System.{System}
 use Rattle.rules.specs.Tasks.{born}
 use Rattle.rules.specs.Systems.{withTask}
 use Rattle.rules.specs.Starts.{located, birth}
-use Rattle.rules.specs.Sound.{processorOk}
 use Rattle.rules_sound.specs.Sound.{programIn, Startable}
 use Rattle.rules_sound.specs.Stands.{Stands}
 use Rattle.rules_sound.proofs.LifeRules.{birth-ok}

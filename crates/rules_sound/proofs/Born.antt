@@ -13,10 +13,10 @@ use Rattle.plan.specs.Programs.{Program}
 use Rattle.plan_laws.proofs.Answers.{and-parts}
 use Rattle.rules.specs.declared.task.Task.{Task}
 use Rattle.rules.specs.declared.task.TaskState.the-variants.{Unborn, Moving, Done}
-use Rattle.rules.specs.Numbers.{isNone}
+use Rattle.rules.specs.Numbers.{isNone, processorOk}
 use Rattle.rules.specs.Tasks.{isIn}
 use Rattle.rules.specs.Cells.{hint}
-use Rattle.rules.specs.Sound.{processorOk, movesOk, knownOk, unbornOk, whereOk, placeOk, lastOk, bornOk, taskOk}
+use Rattle.rules.specs.Sound.{movesOk, knownOk, unbornOk, whereOk, placeOk, lastOk, bornOk, taskOk}
 
 module _ (n m : ℕ) (g : Program) (x : Task) where
   pub record BornPassed : Type 0 where

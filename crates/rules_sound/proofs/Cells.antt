@@ -8,11 +8,12 @@ use borrow.Author.Tests.{eqb-true, ne-eqb, ltb-true}
 use Rattle.base.specs.Choice.{pick, within}
 use Rattle.base.proofs.Tests.{and-left, and-right, within-low, within-high}
 use Rattle.plan.specs.declared.ProcessorId.{ProcessorId}
+use Rattle.rules.specs.Numbers.{processorOk}
 use Rattle.rules.specs.declared.channel.Hint.{Hint}
 use Rattle.rules.specs.declared.channel.Offer.{Offer}
 use Rattle.rules.specs.declared.channel.Cell.{Cell}
-use Rattle.rules.specs.Cells.{isUnknown, newer, larger, earlier, counts, noneCalled, withHint, withHeld, withNoted, withGranted, withCarried, withTravelling, carrying, holding, noting, granting, cleared, passing}
-use Rattle.rules.specs.Sound.{processorOk, movesOk, knownOk, madeOk, hintOk, offerOk}
+use Rattle.rules.specs.Cells.{isUnknown, newer, larger, firstNoted, counts, noneCalled, withHint, withHeld, withNoted, withGranted, withCarried, withTravelling, carrying, holding, noting, granting, cleared, passing}
+use Rattle.rules.specs.Sound.{movesOk, knownOk, madeOk, hintOk, offerOk}
 use Rattle.rules_sound.specs.Fine.{FineCell}
 use Rattle.base.proofs.Choices.{pick-cases}
 
@@ -54,8 +55,8 @@ module _ (n : ℕ) where
   unfolding larger
   larger-fine first later p q = pick-cases (λ o. offerOk n o ≡ true) (ltb (first .number) (later .number)) later first (λ e. q) (λ e. p)
 
-  pub earlier-fine : (first later : ProcessorId) → first .0 ≤ n → later .0 ≤ n → earlier first later .0 ≤ n
-  unfolding earlier
+  pub earlier-fine : (first later : ProcessorId) → first .0 ≤ n → later .0 ≤ n → firstNoted first later .0 ≤ n
+  unfolding firstNoted
   earlier-fine first later p q = pick-cases (λ d. d .0 ≤ n) (eqb (first .0) 0) later first (λ e. q) (λ e. p)
 
   module _ (x : Cell) (f : FineCell n x) where
@@ -84,7 +85,7 @@ module _ (n : ℕ) where
     holding-fine o p = withHeld-fine (larger (x .entry .held) o) (larger-fine (x .entry .held) o (f .entry .held) p)
 
     pub noting-fine : (d : ProcessorId) → d .0 ≤ n → FineCell n (noting x d)
-    noting-fine d p = withNoted-fine (earlier (x .entry .noted) d) (earlier-fine (x .entry .noted) d (f .entry .noted) p)
+    noting-fine d p = withNoted-fine (firstNoted (x .entry .noted) d) (earlier-fine (x .entry .noted) d (f .entry .noted) p)
 
     pub granting-fine : x .channel .granted < 64 → FineCell n (granting x)
     granting-fine p = let q : x .channel .granted + 1 ≤ 64 = omega arith in search

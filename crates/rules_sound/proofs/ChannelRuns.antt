@@ -12,6 +12,7 @@ use Rattle.plan.specs.declared.ChannelId.{ChannelId}
 use Rattle.plan.specs.Kinds.{opSend, opReceive, isUse}
 use Rattle.plan.specs.Programs.{instructionAt}
 use Rattle.plan.specs.Users.{senderOf, receiverOf}
+use Rattle.rules.specs.Numbers.{channelNumberOk}
 use Rattle.rules.specs.declared.system.System.{System}
 use Rattle.rules.specs.Systems.{taskAt, meaning}
 use Rattle.rules.specs.Places.{nextIn, sendNumber}
@@ -19,7 +20,6 @@ use Rattle.rules.specs.Effects.{siteAt}
 use Rattle.rules.specs.Send.{sendRule}
 use Rattle.rules.specs.Receive.{receiveRule}
 use Rattle.rules.specs.Runs.{ranSend, ranReceive, nextOf}
-use Rattle.rules.specs.Sound.{channelOk}
 use Rattle.rules_sound.specs.Fine.{FinePosting}
 use Rattle.rules_sound.specs.Sites.{Acting}
 use Rattle.rules_sound.specs.Sound.{programIn, Startable}
@@ -33,7 +33,7 @@ use Rattle.rules_sound.proofs.Frames.{user-in, tasks-few, program-in}
 use Rattle.rules_sound.proofs.Sites.{applied-fine}
 
 module _ (r : System) (s : Startable (r .processors) (r .plan)) (w : Whole r) (t : TaskId) (l : 1 ≤ t .0) (h : t .0 ≤ r .plan .tasks)
-    (c : ChannelId) (o : channelOk c ≡ true) where
+    (c : ChannelId) (o : channelNumberOk c ≡ true) where
   -- a send's number: there is an instruction that it counts, and a program has at most 64
   pub send-effect : Acting (r .processors) (r .plan .tasks) (programIn (r .plan) t) opSend (taskAt r t) → nextOf r t .operand ≡ c .0
       → FineEffect (r .processors) (r .plan) (r .network) (FinePosting (r .processors) (r .plan .tasks)) (ranSend r t c)

@@ -1,6 +1,6 @@
 -- Letters delivered at a fine site leave fine tasks, a fine cell and fine letters, at most one.
 use mathlib.Core.Path.{_≡_, refl}
-use mathlib.Core.Bool.{Bool, true, false, not, _&&_}
+use mathlib.Core.Bool.{true, not, _&&_}
 use Prim.Native.Nat.{ℕ, _≤_, _<_}
 use native.Mathlib.Omega.{arith}
 use borrow.Author.Tests.{eqb-true, ltb-true, not-false}
@@ -18,13 +18,13 @@ use Rattle.rules.specs.declared.rule.Site.{Site}
 use Rattle.rules.specs.declared.message.Message.the-variants.{Offered, ReadyToReceive, Data}
 use Rattle.rules.specs.declared.rule.Posting.{Posting}
 use Rattle.rules.specs.declared.rule.Outcome.{Outcome}
-use Rattle.rules.specs.Numbers.{sameProcessor}
+use Rattle.rules.specs.Numbers.{sameProcessor, processorOk, channelNumberOk}
 use Rattle.rules.specs.Tasks.{isAt}
 use Rattle.rules.specs.Cells.{hint, newer, counts, noneCalled, granting}
 use Rattle.rules.specs.Receive.{callTo}
 use Rattle.rules.specs.Offers.{kept, pointsOn, offerRule, advertRule}
 use Rattle.rules.specs.Calls.{callRule, dataRule}
-use Rattle.rules.specs.Sound.{processorOk, channelOk, knownOk, madeOk}
+use Rattle.rules.specs.Sound.{knownOk, madeOk}
 use Rattle.rules_sound.specs.Fine.{FineCell, FineReply}
 use Rattle.rules_sound.specs.Sites.{FineSite, FineOutcome}
 use Rattle.rules_sound.proofs.Born.{here-known}
@@ -46,7 +46,7 @@ module _ (n m : ℕ) (gs gr : Program) (x : Site) (f : FineSite n m gr x) where
       let l : 1 ≤ x .receiver .processor .0 = omega (arith, eqb-true (x .receiver .processor .0) (d .0) e, within-low 1 n (d .0) p) in
       here-known n m gr (x .receiver) (f .here l) l
 
-  module _ (c : ChannelId) (k : channelOk c ≡ true) where
+  module _ (c : ChannelId) (k : channelNumberOk c ≡ true) where
     -- an offer or an advert from a desk is answered
     answered-fine : (from : ProcessorId) → processorOk n from ≡ true → (d : ProcessorId) → processorOk n d ≡ true → isAt d (x .receiver) ≡ true
         → x .cell .channel .granted < 64 → Left (kept x (granting (x .cell)) (callTo from c (x .receiver)))

@@ -12,6 +12,7 @@ use Rattle.plan.specs.Kinds.{opCreate, opSend, opReceive}
 use Rattle.plan.specs.Programs.{Program}
 use Rattle.plan.specs.Users.{senderOf, receiverOf, parentOf}
 use Rattle.plan_laws.proofs.Answers.{and-parts}
+use Rattle.rules.specs.Numbers.{processorOk, channelNumberOk, taskNumberOk}
 use Rattle.rules.specs.declared.task.TaskState.the-variants.{Moving}
 use Rattle.rules.specs.declared.message.Message.{Message}
 use Rattle.rules.specs.declared.message.Message.the-variants.{Empty, Offered, Advert, ReadyToReceive, Data, Terminated, Migration}
@@ -25,7 +26,7 @@ use Rattle.rules.specs.Offers.{offerRule, advertRule}
 use Rattle.rules.specs.Calls.{callRule, dataRule}
 use Rattle.rules.specs.Arrivals.{terminatedRule, arrivalReceiving, arrivalSending, arrival}
 use Rattle.rules.specs.Deliver.{onChannel, gotTerminated, gotMigration, opened}
-use Rattle.rules.specs.Sound.{processorOk, channelOk, taskNumberOk, movesOk, knownOk, madeOk, messageOk}
+use Rattle.rules.specs.Sound.{movesOk, knownOk, madeOk, messageOk}
 use Rattle.rules_sound.specs.Fine.{FineReply}
 use Rattle.rules_sound.specs.Sites.{FineSite, FineOutcome}
 use Rattle.rules_sound.specs.Sound.{programIn, Startable}
@@ -43,7 +44,7 @@ module _ (r : System) (s : Startable (r .processors) (r .plan)) (w : Whole r) wh
   Left = FineEffect (r .processors) (r .plan) (r .network) (FineReply (r .processors) (r .plan .tasks))
 
   -- a rule between the two ends of a channel
-  module _ (c : ChannelId) (o : channelOk c ≡ true) (d : ProcessorId) (k : processorOk (r .processors) d ≡ true) where
+  module _ (c : ChannelId) (o : channelNumberOk c ≡ true) (d : ProcessorId) (k : processorOk (r .processors) d ≡ true) where
     abbrev site : Site
     site = siteAt r (senderOf (meaning r) c) (receiverOf (meaning r) c) c d
 
@@ -94,19 +95,19 @@ module _ (r : System) (s : Startable (r .processors) (r .plan)) (w : Whole r) wh
   unfolding opened messageOk
   open-fine Empty h = record { system = w; posting = nothing-reply _ _ }
   open-fine (Offered c o h) f =
-      let (k, f₁) = and-parts (channelOk c) _ f in
+      let (k, f₁) = and-parts (channelNumberOk c) _ f in
       let (made, known) = and-parts (madeOk (r .processors) o) (knownOk (r .processors) h) f₁ in
       on-channel c k (h .processor) (and-left (processorOk (r .processors) (h .processor)) _ known) (λ x. offerRule x c o h) (λ y. offer-fine _ _ _ _ _ y c k o h made known)
   open-fine (Advert c d from) f =
-      let (k, f₁) = and-parts (channelOk c) _ f in
+      let (k, f₁) = and-parts (channelNumberOk c) _ f in
       let (desk, other) = and-parts (processorOk (r .processors) d) (processorOk (r .processors) from) f₁ in
       on-channel c k d desk (λ x. advertRule x c d from) (λ y. advert-fine _ _ _ _ _ y c k d from desk other)
   open-fine (ReadyToReceive c d h) f =
-      let (k, f₁) = and-parts (channelOk c) _ f in
+      let (k, f₁) = and-parts (channelNumberOk c) _ f in
       let (desk, known) = and-parts (processorOk (r .processors) d) (knownOk (r .processors) h) f₁ in
       on-channel c k d desk (λ x. callRule x c d h) (λ y. call-fine _ _ _ _ _ y c k d h known)
   open-fine (Data c d v) f =
-      let (k, desk) = and-parts (channelOk c) (processorOk (r .processors) d) f in
+      let (k, desk) = and-parts (channelNumberOk c) (processorOk (r .processors) d) f in
       on-channel c k d desk (λ x. dataRule x c d v) (λ y. data-fine _ _ _ _ _ y c d v)
   open-fine (Terminated d t) f = record { system = terminated d t; posting = nothing-reply _ _ }
   open-fine (Migration d t) f =

@@ -15,7 +15,7 @@ use Rattle.rules.specs.declared.system.System.{System}
 use Rattle.rules.specs.Numbers.{processorId, channelId}
 use Rattle.rules.specs.Cells.{hint, offer}
 use Rattle.rules.specs.Systems.{entryIndex, entryAt, channelAt}
-use Rattle.rules.specs.Sound.{hintOk, offerOk, tablesOk, channelsOk}
+use Rattle.rules.specs.Sound.{hintOk, offerOk, tablesOk, channelEntriesOk}
 use Rattle.rules_laws.specs.Shapes.{Shaped}
 use Rattle.rules_sound.specs.Fine.{FineEntry, FineChannel}
 
@@ -49,8 +49,8 @@ module _ (n : ℕ) (r : System) (s : Shaped r) where
       (and-both _ _ (everyPair-all _ (x .heldprocessors) (x .heldnumbers) 0 0 (λ i l k. rw (place i) at (at i (omega (arith, s .heldprocessors)) .held)))
       (every-all _ (x .notes) 0 (λ i l. le-leb _ n (rw (place i) at (at i (omega (arith, s .notes)) .noted)))))
 
-  pub channels-fine : channelsOk n (r .channels) ≡ true → (c : ChannelId) → 1 ≤ c .0 → c .0 ≤ 128 → FineChannel n (channelAt r c)
-  unfolding channelsOk channelAt
+  pub channels-fine : channelEntriesOk n (r .channels) ≡ true → (c : ChannelId) → 1 ≤ c .0 → c .0 ≤ 128 → FineChannel n (channelAt r c)
+  unfolding channelEntriesOk channelAt
   channels-fine h c cl ch =
       let x = r .channels in
       let i = c .0 - 1 in
@@ -64,8 +64,8 @@ module _ (n : ℕ) (r : System) (s : Shaped r) where
             everyPair-at _ (x .travellingprocessors) (x .travellingmoves) i 0 0 (omega (arith, s .travellingprocessors)) (omega (arith, s .travellingmoves)) hints;
       }
 
-  pub fine-channels : ((c : ChannelId) → 1 ≤ c .0 → c .0 ≤ 128 → FineChannel n (channelAt r c)) → channelsOk n (r .channels) ≡ true
-  unfolding channelsOk channelAt
+  pub fine-channels : ((c : ChannelId) → 1 ≤ c .0 → c .0 ≤ 128 → FineChannel n (channelAt r c)) → channelEntriesOk n (r .channels) ≡ true
+  unfolding channelEntriesOk channelAt
   fine-channels f =
       let x = r .channels in
       let back : (i : ℕ) → i + 1 - 1 ≡ i = λ i. omega arith in

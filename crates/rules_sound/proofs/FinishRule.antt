@@ -9,10 +9,10 @@ use Rattle.plan.specs.declared.TaskId.{TaskId}
 use Rattle.plan.specs.Programs.{Program}
 use Rattle.rules.specs.declared.task.Task.{Task}
 use Rattle.rules.specs.declared.message.Message.the-variants.{Terminated}
-use Rattle.rules.specs.Numbers.{taskId, sameTask}
+use Rattle.rules.specs.Numbers.{taskId, sameTask, taskNumberOk}
 use Rattle.rules.specs.Tasks.{isAt}
 use Rattle.rules.specs.Local.{finishRule}
-use Rattle.rules.specs.Sound.{taskNumberOk, messageOk}
+use Rattle.rules.specs.Sound.{messageOk}
 use Rattle.rules_sound.specs.Settled.{Settled}
 use Rattle.rules_sound.specs.Sites.{FineFinished}
 use Rattle.rules_sound.proofs.LifeRules.{done-ok, withoutChild-ok}

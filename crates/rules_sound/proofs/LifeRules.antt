@@ -15,12 +15,13 @@ use Rattle.base.proofs.Tests.{and-left, and-right, and-both, within-low, within
 use Rattle.plan.specs.declared.TaskId.{TaskId}
 use Rattle.plan.specs.declared.ProcessorId.{ProcessorId}
 use Rattle.plan.specs.Programs.{Program}
+use Rattle.rules.specs.Numbers.{processorOk}
 use Rattle.rules.specs.declared.task.Task.{Task}
 use Rattle.rules.specs.declared.task.TaskState.the-variants.{Unborn, Waiting, Moving, Done}
 use Rattle.rules.specs.Tasks.{stateNumber, isIn, isAt, withState, withChildren, unborn, born, departed, arrived, advanced, readied, isChildless, woken, withoutChild}
 use Rattle.rules.specs.Places.{lastIn}
 use Rattle.rules.specs.Arrivals.{terminatedRule}
-use Rattle.rules.specs.Sound.{processorOk, movesOk, unbornOk, bornOk, taskOk}
+use Rattle.rules.specs.Sound.{movesOk, unbornOk, bornOk, taskOk}
 use Rattle.rules_sound.specs.Settled.{Settled}
 use Rattle.rules_sound.proofs.Born.{born-passed, born-ok, children-few}
 use Rattle.rules_sound.proofs.Settled.{settled, settled-ok}

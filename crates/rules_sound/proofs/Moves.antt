@@ -7,6 +7,7 @@ use native.Mathlib.Omega.{arith}
 use Rattle.base.proofs.Tests.{and-both, within-both}
 use Rattle.plan.specs.declared.TaskId.{TaskId}
 use Rattle.plan.specs.declared.ProcessorId.{ProcessorId}
+use Rattle.rules.specs.Numbers.{processorOk, taskNumberOk}
 use Rattle.rules.specs.declared.task.TaskState.the-variants.{Ready}
 use Rattle.rules.specs.declared.message.Message.the-variants.{Migration}
 use Rattle.rules.specs.declared.system.System.{System}
@@ -15,7 +16,7 @@ use Rattle.rules.specs.Systems.{taskAt, withTask}
 use Rattle.rules.specs.Effects.{forReceiving}
 use Rattle.rules.specs.Starts.{located}
 use Rattle.rules.specs.Moves.{departureSending, moved}
-use Rattle.rules.specs.Sound.{processorOk, taskNumberOk, movesOk, messageOk}
+use Rattle.rules.specs.Sound.{movesOk, messageOk}
 use Rattle.rules_sound.specs.Fine.{FinePosting}
 use Rattle.rules_sound.specs.Sound.{programIn, Startable}
 use Rattle.rules_sound.specs.Stands.{Whole, FineEffect}

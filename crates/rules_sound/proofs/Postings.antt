@@ -18,11 +18,11 @@ use Rattle.rules.specs.declared.channel.Offer.{Offer}
 use Rattle.rules.specs.declared.message.Message.{Message}
 use Rattle.rules.specs.declared.message.Message.the-variants.{Offered, Advert, ReadyToReceive, Data}
 use Rattle.rules.specs.declared.rule.Posting.the-variants.{Nothing, Letter, Adverts}
-use Rattle.rules.specs.Numbers.{processorId}
+use Rattle.rules.specs.Numbers.{processorId, processorOk, channelNumberOk}
 use Rattle.rules.specs.Cells.{hint}
 use Rattle.rules.specs.Networks.{lettersOf}
 use Rattle.rules.specs.Receive.{callTo}
-use Rattle.rules.specs.Sound.{processorOk, channelOk, knownOk, madeOk, messageOk}
+use Rattle.rules.specs.Sound.{knownOk, madeOk, messageOk}
 use Rattle.rules_sound.specs.Fine.{FinePosting, FineReply}
 use Rattle.base.proofs.Joins.{every-joined}
 
@@ -43,7 +43,7 @@ module _ (n m : ℕ) where
   unfolding lettersOf
   letter-reply a h = record { posting = h; few = omega arith }
 
-  module _ (c : ChannelId) (k : channelOk c ≡ true) where
+  module _ (c : ChannelId) (k : channelNumberOk c ≡ true) where
     pub offered-posted : (o : Offer) (h : Hint) → madeOk n o ≡ true → knownOk n h ≡ true → FinePosting n m (Letter (Offered c o h))
     unfolding messageOk
     offered-posted o h p q = letter-posted (Offered c o h) (simp (k, p, q))

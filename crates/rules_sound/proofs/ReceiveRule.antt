@@ -13,11 +13,11 @@ use Rattle.rules.specs.declared.task.TaskState.the-variants.{Sending}
 use Rattle.rules.specs.declared.channel.Cell.{Cell}
 use Rattle.rules.specs.declared.rule.Site.{Site}
 use Rattle.rules.specs.declared.rule.Posting.{Posting}
-use Rattle.rules.specs.Numbers.{noProcessor, isNone}
+use Rattle.rules.specs.Numbers.{noProcessor, isNone, processorOk, channelNumberOk}
 use Rattle.rules.specs.Tasks.{isAt}
 use Rattle.rules.specs.Cells.{hint, noOffer, counts, noneCalled, withNoted, withCarried, passing}
 use Rattle.rules.specs.Receive.{receivePasses, receiveWaits, receiveRule}
-use Rattle.rules.specs.Sound.{processorOk, channelOk, knownOk}
+use Rattle.rules.specs.Sound.{knownOk}
 use Rattle.rules_sound.specs.Fine.{FineCell, FinePosting}
 use Rattle.rules_sound.specs.Sites.{FineSite, FineOutcome, Acting}
 use Rattle.rules_sound.proofs.Born.{here-known}
@@ -47,7 +47,7 @@ module _ (n m : ℕ) (gs gr : Program) (x : Site) (f : FineSite n m gr x) (a : A
         posting = q;
       }
 
-  pub receive-fine : (c : ChannelId) (w : ℕ) → channelOk c ≡ true → w ≤ 64 → FineOutcome n m gs gr (FinePosting n m) x (receiveRule x c w)
+  pub receive-fine : (c : ChannelId) (w : ℕ) → channelNumberOk c ≡ true → w ≤ 64 → FineOutcome n m gs gr (FinePosting n m) x (receiveRule x c w)
   unfolding receiveRule
   receive-fine c w k l =
       let d = x .receiver .processor in

@@ -12,11 +12,11 @@ use Rattle.rules.specs.declared.task.TaskState.the-variants.{Receiving}
 use Rattle.rules.specs.declared.channel.Cell.{Cell}
 use Rattle.rules.specs.declared.rule.Site.{Site}
 use Rattle.rules.specs.declared.rule.Posting.{Posting}
-use Rattle.rules.specs.Numbers.{sameProcessor}
+use Rattle.rules.specs.Numbers.{sameProcessor, processorOk, channelNumberOk}
 use Rattle.rules.specs.Tasks.{isAt}
 use Rattle.rules.specs.Cells.{isUnknown, offer}
 use Rattle.rules.specs.Send.{sendPasses, sendWaits, sendRule}
-use Rattle.rules.specs.Sound.{processorOk, channelOk, madeOk}
+use Rattle.rules.specs.Sound.{madeOk}
 use Rattle.rules_sound.specs.Fine.{FineCell, FinePosting}
 use Rattle.rules_sound.specs.Sites.{FineSite, FineOutcome, Acting}
 use Rattle.rules_sound.proofs.Settled.{settled, acting-settled}
@@ -45,7 +45,7 @@ module _ (n m : ℕ) (gs gr : Program) (x : Site) (f : FineSite n m gr x) (a : A
         posting = q;
       }
 
-  pub send-fine : (c : ChannelId) (w : ℕ) → channelOk c ≡ true → 1 ≤ w → w ≤ 64 → FineOutcome n m gs gr (FinePosting n m) x (sendRule x c w)
+  pub send-fine : (c : ChannelId) (w : ℕ) → channelNumberOk c ≡ true → 1 ≤ w → w ≤ 64 → FineOutcome n m gs gr (FinePosting n m) x (sendRule x c w)
   unfolding sendRule
   send-fine c w k l u =
       let d = x .sender .processor in

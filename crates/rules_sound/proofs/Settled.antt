@@ -8,11 +8,12 @@ use borrow.Author.Tests.{eqb-true, ne-eqb, ltb-true, lt-ltb}
 use Rattle.base.specs.Choice.{within}
 use Rattle.base.proofs.Tests.{within-low, within-high, within-both}
 use Rattle.plan.specs.Programs.{Program}
+use Rattle.rules.specs.Numbers.{processorOk}
 use Rattle.rules.specs.declared.task.Task.{Task}
 use Rattle.rules.specs.declared.task.TaskState.{TaskState}
 use Rattle.rules.specs.declared.task.TaskState.the-variants.{Ready}
 use Rattle.rules.specs.Tasks.{stateNumber, isIn}
-use Rattle.rules.specs.Sound.{processorOk, lastOk, taskOk}
+use Rattle.rules.specs.Sound.{lastOk, taskOk}
 use Rattle.rules_sound.specs.Settled.{Settled}
 use Rattle.rules_sound.specs.Sites.{Acting}
 use Rattle.rules_sound.proofs.Born.{born-passed, born-ok}
