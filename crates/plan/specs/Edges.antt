@@ -49,7 +49,7 @@ many n =
     ∷ table (n - 2) (λ k. end ∷ [])
 
 -- a file of one finish
-abbrev single : List ℕ
+abbrev pub single : List ℕ
 single = 1 ∷ 0 ∷ 1 ∷ 0 ∷ 8 ∷ 0 ∷ 1 ∷ 0 ∷ 3 ∷ 0 ∷ 0 ∷ 0 ∷ []
 
 -- "Empty plan: 2. One task, one finish, 12 bytes: accepted. .. 65: 2"

@@ -8,8 +8,10 @@ use Rattle.plan.specs.declared.Refusal.the-variants.{BadFinish}
 use Rattle.rules.specs.declared.rule.Received.the-variants.{Nothing, Word}
 use Rattle.rules.specs.declared.step.StepAnswer.the-variants.{BadStep, Accepted as Ok}
 use Rattle.rules.specs.declared.step.RunAnswer.the-variants.{Traced, Unstarted, BadSteps, OutputShort}
-use Rattle.rules.specs.Trace.{decimal, stepLine}
+use Rattle.rules.specs.Trace.{decimal, stepLine, endLine}
 use Rattle.rules.specs.StepFiles.{answerAfter, fitting}
+use Rattle.rules.specs.Edges.{crowded}
+use Rattle.rules.specs.SoundEdges.{small}
 use Rattle.rules.specs.Sites.{one, seven}
 use Rattle.rules.proofs.Evaluated.{evaluated}
 
@@ -34,6 +36,11 @@ word-line = refl
 refused-line : stepLine 2000 (record { answer = BadStep; received = Nothing }) ≡ 50 ∷ 48 ∷ 48 ∷ 48 ∷ 32 ∷ 49 ∷ 57 ∷ 10 ∷ []
 unfolding evaluated
 refused-line = refl
+
+-- `end 0 2`: a rig with two letters
+end-line : endLine (crowded 2 small) ≡ 101 ∷ 110 ∷ 100 ∷ 32 ∷ 48 ∷ 32 ∷ 50 ∷ 10 ∷ []
+unfolding evaluated crowded small
+end-line = refl
 
 -- lines of two, one and two bytes: in five bytes, in four, in two, in one
 abbrev lines : List (List ℕ)

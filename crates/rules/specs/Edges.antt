@@ -7,7 +7,7 @@ use lib.ListN.{replicate}
 use Rattle.plan.specs.Programs.{Programs}
 use Rattle.plan.specs.Layout.{layout}
 use Rattle.plan.specs.WriteEdges.{sameBytes}
-use Rattle.plan.specs.Edges.{worked}
+use Rattle.plan.specs.Edges.{single, worked}
 use Rattle.rules.specs.declared.message.Message.the-variants.{Advert}
 use Rattle.rules.specs.declared.step.Step.{Step}
 use Rattle.rules.specs.declared.system.System.{System}
@@ -58,12 +58,6 @@ endText = 101 ∷ 110 ∷ 100 ∷ 32 ∷ 48 ∷ 32 ∷ 48 ∷ 10 ∷ []
 abbrev pub refusedText : ℕ → List ℕ
 refusedText n = 114 ∷ 101 ∷ 102 ∷ 117 ∷ 115 ∷ 101 ∷ 100 ∷ 32 ∷ n ∷ 10 ∷ []
 
--- `1 0` to `4 0`, `end 0 2`: the first four steps of the run above leave two letters
-abbrev pub fourText : List ℕ
-fourText =
-    49 ∷ 32 ∷ 48 ∷ 10 ∷ 50 ∷ 32 ∷ 48 ∷ 10 ∷ 51 ∷ 32 ∷ 48 ∷ 10 ∷ 52 ∷ 32 ∷ 48 ∷ 10
-    ∷ 101 ∷ 110 ∷ 100 ∷ 32 ∷ 48 ∷ 32 ∷ 50 ∷ 10 ∷ []
-
 -- task 1 sets 65,535, adds 1 and sends; task 2 receives
 abbrev pub overTheTop : Programs
 overTheTop = (create 2 ∷ set 65535 ∷ add 1 ∷ send 1 ∷ finish ∷ []) ∷ (receive 1 ∷ finish ∷ []) ∷ []
@@ -77,7 +71,7 @@ overText =
 
 -- steps with numbers over 255 and task numbers outside the plan: `1 19`, `2 15`, `3 10`, `4 10`, `5 10`, `end 0 0`
 abbrev pub oddSteps : List Step
-oddSteps = raw 1 1 256 ∷ move 1 257 ∷ run 0 ∷ run 3 ∷ move 3 7 ∷ []
+oddSteps = raw 1 1 256 ∷ move 1 257 ∷ run 0 ∷ run 2 ∷ move 2 7 ∷ []
 
 abbrev pub oddText : List ℕ
 oddText =
@@ -89,9 +83,8 @@ unfoldable pub textEdges : List TextEdge
 textEdges =
     record { desks = 2; file = worked; steps = bytesOf workedSteps; text = workedText }
     ∷ record { desks = 2; file = worked; steps = []; text = endText }
-    ∷ record { desks = 2; file = worked; steps = bytesOf (run 1 ∷ run 1 ∷ move 2 2 ∷ run 1 ∷ []); text = fourText }
     ∷ record { desks = 1; file = layout overTheTop; steps = bytesOf (run 1 ∷ run 1 ∷ run 1 ∷ run 1 ∷ run 2 ∷ []); text = overText }
-    ∷ record { desks = 2; file = worked; steps = bytesOf oddSteps; text = oddText }
+    ∷ record { desks = 2; file = single; steps = bytesOf oddSteps; text = oddText }
     ∷ record { desks = 7; file = []; steps = 1 ∷ []; text = refusedText 49 }
     ∷ record { desks = 2; file = []; steps = 1 ∷ []; text = refusedText 50 }
     ∷ record { desks = 2; file = worked; steps = 1 ∷ []; text = refusedText 56 }
@@ -111,12 +104,12 @@ outputHolds e =
     eqb (runNumber (runFileAnswer (e .desks) (e .file) (e .steps) (e .before))) (e .number)
     && sameBytes (runFileOutput (e .desks) (e .file) (e .steps) (e .before)) (e .after)
 
--- on the worked plan, an output of nines
+-- on the plan of one finish, an output of nines
 abbrev pub nines : ℕ → List ℕ
 nines n = replicate n 9
 
 abbrev pub outputEdge : ℕ → List ℕ → ℕ → ℕ → List ℕ → OutputEdge
-outputEdge n steps room number after = record { desks = n; file = worked; steps = steps; before = nines room; number = number; after = after }
+outputEdge n steps room number after = record { desks = n; file = single; steps = steps; before = nines room; number = number; after = after }
 
 -- `1 14` and `end 0 0` are 13 bytes: deliver 0
 abbrev pub shortText : List ℕ
