@@ -4,7 +4,7 @@ use mathlib.Core.Bool.{true, false}
 use mathlib.Core.List.{List, [], _∷_}
 use Rattle.rules.specs.Scripts.{create, sync, finish, send, receive, set, add, raw, run, deliver, move, ok, word, refuses, Script}
 
--- adverts noted at two desks; the note that counts is answered once
+-- an advert that is noted, and one that finds its receiver; the note no longer counts
 abbrev pub notesAtTwoDesks : Script
 notesAtTwoDesks =
     record {
@@ -92,7 +92,7 @@ pointerTravelsWithSender =
       letters = 3;
     }
 
--- an offer held for a receiver that waits on another channel; malformed steps
+-- an offer held for a receiver on its way, which then waits on another channel; malformed steps
 abbrev pub heldForOtherChannel : Script
 heldForOtherChannel =
     record {
@@ -203,8 +203,22 @@ offerChasesMovingReceiver =
       letters = 1;
     }
 
+-- a noted advert that a receive answers
+abbrev pub noteAnswered : Script
+noteAnswered =
+    record {
+      desks = 2;
+      plan =
+          (create 2 ∷ create 3 ∷ finish ∷ []) ∷ (set 7 ∷ send 1 ∷ finish ∷ []) ∷ (receive 1 ∷ receive 1 ∷ finish ∷ []) ∷ [];
+      lines =
+          ok (run 1) ∷ ok (run 2) ∷ ok (run 2) ∷ ok (deliver 1) ∷ ok (run 1) ∷ ok (move 3 2) ∷ ok (deliver 1) ∷ ok (run 3) ∷ ok (deliver 1)
+          ∷ word 1 7 (deliver 1) ∷ ok (run 3) ∷ [];
+      rest = false;
+      letters = 0;
+    }
+
 unfoldable pub scenes : List Script
 scenes =
     notesAtTwoDesks ∷ heldOfferWordLate ∷ syncAndTwoChannels ∷ arrivingSenderOldPointer ∷ carriedOfferMovesAlong ∷ pointerTravelsWithSender
     ∷ heldForOtherChannel ∷ callTeachesSender ∷ staleOfferDropped ∷ sumWrapsAndEndedHome ∷ noDirectPassWhenCalled ∷ lateAdvertAfterPass
-    ∷ twoEndedLetters ∷ offerChasesMovingReceiver ∷ []
+    ∷ twoEndedLetters ∷ offerChasesMovingReceiver ∷ noteAnswered ∷ []
