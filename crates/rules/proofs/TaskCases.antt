@@ -164,6 +164,11 @@ moved-pointer : entryAt (ruledSteps mover (move 1 2 ∷ []) .system) (desk 1) on
 unfolding evaluated
 moved-pointer = refl
 
+-- on its way, nothing can run, but there is a letter
+moving-rest : quiescent (ruledSteps mover (move 1 2 ∷ []) .system) ≡ false
+unfolding evaluated
+moving-rest = refl
+
 arrived-pointer : entryAt (ruledSteps mover (move 1 2 ∷ deliver 1 ∷ []) .system) (desk 2) one .hint ≡ hint (desk 2) 2
 unfolding evaluated
 arrived-pointer = refl
