@@ -68,7 +68,7 @@ forChannels (suc n) test rule d r =
     let q = forChannels n test rule d r in
     pick (test (channelId (suc n))) (withCell q d (channelId (suc n)) (rule (cellAt q d (channelId (suc n))))) q
 
--- "for each channel that the task receives on", "for each channel it sends on"
+-- each channel that a task receives on, and each that it sends on
 abbrev pub receivesOn : Programs → TaskId → ChannelId → Bool
 receivesOn m t c = sameTask (receiverOf m c) t
 

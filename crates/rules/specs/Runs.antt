@@ -34,7 +34,7 @@ ranFinish r t =
     let o = finishRule t (taskAt r t) (taskAt r p) in
     changedPosting (withTask (withTask r p (o .parent)) t (o .task)) (o .posting)
 
--- "the sender's w-th on that channel by its instructions": counted to this one
+-- the number of a send is counted to this one
 unfoldable pub ranSend : System → TaskId → ChannelId → Effect
 ranSend r t c =
     applied r t (receiverOf (meaning r) c) c (taskAt r t .processor) (λ x. sendRule x c (sendNumber (taskProgram r t) c (x .sender .pc)))

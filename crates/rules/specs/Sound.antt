@@ -31,7 +31,7 @@ use Rattle.rules.specs.Networks.{letters}
 use Rattle.rules.specs.Places.{lastIn}
 use Rattle.rules.specs.Systems.{taskAt, taskProgram, meaning}
 
--- "a move count is at most 9,999", "1 at birth"; "Offers are numbered 1 to 64"
+-- a move count of a task that was born; "Offers are numbered 1 to 64"
 abbrev pub movesOk : ℕ → Bool
 movesOk k = within 1 mostMoves k
 
@@ -41,7 +41,7 @@ knownOk n h = processorOk n (h .processor) && movesOk (h .moves)
 abbrev pub madeOk : ℕ → Offer → Bool
 madeOk n o = processorOk n (o .processor) && within 1 64 (o .number)
 
--- "both 0 is unknown"; an offer, or none
+-- a pointer or none, an offer or none
 abbrev pub hintOk : ℕ → Hint → Bool
 hintOk n h = pick (isUnknown h) (eqb (h .moves) 0) (knownOk n h)
 
@@ -71,15 +71,15 @@ messageOk n m (Data c d w) = channelNumberOk c && processorOk n d
 messageOk n m (Terminated d t) = processorOk n d && taskNumberOk m t
 messageOk n m (Migration d t) = processorOk n d && taskNumberOk m t
 
--- "256 letters in the mail"
+-- the mail
 unfoldable pub networkOk : ℕ → ℕ → Network → Bool
 networkOk n m x = leb (x .used) mailSize && every (messageOk n m) (letters x)
 
--- "An unborn task has desk 0, place 1, word 0, count 0"; "a desk of birth (0 before it)"
+-- "an unborn .. task not as said above": the record `unborn`, with any children
 unfoldable pub unbornOk : Task → Bool
 unbornOk x = isNone (x .processor) && (eqb (x .pc) 1 && (every (eqb 0) (wordNumbers (x .word)) && (isNone (x .home) && eqb (x .moves) 0)))
 
--- "a moving one has desk 0"
+-- "a .. moving task not as said above"; any other is at a desk of the rig
 abbrev pub whereOk : ℕ → Task → Bool
 whereOk n x = pick (isIn Moving x) (isNone (x .processor)) (processorOk n (x .processor))
 

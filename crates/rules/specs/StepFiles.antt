@@ -30,7 +30,7 @@ fileSteps b = table (length b / 4) (stepAt b)
 unfoldable pub startOf : ℕ → List ℕ → System
 startOf n p = started n (canonical (filePrograms p))
 
--- "The trace has a line a step .. The last line is `end`"
+-- the lines of the trace: those of the steps, and the last
 unfoldable pub traceLines : System → List Step → List (List ℕ)
 traceLines r ss =
     let h = steps r ss in
@@ -45,7 +45,7 @@ text (l ∷ ls) = l ++ text ls
 unfoldable pub stepsOk : List ℕ → Bool
 stepsOk b = eqb (length b % 4) 0 && leb (length b / 4) 2000
 
--- "Step file: 1 to 6 as at start; 8, ..; .. 20, the lent output is too short": of lines in an output of `room` bytes
+-- in the order 1 to 6, 8, 20: of lines in an output of `room` bytes
 abbrev pub answerAfter : PlanAnswer → Bool → List (List ℕ) → ℕ → RunAnswer
 answerAfter (Refused a) ok lines room = Unstarted a
 answerAfter Accepted ok lines room = unless ok BadSteps (unless (leb (length (text lines)) room) OutputShort Traced)
@@ -58,7 +58,7 @@ unfoldable pub fitting : ℕ → List (List ℕ) → List ℕ
 fitting room [] = []
 fitting room (l ∷ ls) = pick (leb (length l) room) (l ++ fitting (room - length l) ls) []
 
--- what is written: "1 to 6 as at start; 8 ..; the output is untouched"; else what fits
+-- what is written: at 1 to 8 "the output is untouched"; else what fits
 abbrev pub writtenAfter : RunAnswer → List (List ℕ) → ℕ → List ℕ
 writtenAfter Traced lines room = text lines
 writtenAfter (Unstarted a) lines room = []

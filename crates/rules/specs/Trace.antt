@@ -43,6 +43,6 @@ unfoldable pub stepLines : ℕ → List Report → List (List ℕ)
 stepLines k [] = []
 stepLines k (q ∷ qs) = stepLine (suc k) q ∷ stepLines (suc k) qs
 
--- "For a refused file it prints only `refused` and the number."
+-- `refused` and a number
 unfoldable pub refusedLine : ℕ → List ℕ
 refusedLine n = (114 ∷ 101 ∷ 102 ∷ 117 ∷ 115 ∷ 101 ∷ 100 ∷ []) ++ fields (n ∷ [])
