@@ -5,6 +5,9 @@ pub mod Slots
 pub mod Tables
 pub mod Joins
 pub mod Choices
+pub mod Updates
+pub mod Beginnings
+pub mod Counts
 pub mod Maps
 pub mod Pairs
 pub mod Sets

@@ -1,7 +1,8 @@
--- Lists: tests of their elements, and a list given by a rule.
+-- Lists: tests of their elements, how many pass one, and a list given by a rule.
 use mathlib.Core.Bool.{Bool, true, false, _&&_, _||_}
 use mathlib.Core.List.{List, [], _∷_}
-use Prim.Native.Nat.{ℕ, zero, suc}
+use Prim.Native.Nat.{ℕ, zero, suc, _+_}
+use Rattle.base.specs.Choice.{pick}
 
 -- p holds of each element
 unfoldable pub every : {A : Type 0} → (A → Bool) → List A → Bool
@@ -18,6 +19,11 @@ everyPair p (x ∷ xs) (y ∷ ys) = p x y && everyPair p xs ys
 unfoldable pub any : {A : Type 0} → (A → Bool) → List A → Bool
 any p [] = false
 any p (x ∷ xs) = p x || any p xs
+
+-- how many elements p holds of
+unfoldable pub count : {A : Type 0} → (A → Bool) → List A → ℕ
+count p [] = 0
+count p (x ∷ xs) = pick (p x) 1 0 + count p xs
 
 -- f 0, .. f (n - 1), and then xs
 unfoldable pub tableBefore : {A : Type 0} → ℕ → (ℕ → A) → List A → List A

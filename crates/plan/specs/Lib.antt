@@ -1,5 +1,6 @@
 -- What the paper says of plans: their meaning, when they are refused, their file.
 pub mod Answers
+pub mod Numbers
 pub mod Kinds
 pub mod Words
 pub mod Programs

@@ -9,6 +9,7 @@ use Rattle.base.specs.Range.{joined}
 use Rattle.base.specs.Lists.{every, any}
 use Rattle.plan.specs.declared.TaskId.{TaskId}
 use Rattle.plan.specs.declared.ChannelId.{ChannelId}
+use Rattle.plan.specs.Numbers.{taskId}
 use Rattle.plan.specs.Kinds.{opCreate, opSend, opReceive, isUse}
 use Rattle.plan.specs.Programs.{Program, Programs, programAt, instructionAt}
 
@@ -42,10 +43,10 @@ onlyLower u (t ∷ s ∷ ts) = false
 
 -- channel c's sender and receiver and task u's parent, in a plan that is accepted; 0 if there is none
 abbrev pub senderOf : Programs → ChannelId → TaskId
-senderOf m c = record { 0 = firstOf (users m opSend (c .0)) }
+senderOf m c = taskId (firstOf (users m opSend (c .0)))
 
 abbrev pub receiverOf : Programs → ChannelId → TaskId
-receiverOf m c = record { 0 = firstOf (users m opReceive (c .0)) }
+receiverOf m c = taskId (firstOf (users m opReceive (c .0)))
 
 abbrev pub parentOf : Programs → TaskId → TaskId
-parentOf m u = record { 0 = firstOf (users m opCreate (u .0)) }
+parentOf m u = taskId (firstOf (users m opCreate (u .0)))
