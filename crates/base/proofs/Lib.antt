@@ -4,6 +4,7 @@ pub mod Folds
 pub mod Slots
 pub mod Tables
 pub mod Joins
+pub mod Sums
 pub mod Choices
 pub mod Updates
 pub mod Beginnings

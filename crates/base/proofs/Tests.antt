@@ -1,7 +1,7 @@
 -- Laws of tests: a conjunction and its parts, a test of each number below a bound and of each element of a list.
 use mathlib.Core.Path.{_≡_, refl, sym}
-use mathlib.Core.Bool.{Bool, true, false, _&&_, and-assoc}
-use mathlib.Core.Logic.{by-cases}
+use mathlib.Core.Bool.{Bool, true, false, _&&_, _||_, and-assoc, true≢false}
+use mathlib.Core.Logic.{by-cases, _⊎_, inl, inr}
 use mathlib.Core.List.{List, [], _∷_, _++_}
 use Prim.Native.Nat.{ℕ, zero, suc, _+_, _<_, _≤_}
 use native.Mathlib.Numerals.{add-one}
@@ -32,6 +32,20 @@ and-false false = refl
 pub and-true : (a : Bool) → a && true ≡ a
 and-true true = refl
 and-true false = refl
+
+-- one of two tests, and neither
+pub or-cases : (a b : Bool) → a || b ≡ true → (a ≡ true) ⊎ (b ≡ true)
+or-cases true b h = inl refl
+or-cases false b h = inr h
+
+pub or-neither : (a b : Bool) → a || b ≡ false → (a ≡ false) × (b ≡ false)
+or-neither true b h = absurd (true≢false h)
+or-neither false b h = (refl, h)
+
+-- where the second of two tests follows from another
+pub or-follows : (a b c : Bool) → (b ≡ true → c ≡ true) → a || b ≡ true → a || c ≡ true
+or-follows true b c f h = refl
+or-follows false b c f h = f h
 
 -- the first of two tests fails where both together do and the second holds
 pub first-fails : (a b : Bool) → a && b ≡ false → b ≡ true → a ≡ false
@@ -81,6 +95,17 @@ module _ (p : ℕ → Bool) where
       (ℕ-discrete k n)
       (λ (q : k ≡ n). rw (← q, e) (and-false (below k p)))
       (λ q. rw (below-fails n k (omega arith) e) refl)
+
+  -- all hold, or one fails
+  pub below-cases : (n : ℕ) → (below n p ≡ true) ⊎ ((k : ℕ) × (k < n) × (p k ≡ false))
+  below-cases zero = inl below-none
+  below-cases (suc n) = go (below-cases n) (p n) refl
+    where
+      go : (below n p ≡ true) ⊎ ((k : ℕ) × (k < n) × (p k ≡ false)) → (b : Bool) → p n ≡ b
+          → (below (suc n) p ≡ true) ⊎ ((k : ℕ) × (k < suc n) × (p k ≡ false))
+      go (inr (k, l, e)) b q = inr (k, omega arith, e)
+      go (inl h) true q = inl (rw (← add-one n) (below-more n h q))
+      go (inl h) false q = inr (n, omega arith, q)
 
 module _ {A : Type 0} (p : A → Bool) where
   pub every-append : (xs ys : List A) → every p (xs ++ ys) ≡ every p xs && every p ys

@@ -1,0 +1,2 @@
+-- What a machine with labels is.
+pub mod Machines

@@ -1,0 +1,49 @@
+-- What taking a label does.
+use mathlib.Core.Bool.{Bool, true}
+use mathlib.Core.List.{[], _∷_, _++_}
+use Prim.Native.Nat.{suc}
+use lib.Dec.{eqb}
+use Rattle.base.specs.Choice.{pick}
+use Rattle.plan.specs.declared.TaskId.{TaskId}
+use Rattle.plan.specs.declared.ChannelId.{ChannelId}
+use Rattle.plan.specs.declared.Instruction.{Instruction}
+use Rattle.plan.specs.declared.Word.{Word}
+use Rattle.plan.specs.Numbers.{taskId}
+use Rattle.plan.specs.Words.{setWord, addWord}
+use Rattle.plan.specs.Kinds.{opSet, opAdd}
+use Rattle.plan.specs.Programs.{Programs}
+use Rattle.plan.specs.Users.{senderOf, receiverOf}
+use Rattle.net.specs.States.{Net, atTask, atChannel}
+use Rattle.net.specs.Labels.{Label, own, pass, isCreate}
+use Rattle.net.specs.Guards.{nextOf}
+
+-- who is born after instruction i, and the word then of the task that does it
+unfoldable pub bornAfter : Instruction → (TaskId → Bool) → TaskId → Bool
+bornAfter i born = pick (isCreate i) (atTask born (taskId (i .operand)) true) born
+
+unfoldable pub wordAfter : Instruction → Word → Word
+wordAfter i w = pick (eqb (i .opcode) opSet) (setWord w i) (pick (eqb (i .opcode) opAdd) (addWord w i) w)
+
+-- task t completes its own instruction i
+unfoldable pub worked : Net → TaskId → Instruction → Net
+worked s t i =
+    record {
+      born = bornAfter i (s .born);
+      completed = atTask (s .completed) t (suc (s .completed t));
+      word = atTask (s .word) t (wordAfter i (s .word t));
+      passed = s .passed;
+    }
+
+-- the word of task a passes channel c to task b: both complete their instruction
+unfoldable pub handed : Net → ChannelId → TaskId → TaskId → Net
+handed s c a b =
+    record {
+      born = s .born;
+      completed = atTask (atTask (s .completed) a (suc (s .completed a))) b (suc (s .completed b));
+      word = atTask (s .word) b (s .word a);
+      passed = atChannel (s .passed) c (s .passed c ++ (s .word a ∷ []));
+    }
+
+unfoldable pub effect : Programs → Net → Label → Net
+effect m s (own t) = worked s t (nextOf m s t)
+effect m s (pass c) = handed s c (senderOf m c) (receiverOf m c)

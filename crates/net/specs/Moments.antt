@@ -1,0 +1,1 @@
+-- Runs of small plans: in each state, what may be taken, and what is taken.

@@ -1,0 +1,1 @@
+// What a plan means with no desks, as definitions and theorems: see specs/ and proofs/.
