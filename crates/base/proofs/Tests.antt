@@ -1,6 +1,6 @@
--- Laws of tests: a conjunction and its parts, a test of each number below a bound and of each element of a list.
+-- Laws of tests: a conjunction's parts, a disjunction's cases, a test of each number below a bound and of each element of a list.
 use mathlib.Core.Path.{_≡_, refl, sym}
-use mathlib.Core.Bool.{Bool, true, false, _&&_, and-assoc}
+use mathlib.Core.Bool.{Bool, true, false, _&&_, _||_, and-assoc}
 use mathlib.Core.Logic.{by-cases}
 use mathlib.Core.List.{List, [], _∷_, _++_}
 use Prim.Native.Nat.{ℕ, zero, suc, _+_, _<_, _≤_}
@@ -11,7 +11,7 @@ use lib.Dec.{leb}
 use borrow.Author.Tests.{leb-true, le-leb}
 use lib.ListN.{length, getD}
 use Rattle.base.specs.Choice.{within}
-use Rattle.base.specs.Range.{fold, below}
+use Rattle.base.specs.Range.{fold, below, upTo}
 use Rattle.base.specs.Lists.{every}
 
 pub and-left : (a b : Bool) → a && b ≡ true → a ≡ true
@@ -32,6 +32,10 @@ and-false false = refl
 pub and-true : (a : Bool) → a && true ≡ a
 and-true true = refl
 and-true false = refl
+
+pub or-cases : {C : Type 0} (a b : Bool) → a || b ≡ true → (a ≡ true → C) → (b ≡ true → C) → C
+or-cases true b h p q = p refl
+or-cases false b h p q = q h
 
 -- the first of two tests fails where both together do and the second holds
 pub first-fails : (a b : Bool) → a && b ≡ false → b ≡ true → a ≡ false
@@ -81,6 +85,11 @@ module _ (p : ℕ → Bool) where
       (ℕ-discrete k n)
       (λ (q : k ≡ n). rw (← q, e) (and-false (below k p)))
       (λ q. rw (below-fails n k (omega arith) e) refl)
+
+-- what holds of each of 1 .. n holds of one
+pub up-to-at : (p : ℕ → Bool) (n k : ℕ) → 1 ≤ k → k ≤ n → upTo n p ≡ true → p k ≡ true
+up-to-at p n zero l h e = absurd (omega arith)
+up-to-at p n (suc k) l h e = below-at (λ k. p (suc k)) n k h e
 
 module _ {A : Type 0} (p : A → Bool) where
   pub every-append : (xs ys : List A) → every p (xs ++ ys) ≡ every p xs && every p ys
