@@ -1,4 +1,4 @@
--- Laws of tests: a conjunction and its parts, a test of each number below a bound and of each element of a list.
+-- Laws of tests: a conjunction's parts, a disjunction's cases, a test of each number below a bound and of each element of a list.
 use mathlib.Core.Path.{_≡_, refl, sym}
 use mathlib.Core.Bool.{Bool, true, false, _&&_, _||_, and-assoc, true≢false}
 use mathlib.Core.Logic.{by-cases, _⊎_, inl, inr}
@@ -11,7 +11,7 @@ use lib.Dec.{leb}
 use borrow.Author.Tests.{leb-true, le-leb}
 use lib.ListN.{length, getD}
 use Rattle.base.specs.Choice.{within}
-use Rattle.base.specs.Range.{fold, below}
+use Rattle.base.specs.Range.{fold, below, upTo}
 use Rattle.base.specs.Lists.{every}
 
 pub and-left : (a b : Bool) → a && b ≡ true → a ≡ true
@@ -34,9 +34,9 @@ and-true true = refl
 and-true false = refl
 
 -- one of two tests, and neither
-pub or-cases : (a b : Bool) → a || b ≡ true → (a ≡ true) ⊎ (b ≡ true)
-or-cases true b h = inl refl
-or-cases false b h = inr h
+pub or-cases : {C : Type 0} (a b : Bool) → a || b ≡ true → (a ≡ true → C) → (b ≡ true → C) → C
+or-cases true b h p q = p refl
+or-cases false b h p q = q h
 
 pub or-neither : (a b : Bool) → a || b ≡ false → (a ≡ false) × (b ≡ false)
 or-neither true b h = absurd (true≢false h)
@@ -106,6 +106,11 @@ module _ (p : ℕ → Bool) where
       go (inr (k, l, e)) b q = inr (k, omega arith, e)
       go (inl h) true q = inl (rw (← add-one n) (below-more n h q))
       go (inl h) false q = inr (n, omega arith, q)
+
+-- what holds of each of 1 .. n holds of one
+pub up-to-at : (p : ℕ → Bool) (n k : ℕ) → 1 ≤ k → k ≤ n → upTo n p ≡ true → p k ≡ true
+up-to-at p n zero l h e = absurd (omega arith)
+up-to-at p n (suc k) l h e = below-at (λ k. p (suc k)) n k h e
 
 module _ {A : Type 0} (p : A → Bool) where
   pub every-append : (xs ys : List A) → every p (xs ++ ys) ≡ every p xs && every p ys

@@ -39,8 +39,9 @@ module _ (m : Programs) (t : TaskId) where
   pub part-pass : (c : ChannelId) → takesPart m t (pass c) ≡ true → (t .0 ≡ senderOf m c .0) ⊎ (t .0 ≡ receiverOf m c .0)
   unfolding takesPart
   part-pass c h =
-      ⊎-elim (λ e. inl (eqb-true (t .0) (senderOf m c .0) e)) (λ e. inr (eqb-true (t .0) (receiverOf m c .0) e))
-      (or-cases (sameTask t (senderOf m c)) (sameTask t (receiverOf m c)) h)
+      or-cases (sameTask t (senderOf m c)) (sameTask t (receiverOf m c)) h
+      (λ e. inl (eqb-true (t .0) (senderOf m c .0) e))
+      (λ e. inr (eqb-true (t .0) (receiverOf m c .0) e))
 
   pub no-part-pass : (c : ChannelId) → takesPart m t (pass c) ≡ false → (t .0 ≢ senderOf m c .0) × (t .0 ≢ receiverOf m c .0)
   unfolding takesPart

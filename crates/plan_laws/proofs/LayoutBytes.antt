@@ -19,7 +19,7 @@ use Rattle.plan.specs.Programs.{Programs, programAt, instructionAt}
 use Rattle.plan.specs.Layout.{bytes16, offsetDue, countOf, totalOf, headBytes, instructionBytes, codeBytes, layout}
 use Rattle.plan.specs.Refusals.{instructionOk, instructionsOk, planAnswer}
 use Rattle.plan_laws.specs.Bytes.{Bytes}
-use Rattle.plan_laws.proofs.Sums.{sum-at-most}
+use Rattle.base.proofs.Sums.{sum-at-most}
 use Rattle.plan_laws.proofs.ReadLayout.{start, heads, codes}
 use Rattle.plan_laws.proofs.Answers.{PlanPassed, plan-passed, sized}
 

@@ -17,7 +17,7 @@ use Rattle.plan.specs.Refusals.{planAnswer}
 use Rattle.plan.specs.Files.{byteAt, word16, fileTasks, fileTotal, fileOffset, fileCount, fileInstruction, placeOf, filePrograms, secondBytesOk, fileAnswer}
 use Rattle.plan.proofs.Parts.{tasks-in, count-in, instruction-in}
 use Rattle.plan_laws.specs.Bytes.{Bytes}
-use Rattle.plan_laws.proofs.Sums.{sum-const, sum-scaled}
+use Rattle.base.proofs.Sums.{sum-const, sum-scaled}
 use Rattle.plan_laws.proofs.Pieces.{joined-pieces, three-pieces, four}
 use Rattle.plan_laws.proofs.Answers.{InRange, Sized, Laid, file-passed, laid, sized-ok, plan-accepted}
 

@@ -1,6 +1,6 @@
--- The laws of files and plans: what an accepted file is, and that reading and writing undo each other.
+-- The laws of files and plans: what an accepted file is, that reading and writing undo each other, and what an accepted plan says of its
+-- instructions.
 pub mod Answers
-pub mod Sums
 pub mod Pieces
 pub mod Canonical
 pub mod LayoutRead
@@ -8,3 +8,5 @@ pub mod Held
 pub mod ReadLayout
 pub mod LayoutBytes
 pub mod RoundTrip
+pub mod Programs
+pub mod Users

@@ -16,7 +16,7 @@ use Rattle.plan.specs.Programs.{Program, Programs, programAt, instructionAt}
 use Rattle.plan.specs.Layout.{bytes16, offsetDue, countOf, totalOf, headBytes, instructionBytes, codeBytes, layout}
 use Rattle.plan.specs.Refusals.{planAnswer}
 use Rattle.plan.specs.Files.{fileTasks, fileTotal, fileOffset, fileCount, fileInstruction, placeOf, fileProgram, filePrograms, secondBytesOk, fileAnswer}
-use Rattle.plan_laws.proofs.Sums.{sum-const, sum-scaled}
+use Rattle.base.proofs.Sums.{sum-const, sum-scaled}
 use Rattle.plan_laws.proofs.Pieces.{whole}
 use Rattle.plan_laws.proofs.Held.{Held, held-all, held-left, held-right, held-joined, held-word, held-second, held-instruction}
 use Rattle.plan_laws.proofs.Answers.{Sized, Laid, plan-passed, sized, laid-ok, file-accepted}

@@ -7,7 +7,7 @@ use lib.ListN.{length, getD, length-append}
 use Rattle.base.specs.Range.{joined}
 use Rattle.base.proofs.Folds.{fold-none, fold-more}
 use Rattle.base.proofs.Joins.{part-of-sum, length-joined}
-use Rattle.plan_laws.proofs.Sums.{sum-const}
+use Rattle.base.proofs.Sums.{sum-const}
 use Rattle.plan.specs.Layout.{bytes16, offsetDue}
 use Rattle.plan_write.specs.Output.{overlay, totalIn, entryBytes}
 use Rattle.plan_write.proofs.Overlay.{overlay-none, overlay-more, length-overlay}

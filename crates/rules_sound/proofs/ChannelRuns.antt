@@ -28,7 +28,7 @@ use Rattle.rules_sound.proofs.Born.{place-few}
 use Rattle.rules_sound.proofs.Settled.{acting-settled}
 use Rattle.rules_sound.proofs.SendRule.{send-fine}
 use Rattle.rules_sound.proofs.ReceiveRule.{receive-fine}
-use Rattle.rules_sound.proofs.Programs.{send-few, send-some}
+use Rattle.rules_sound.proofs.SendNumbers.{send-few, send-some}
 use Rattle.rules_sound.proofs.Frames.{user-in, tasks-few, program-in}
 use Rattle.rules_sound.proofs.Sites.{applied-fine}
 

@@ -8,8 +8,8 @@ use Rattle.plan.specs.Programs.{programs}
 use Rattle.plan.specs.Users.{users, firstOf}
 use Rattle.plan.proofs.Parts.{tasks-of}
 use Rattle.plan_laws.proofs.Answers.{InRange, sized, plan-passed}
+use Rattle.plan_laws.proofs.Programs.{program-size, user-few}
 use Rattle.rules_sound.specs.Sound.{programIn, Startable}
-use Rattle.rules_sound.proofs.Programs.{program-size, user-few}
 
 -- the first task that has such an instruction is none or one of the plan
 pub user-in : (p : Plan) (k a : ℕ) → firstOf (users (programs p) k a) ≤ p .tasks

@@ -10,7 +10,7 @@ pub mod SendRule
 pub mod ReceiveRule
 pub mod DeliverRules
 pub mod FinishRule
-pub mod Programs
+pub mod SendNumbers
 pub mod Frames
 pub mod Rigs
 pub mod Sites

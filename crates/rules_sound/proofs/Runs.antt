@@ -17,6 +17,7 @@ use Rattle.plan.specs.Refusals.{instructionOk}
 use Rattle.plan.specs.Users.{parentOf}
 use Rattle.plan.specs.Words.{setWord, addWord}
 use Rattle.plan.proofs.Parts.{tasks-of}
+use Rattle.plan_laws.proofs.Programs.{instruction-fine, more-after, create-operand, send-operand, receive-operand}
 use Rattle.rules.specs.declared.task.Task.{Task}
 use Rattle.rules.specs.declared.task.TaskState.the-variants.{Ready}
 use Rattle.rules.specs.declared.system.System.{System}
@@ -37,7 +38,6 @@ use Rattle.rules_sound.proofs.Settled.{settled}
 use Rattle.rules_sound.proofs.TaskRules.{create-ok, word-ok, sync-ok}
 use Rattle.rules_sound.proofs.FinishRule.{finish-fine}
 use Rattle.rules_sound.proofs.Postings.{nothing-posted}
-use Rattle.rules_sound.proofs.Programs.{instruction-fine, more-after, create-operand, send-operand, receive-operand}
 use Rattle.rules_sound.proofs.Rigs.{task-stands}
 use Rattle.rules_sound.proofs.Frames.{user-in, tasks-few, in-plan}
 use Rattle.rules_sound.proofs.Births.{birth-stands}

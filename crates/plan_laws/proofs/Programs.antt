@@ -1,29 +1,23 @@
--- What an accepted plan says of one instruction of one of its programs; the tasks that use a channel; the number of a send.
+-- What an accepted plan says of one instruction of one of its programs, and which tasks have an instruction of a kind.
 use mathlib.Core.Path.{_≡_, refl}
 use mathlib.Core.Bool.{Bool, true, false, not}
 use mathlib.Core.List.{List, [], _∷_}
 use Prim.Native.Nat.{ℕ, zero, suc, _≤_, _<_}
 use native.Mathlib.Omega.{arith}
-use lib.Dec.{leb}
 use lib.ListN.{length}
-use borrow.Author.Tests.{leb-true, le-leb}
-use Rattle.base.specs.Choice.{pick, within}
-use Rattle.base.specs.Range.{fold}
+use Rattle.base.specs.Choice.{within}
 use Rattle.base.specs.Lists.{every}
-use Rattle.base.proofs.Choices.{pick-cases, pick-either}
-use Rattle.base.proofs.Tests.{and-left, and-right, every-at}
+use Rattle.base.proofs.Choices.{pick-either}
+use Rattle.base.proofs.Tests.{and-left, and-right, within-high, within-both, every-at}
+use Rattle.base.proofs.Joins.{every-joined}
 use Rattle.plan.specs.declared.PlanAnswer.the-variants.{Accepted}
-use Rattle.plan.specs.declared.ChannelId.{ChannelId}
 use Rattle.plan.specs.declared.Instruction.{Instruction}
 use Rattle.plan.specs.declared.Refusal.the-variants.{BadFinish}
 use Rattle.plan.specs.Kinds.{opCreate, opSend, opReceive, isFinish, isUse, noInstruction}
 use Rattle.plan.specs.Programs.{Program, Programs, programAt, instructionAt}
 use Rattle.plan.specs.Users.{usesIn, users, firstOf}
 use Rattle.plan.specs.Refusals.{instructionOk, instructionsOk, finishOk, finishesOk, structureAnswer, planAnswer}
 use Rattle.plan_laws.proofs.Answers.{unless-accepted, InRange, sized, plan-passed}
-use Rattle.plan_laws.proofs.Sums.{sum-at-most}
-use Rattle.rules.specs.Places.{sendNumber}
-use Rattle.base.proofs.Joins.{every-joined}
 
 -- an instruction that is no finish is not the last of a program that ends in its only one
 not-last : (g : Program) (i : ℕ) → finishOk g ≡ true → i < length g → isFinish (instructionAt g i) ≡ false → suc i < length g
@@ -64,32 +58,23 @@ module _ (n : ℕ) (i : Instruction) (h : instructionOk n i ≡ true) where
   unfolding instructionOk
   receive-operand e = rw e at h
 
--- the first of the tasks that have such an instruction is none or one of the plan
-first-few : (b : ℕ) (l : List ℕ) → every (λ t. leb t b) l ≡ true → firstOf l ≤ b
+-- the tasks that have an instruction of a kind with an argument are tasks of the plan, and the first is none or one of them
+pub users-within : (m : Programs) (k a : ℕ) → every (within 1 (length m)) (users m k a) ≡ true
+unfolding users every
+users-within m k a =
+    let fits : ℕ → Bool = within 1 (length m) in
+    every-joined fits (length m) (λ j. usesIn k a (suc j) (programAt m j))
+    (λ j h.
+    every-joined fits (length (programAt m j)) _
+    (λ i q.
+    pick-either (λ l. every fits l ≡ true) (isUse k a (instructionAt (programAt m j) i)) (suc j ∷ []) []
+    (rw (within-both 1 (length m) (suc j) (omega arith) h) refl)
+    refl))
+
+first-few : (b : ℕ) (l : List ℕ) → every (within 1 b) l ≡ true → firstOf l ≤ b
 unfolding every
 first-few b [] h = omega arith
-first-few b (t ∷ l) h = leb-true t b (and-left (leb t b) _ h)
+first-few b (t ∷ l) h = within-high 1 b t (and-left (within 1 b t) _ h)
 
 pub user-few : (m : Programs) (k a : ℕ) → firstOf (users m k a) ≤ length m
-unfolding users every
-user-few m k a =
-    first-few (length m) (users m k a)
-    (every-joined (λ t. leb t (length m)) (length m) (λ j. usesIn k a (suc j) (programAt m j))
-    (λ j h.
-    every-joined (λ t. leb t (length m)) (length (programAt m j)) _
-    (λ i q.
-    pick-cases (λ l. every (λ t. leb t (length m)) l ≡ true) (isUse k a (instructionAt (programAt m j) i)) (suc j ∷ []) []
-    (λ e. rw (le-leb (suc j) (length m) h) refl)
-    (λ e. refl))))
-
--- the number of a send
-module _ (g : Program) (c : ChannelId) where
-  pub send-few : (n : ℕ) → sendNumber g c n ≤ n
-  unfolding sendNumber
-  send-few n =
-      let sends : ℕ → Bool = λ i. isUse opSend (c .0) (instructionAt g i) in
-      omega (arith, sum-at-most 1 n (λ i. pick (sends i) 1 0) (λ i h. pick-either (λ w. w ≤ 1) (sends i) 1 0 (omega arith) (omega arith)))
-
-  pub send-some : (n : ℕ) → isUse opSend (c .0) (instructionAt g n) ≡ true → 1 ≤ sendNumber g c (suc n)
-  unfolding sendNumber fold
-  send-some n e = rw e (omega arith)
+user-few m k a = first-few (length m) (users m k a) (users-within m k a)
