@@ -63,7 +63,7 @@ module _ {A : Type 0} (p : A → Bool) where
       (λ q. every-part n f k (omega arith) (and-left (every p (joined n f)) (every p (f n)) r))
 
   -- an element that passes a test is in one of them
-  any-append : (xs ys : List A) → any p (xs ++ ys) ≡ any p xs || any p ys
+  pub any-append : (xs ys : List A) → any p (xs ++ ys) ≡ any p xs || any p ys
   unfolding any
   any-append [] ys = refl
   any-append (x ∷ xs) ys = rw (any-append xs ys, or-assoc (p x) (any p xs) (any p ys)) refl

@@ -5,6 +5,7 @@ pub mod Slots
 pub mod Tables
 pub mod Joins
 pub mod Sums
+pub mod Fronts
 pub mod Choices
 pub mod Updates
 pub mod Beginnings

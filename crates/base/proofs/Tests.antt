@@ -124,3 +124,14 @@ module _ {A : Type 0} (p : A → Bool) where
   every-at [] i d h e = absurd (omega arith)
   every-at (x ∷ xs) zero d h e = and-left (p x) (every p xs) e
   every-at (x ∷ xs) (suc i) d h e = every-at xs i d (omega arith) (and-right (p x) (every p xs) e)
+
+  -- one element that fails
+  pub every-fails : (xs : List A) (d : A) → every p xs ≡ false → (i : ℕ) × (i < length xs) × (p (getD xs i d) ≡ false)
+  unfolding every
+  every-fails [] d h = absurd (true≢false h)
+  every-fails (x ∷ xs) d h = go (p x) refl (every-fails xs d)
+    where
+      go : (b : Bool) → p x ≡ b → (every p xs ≡ false → (i : ℕ) × (i < length xs) × (p (getD xs i d) ≡ false))
+          → (i : ℕ) × (i < length (x ∷ xs)) × (p (getD (x ∷ xs) i d) ≡ false)
+      go false e later = (0, omega arith, e)
+      go true e later = let (i, l, q) = later (rw e at h) in (suc i, omega arith, q)

@@ -4,3 +4,8 @@ pub mod Stays
 pub mod Commute
 pub mod Passed
 pub mod Remaining
+pub mod Consistent
+pub mod Children
+pub mod Stuck
+pub mod Meaning
+pub mod Samples

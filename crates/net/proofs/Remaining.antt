@@ -45,7 +45,7 @@ module _ (m : Programs) (s : Net) (t : TaskId) (active : isActive m s t ≡ true
       none e = let q : s .completed t < length (programFor m t) = active-short in let r : s .completed t < 0 = rw e at q in omega arith
 
 -- somebody takes part in each label
-somebody : (m : Programs) (l : Label) → (t : TaskId) × (takesPart m t l ≡ true)
+pub somebody : (m : Programs) (l : Label) → (t : TaskId) × (takesPart m t l ≡ true)
 somebody m (own t) = (t, own-part m t)
 somebody m (pass c) = (senderOf m c, sender-part m c)
 

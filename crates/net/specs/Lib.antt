@@ -4,5 +4,6 @@ pub mod Labels
 pub mod Guards
 pub mod Effects
 pub mod Nets
+pub mod Consistent
 pub mod Stuck
-pub mod Moments
+pub mod Samples

@@ -1,1 +1,0 @@
--- Runs of small plans: in each state, what may be taken, and what is taken.

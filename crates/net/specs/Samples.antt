@@ -1,0 +1,153 @@
+-- Runs of small plans to their end: in each state the labels that may be taken and the one that is, and what is left at the end.
+use mathlib.Core.Bool.{Bool, true, false, _&&_}
+use mathlib.Core.List.{List, [], _∷_, _++_}
+use Prim.Native.Nat.{ℕ, suc}
+use lib.Dec.{eqb}
+use lib.ListN.{length}
+use Rattle.base.specs.Choice.{pick}
+use Rattle.base.specs.Range.{joined}
+use Rattle.base.specs.Lists.{table}
+use Rattle.plan.specs.declared.TaskId.{TaskId}
+use Rattle.plan.specs.declared.Word.{Word}
+use Rattle.plan.specs.declared.Instruction.{Instruction}
+use Rattle.plan.specs.Numbers.{taskId, channelId}
+use Rattle.plan.specs.Words.{wordNumbers}
+use Rattle.plan.specs.Kinds.{opCreate, opSync, opFinish, opSend, opReceive, opSet, opAdd}
+use Rattle.plan.specs.Programs.{Programs}
+use Rattle.plan.specs.Answers.{isAccepted}
+use Rattle.plan.specs.Refusals.{planAnswer}
+use Rattle.plan.specs.Files.{filePrograms}
+use Rattle.plan.specs.Edges.{does, worked}
+use Rattle.plan.specs.WriteEdges.{sameBytes}
+use Rattle.net.specs.States.{Net, startNet}
+use Rattle.net.specs.Labels.{Label, own, pass}
+use Rattle.net.specs.Guards.{enabled}
+use Rattle.net.specs.Effects.{effect}
+
+-- a state: which tasks may do an instruction of their own, which channels a word may pass, and what is taken
+pub record Moment : Type 0 where
+  pub tasks : List ℕ
+  pub channels : List ℕ
+  pub taken : Label
+
+-- a plan, a run of it, and what each task and channels 1 to 3 then have
+pub record Sample : Type 0 where
+  pub plan : Programs
+  pub run : List Moment
+  pub tasks : List (List ℕ)
+  pub channels : List (List ℕ)
+
+-- those of 1 .. n that pass a test
+abbrev those : ℕ → (ℕ → Bool) → List ℕ
+those n p = joined n (λ k. pick (p (suc k)) (suc k ∷ []) [])
+
+unfoldable pub mayAct : Programs → Net → List ℕ → List ℕ → Bool
+mayAct m s tasks channels =
+    sameBytes (those (length m) (λ t. enabled m s (own (taskId t)))) tasks && sameBytes (those 3 (λ c. enabled m s (pass (channelId c)))) channels
+
+-- a task: 1 if it is born, how many instructions it has completed, its word
+abbrev taskNumbers : Net → TaskId → List ℕ
+taskNumbers s t = pick (s .born t) 1 0 ∷ s .completed t ∷ wordNumbers (s .word t)
+
+unfoldable pub wordsNumbers : List Word → List ℕ
+wordsNumbers [] = []
+wordsNumbers (w ∷ ws) = wordNumbers w ++ wordsNumbers ws
+
+unfoldable pub sameRows : List (List ℕ) → List (List ℕ) → Bool
+sameRows [] [] = true
+sameRows [] (y ∷ ys) = false
+sameRows (x ∷ xs) [] = false
+sameRows (x ∷ xs) (y ∷ ys) = sameBytes x y && sameRows xs ys
+
+-- at the end nothing may be taken
+unfoldable pub ended : Sample → Net → Bool
+ended x s =
+    mayAct (x .plan) s [] []
+    && (sameRows (table (length (x .plan)) (λ k. taskNumbers s (taskId (suc k)))) (x .tasks)
+    && sameRows (table 3 (λ k. wordsNumbers (s .passed (channelId (suc k))))) (x .channels))
+
+unfoldable pub played : Sample → Net → List Moment → Bool
+played x s [] = ended x s
+played x s (a ∷ later) = mayAct (x .plan) s (a .tasks) (a .channels) && played x (effect (x .plan) s (a .taken)) later
+
+unfoldable pub sampleHolds : Sample → Bool
+sampleHolds x = isAccepted (planAnswer (x .plan)) && played x startNet (x .run)
+
+abbrev end : Instruction
+end = does opFinish 0
+
+abbrev acts : List ℕ → List ℕ → ℕ → Moment
+acts tasks channels t = record { tasks = tasks; channels = channels; taken = own (taskId t) }
+
+abbrev passes : List ℕ → List ℕ → ℕ → Moment
+passes tasks channels c = record { tasks = tasks; channels = channels; taken = pass (channelId c) }
+
+-- the paper's worked plan
+abbrev workedSample : Sample
+workedSample =
+    record {
+      plan = filePrograms worked;
+      run =
+          acts (1 ∷ []) [] 1
+          ∷ acts (1 ∷ []) [] 1
+          ∷ passes [] (3 ∷ []) 3
+          ∷ acts (2 ∷ []) [] 2
+          ∷ acts (2 ∷ []) [] 2
+          ∷ acts (1 ∷ []) [] 1
+          ∷ acts (1 ∷ []) [] 1
+          ∷ [];
+      tasks = (1 ∷ 5 ∷ 7 ∷ []) ∷ (1 ∷ 3 ∷ 8 ∷ []) ∷ [];
+      channels = [] ∷ [] ∷ (7 ∷ []) ∷ [];
+    }
+
+-- a sync waits for the child created before it and not for the one created after it; that one sends to nobody, so the finish waits for ever
+abbrev childrenSample : Sample
+childrenSample =
+    record {
+      plan =
+          (does opCreate 2 ∷ does opSync 0 ∷ does opCreate 3 ∷ end ∷ [])
+          ∷ (end ∷ [])
+          ∷ (does opSend 1 ∷ end ∷ [])
+          ∷ [];
+      run = acts (1 ∷ []) [] 1 ∷ acts (2 ∷ []) [] 2 ∷ acts (1 ∷ []) [] 1 ∷ acts (1 ∷ []) [] 1 ∷ [];
+      tasks = (1 ∷ 3 ∷ 0 ∷ []) ∷ (1 ∷ 1 ∷ 0 ∷ []) ∷ (1 ∷ 0 ∷ 0 ∷ []) ∷ [];
+      channels = [] ∷ [] ∷ [] ∷ [];
+    }
+
+-- words in their order, one that wraps, and one that is set over one received; two tasks that each wait on the other's next channel
+abbrev wordsSample : Sample
+wordsSample =
+    record {
+      plan =
+          (does opCreate 2 ∷ does opSet 65535 ∷ does opSend 1 ∷ does opAdd 3 ∷ does opSend 1 ∷ does opSend 2 ∷ end ∷ [])
+          ∷ (does opReceive 1 ∷ does opReceive 1 ∷ does opAdd 4 ∷ does opSet 9 ∷ does opReceive 3 ∷ does opReceive 2 ∷ end ∷ [])
+          ∷ [];
+      run =
+          acts (1 ∷ []) [] 1
+          ∷ acts (1 ∷ []) [] 1
+          ∷ passes [] (1 ∷ []) 1
+          ∷ acts (1 ∷ []) [] 1
+          ∷ passes [] (1 ∷ []) 1
+          ∷ acts (2 ∷ []) [] 2
+          ∷ acts (2 ∷ []) [] 2
+          ∷ [];
+      tasks = (1 ∷ 5 ∷ 2 ∷ []) ∷ (1 ∷ 4 ∷ 9 ∷ []) ∷ [];
+      channels = (65535 ∷ 2 ∷ []) ∷ [] ∷ [] ∷ [];
+    }
+
+-- two tasks at once, and a task that is not born yet: its word may not pass
+abbrev bornSample : Sample
+bornSample =
+    record {
+      plan =
+          (does opCreate 2 ∷ does opReceive 2 ∷ does opCreate 3 ∷ does opSync 0 ∷ end ∷ [])
+          ∷ (does opReceive 1 ∷ does opSend 2 ∷ end ∷ [])
+          ∷ (does opSend 1 ∷ end ∷ [])
+          ∷ [];
+      run = acts (1 ∷ []) [] 1 ∷ [];
+      tasks = (1 ∷ 1 ∷ 0 ∷ []) ∷ (1 ∷ 0 ∷ 0 ∷ []) ∷ (0 ∷ 0 ∷ 0 ∷ []) ∷ [];
+      channels = [] ∷ [] ∷ [] ∷ [];
+    }
+
+unfoldable pub samples : List Sample
+samples = workedSample ∷ childrenSample ∷ wordsSample ∷ bornSample ∷ []
