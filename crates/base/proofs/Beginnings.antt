@@ -1,5 +1,5 @@
 -- Laws of beginnings: a list is one of itself and of itself with more behind it, and a beginning of a beginning is one.
-use mathlib.Core.Path.{_≡_, refl, sym}
+use mathlib.Core.Path.{refl, sym}
 use mathlib.Core.List.{List, [], _++_, append-assoc, append-nil}
 use Rattle.base.specs.Beginnings.{Beginning}
 

@@ -1,5 +1,5 @@
 -- Laws of tests: a conjunction's parts, a disjunction's cases, a test of each number below a bound and of each element of a list.
-use mathlib.Core.Path.{_≡_, refl, sym}
+use mathlib.Core.Path.{_≡_, refl, sym, _∙_}
 use mathlib.Core.Bool.{Bool, true, false, _&&_, _||_, and-assoc, true≢false}
 use mathlib.Core.Logic.{by-cases, _⊎_, inl, inr}
 use mathlib.Core.List.{List, [], _∷_, _++_}
@@ -47,10 +47,26 @@ pub or-follows : (a b c : Bool) → (b ≡ true → c ≡ true) → a || b ≡ t
 or-follows true b c f h = refl
 or-follows false b c f h = f h
 
--- the first of two tests fails where both together do and the second holds
+-- one of two tests fails where both together do and the other holds
 pub first-fails : (a b : Bool) → a && b ≡ false → b ≡ true → a ≡ false
 first-fails true b h q = cc
 first-fails false b h q = refl
+
+pub second-fails : (a b : Bool) → a && b ≡ false → a ≡ true → b ≡ false
+second-fails true b h q = h
+second-fails false b h q = absurd (true≢false (sym q))
+
+-- no test holds and fails; one that does not hold fails, and one that does not fail holds
+pub tests-differ : {b : Bool} → b ≡ true → b ≡ false → ⊥
+tests-differ p q = true≢false (sym p ∙ q)
+
+pub is-false : (b : Bool) → (b ≡ true → ⊥) → b ≡ false
+is-false true h = absurd (h refl)
+is-false false h = refl
+
+pub is-true : (b : Bool) → (b ≡ false → ⊥) → b ≡ true
+is-true true h = refl
+is-true false h = absurd (h refl)
 
 -- a number that is within bounds is at least the lower and at most the upper
 pub within-low : (low high n : ℕ) → within low high n ≡ true → low ≤ n

@@ -1,5 +1,4 @@
 -- A function with one of its values changed. What it is a function of is told apart by a number.
-use mathlib.Core.Bool.{Bool}
 use Prim.Native.Nat.{ℕ}
 use lib.Dec.{eqb}
 use Rattle.base.specs.Choice.{pick}

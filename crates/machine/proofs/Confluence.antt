@@ -1,15 +1,14 @@
 -- Where different labels commute, whatever a run reaches goes on to the normal form of any other run from the same state: there is one normal
 -- form, and each label is taken as often on every way to it.
-use mathlib.Core.Path.{_≡_, refl, sym, ap}
+use mathlib.Core.Path.{_≡_, refl, sym}
 use mathlib.Core.Bool.{Bool, true}
-use mathlib.Core.List.{List, [], _∷_, _++_}
+use mathlib.Core.List.{List, [], _∷_}
 use mathlib.Core.Logic.{_≢_}
-use Prim.Native.Nat.{ℕ, _+_, _≤_}
+use Prim.Native.Nat.{_+_, _≤_}
 use native.Mathlib.Omega.{arith}
 use lib.ListN.{length}
-use Rattle.base.specs.Choice.{pick}
 use Rattle.base.specs.Lists.{count}
-use Rattle.base.proofs.Counts.{count-append, count-all}
+use Rattle.base.proofs.Counts.{count-all}
 use Rattle.machine.specs.Machines.{Machine, Run, stop, take, Normal, Commuting}
 use Rattle.machine.proofs.Runs.{not-normal, normal-stops}
 

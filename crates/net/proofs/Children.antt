@@ -1,18 +1,15 @@
 -- The children of a task, in a consistent state of an accepted plan: a task that is about to create one is not late, and a sync or finish waits
 -- for exactly the born tasks whose parent it is.
 use mathlib.Core.Path.{_≡_, refl, sym, ap, _∙_}
-use mathlib.Core.Bool.{Bool, true, false, not, _&&_, _||_}
-use mathlib.Core.Logic.{by-cases}
-use Prim.Native.Nat.{ℕ, suc, _-_, _<_, _≤_}
+use mathlib.Core.Bool.{true, false, not, _||_}
+use Prim.Native.Nat.{ℕ, _-_, _<_, _≤_}
 use native.Mathlib.Omega.{arith}
-use lib.Dec.{eqb}
-use lib.ListN.{length, getD, take, length-take}
+use lib.ListN.{length, take, length-take}
 use lib.Seq.{getD-take}
 use borrow.Author.Tests.{eqb-true, eq-eqb, not-false}
 use Rattle.base.specs.Choice.{within}
-use Rattle.base.specs.Lists.{any, every}
-use Rattle.base.proofs.Tests.{and-left, and-right, and-both, or-neither, every-at, every-fails}
-use Rattle.base.proofs.Pairs.{every-all}
+use Rattle.base.specs.Lists.{any}
+use Rattle.base.proofs.Tests.{and-left, and-right, and-both, or-neither, tests-differ, is-false, is-true, every-at, every-fails}
 use Rattle.base.proofs.Fronts.{any-front-at, any-front-here}
 use Rattle.plan.specs.declared.PlanAnswer.the-variants.{Accepted}
 use Rattle.plan.specs.declared.TaskId.{TaskId}
@@ -22,13 +19,11 @@ use Rattle.plan.specs.Kinds.{opCreate, isUse, noInstruction}
 use Rattle.plan.specs.Programs.{Programs, programAt, instructionAt}
 use Rattle.plan.specs.Users.{parentOf}
 use Rattle.plan.specs.Refusals.{planAnswer}
-use Rattle.plan_laws.proofs.Programs.{instruction-fine, create-operand}
 use Rattle.plan_laws.proofs.Users.{created-by, created-once, no-parent}
 use Rattle.net.specs.States.{Net}
 use Rattle.net.specs.Labels.{isCreate}
 use Rattle.net.specs.Guards.{programFor, isComplete, isActive, nextOf, childrenComplete}
 use Rattle.net.specs.Consistent.{isCreated, Consistent}
-use Rattle.net.proofs.Parts.{tests-differ}
 use Rattle.net.proofs.Remaining.{active-short, active-task}
 use Rattle.net.proofs.Consistent.{program-some, next-creates}
 
@@ -37,28 +32,23 @@ module _ (m : Programs) (a : planAnswer m ≡ Accepted) (s : Net) (c : Consisten
   pub next-unborn : (t u : TaskId) → isActive m s t ≡ true → isUse opCreate (u .0) (nextOf m s t) ≡ true → s .born u ≡ false
   unfolding isCreated nextOf
   next-unborn t u active e =
-      let (within, parent) = next-creates m a s t active u e in
+      let (w, parent) = next-creates m a s t active u e in
       let (low, high) = active-task m s t active in
-      go low high within parent (s .born u) refl
-    where
-      go : 1 ≤ t .0 → t .0 ≤ length m → within 2 (length m) (u .0) ≡ true → parentOf m u ≡ t → (b : Bool) → s .born u ≡ b → s .born u ≡ false
-      go low high w parent false b = b
-      go low high w parent true b =
-          let g = programAt m (t .0 - 1) in
-          let here : isUse opCreate (u .0) (instructionAt g (s .completed t)) ≡ true = rw (program-some m t low) at e in
-          let there : any (isUse opCreate (u .0)) (take (s .completed t) g) ≡ true = rw (parent, program-some m t low) at (sym (c .child u w) ∙ b) in
-          let (i, k, l, q) = any-front-at (isUse opCreate (u .0)) noInstruction g (s .completed t) there in
-          let short : s .completed t < length g = rw (← program-some m t low) (active-short m s t active) in
-          let same = created-once m a (u .0) (t .0 - 1) i (s .completed t) (omega arith) l short q here in
-          absurd (omega arith)
+      let g = programAt m (t .0 - 1) in
+      let here : isUse opCreate (u .0) (instructionAt g (s .completed t)) ≡ true = rw (program-some m t low) at e in
+      let short : s .completed t < length g = rw (← program-some m t low) (active-short m s t active) in
+      is-false (s .born u)
+      (λ b.
+      let there : any (isUse opCreate (u .0)) (take (s .completed t) g) ≡ true = rw (parent, program-some m t low) at (sym (c .child u w) ∙ b) in
+      let (i, k, l, q) = any-front-at (isUse opCreate (u .0)) noInstruction g (s .completed t) there in
+      let same = created-once m a (u .0) (t .0 - 1) i (s .completed t) (omega arith) l short q here in
+      omega arith)
 
   -- a task whose parent is t is one of 2 .. T
   child-within : (t u : TaskId) → 1 ≤ t .0 → parentOf m u ≡ t → within 2 (length m) (u .0) ≡ true
-  child-within t u low e = go (within 2 (length m) (u .0)) refl
-    where
-      go : (b : Bool) → within 2 (length m) (u .0) ≡ b → within 2 (length m) (u .0) ≡ true
-      go true w = w
-      go false w = let z : taskId 0 ≡ t = sym (no-parent m a (u .0) w) ∙ e in absurd (omega (arith, ap (λ (x : TaskId). x .0) z))
+  child-within t u low e =
+      is-true (within 2 (length m) (u .0))
+      (λ w. let z : taskId 0 ≡ t = sym (no-parent m a (u .0) w) ∙ e in omega (arith, ap (λ (x : TaskId). x .0) z))
 
   module _ (t : TaskId) (low : 1 ≤ t .0) (high : t .0 ≤ length m) where
     -- the children of a task whose children are complete
@@ -99,8 +89,5 @@ module _ (m : Programs) (a : planAnswer m ≡ Accepted) (s : Net) (c : Consisten
             created-by m a u (t .0 - 1) i (omega arith) (rw (program-some m t low) at l) (rw (e, program-some m t low) at uses) ∙ ap taskId (omega arith)
 
     pub complete-children : ((u : TaskId) → parentOf m u ≡ t → s .born u ≡ true → isComplete m s u ≡ true) → childrenComplete m s t ≡ true
-    complete-children h = go (childrenComplete m s t) refl
-      where
-        go : (b : Bool) → childrenComplete m s t ≡ b → childrenComplete m s t ≡ true
-        go true e = e
-        go false e = let (u, parent, born, incomplete) = waits-for e in absurd (tests-differ (h u parent born) incomplete)
+    complete-children h =
+        is-true (childrenComplete m s t) (λ e. let (u, parent, born, incomplete) = waits-for e in tests-differ (h u parent born) incomplete)

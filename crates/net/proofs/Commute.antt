@@ -1,12 +1,10 @@
 -- Two different labels that may be taken lead to the same state in either order.
-use mathlib.Core.Path.{_≡_, refl, sym, ap, _∙_}
+use mathlib.Core.Path.{_≡_, refl, sym, ap}
 use mathlib.Core.Bool.{Bool, true, false}
-use mathlib.Core.List.{[], _∷_, _++_}
 use mathlib.Core.Logic.{_≢_, Ne·symm, by-cases}
 use Prim.Native.Nat.{ℕ, suc}
 use native.Mathlib.Decide.{ℕ-discrete}
 use Rattle.base.specs.Choice.{pick}
-use Rattle.base.specs.Updates.{updated}
 use Rattle.base.proofs.Updates.{updated-other, updated-comm, updated-swap}
 use Rattle.machine.specs.Machines.{Commuting}
 use Rattle.plan.specs.declared.TaskId.{TaskId}
@@ -16,11 +14,11 @@ use Rattle.plan.specs.Numbers.{taskId, channelId}
 use Rattle.plan.specs.Programs.{Programs}
 use Rattle.plan.specs.Users.{senderOf, receiverOf}
 use Rattle.net.specs.States.{Net, atTask}
-use Rattle.net.specs.Labels.{Label, Label-discrete, own, pass, isCreate, takesPart}
+use Rattle.net.specs.Labels.{Label, Label-discrete, own, pass, isCreate}
 use Rattle.net.specs.Guards.{nextOf, enabled}
 use Rattle.net.specs.Effects.{bornAfter, wordAfter, worked, handed, effect}
 use Rattle.net.specs.Nets.{net}
-use Rattle.net.proofs.Parts.{same-task, no-part-own, no-part-pass, sender-part, receiver-part, own-part, apart, ends-apart}
+use Rattle.net.proofs.Parts.{no-part-own, no-part-pass, sender-part, receiver-part, own-part, apart, ends-apart}
 use Rattle.net.proofs.Stays.{next-stays, still-enabled}
 
 -- states with the same four parts are one

@@ -1,17 +1,17 @@
 -- The start is consistent, and each label that may be taken in a net of an accepted plan keeps it so.
 use mathlib.Core.Path.{_≡_, refl, sym, ap, _∙_}
 use mathlib.Core.Bool.{Bool, true, false, _&&_, _||_, or-false, or-true}
-use mathlib.Core.List.{List, []}
+use mathlib.Core.List.{List}
 use mathlib.Core.Logic.{_≢_, by-cases, ⊎-elim}
-use Prim.Native.Nat.{ℕ, suc, _-_, _<_, _≤_}
+use Prim.Native.Nat.{ℕ, _-_, _<_, _≤_}
 use native.Mathlib.Decide.{ℕ-discrete}
 use native.Mathlib.Omega.{arith}
 use lib.Dec.{eqb}
-use lib.ListN.{length, take}
+use lib.ListN.{length}
 use borrow.Author.Tests.{eqb-true, eq-eqb, ne-eqb}
 use Rattle.base.specs.Choice.{pick, within}
 use Rattle.base.specs.Lists.{any}
-use Rattle.base.proofs.Tests.{and-left, and-right, within-low, within-high, within-both}
+use Rattle.base.proofs.Tests.{and-left, and-right, tests-differ, is-false, within-low, within-high, within-both}
 use Rattle.base.proofs.Updates.{updated-at, updated-other}
 use Rattle.base.proofs.Fronts.{any-front-more}
 use Rattle.machine.proofs.Runs.{run-keeps}
@@ -29,11 +29,11 @@ use Rattle.plan_laws.proofs.Programs.{instruction-fine, create-operand}
 use Rattle.plan_laws.proofs.Users.{created-by}
 use Rattle.net.specs.States.{Net, startNet, atTask}
 use Rattle.net.specs.Labels.{Label, own, pass, isCreate, takesPart}
-use Rattle.net.specs.Guards.{programFor, isComplete, isActive, nextOf, enabled}
+use Rattle.net.specs.Guards.{programFor, isActive, nextOf, enabled}
 use Rattle.net.specs.Effects.{bornAfter, worked, handed, effect}
 use Rattle.net.specs.Nets.{net, Reached}
 use Rattle.net.specs.Consistent.{isCreated, Consistent}
-use Rattle.net.proofs.Parts.{same-task, tests-differ, part-own, no-part-own, no-part-pass, part-pass, own-part, acting, own-active, stands-opcode, sender-stands, receiver-stands}
+use Rattle.net.proofs.Parts.{same-task, part-pass, acting, own-active, stands-opcode, sender-stands, receiver-stands}
 use Rattle.net.proofs.Stays.{completed-grows, completed-stays, word-stays, born-kept}
 use Rattle.net.proofs.Remaining.{active-short, active-task}
 
@@ -71,9 +71,10 @@ module _ (m : Programs) (a : planAnswer m ≡ Accepted) (s : Net) (t : TaskId) (
       let opcode = eqb-true (i .opcode) opCreate (and-left (eqb (i .opcode) opCreate) _ e) in
       let operand = eqb-true (i .operand) (u .0) (and-right (eqb (i .opcode) opCreate) _ e) in
       let fine = instruction-fine m a (t .0 - 1) (omega arith) (s .completed t) next-place in
-      let here = rw next-is at e in
-      (rw operand at (create-operand (length m) i (rw (← next-is) at fine) opcode),
-       created-by m a (u .0) (t .0 - 1) (s .completed t) (omega arith) next-place here ∙ ap taskId (omega arith))
+      let here = rw next-is at e in (
+        rw operand at (create-operand (length m) i (rw (← next-is) at fine) opcode),
+        created-by m a (u .0) (t .0 - 1) (s .completed t) (omega arith) next-place here ∙ ap taskId (omega arith),
+      )
 
 -- nobody is created by a word that passes
 pass-creates : (m : Programs) (s : Net) (c : ChannelId) (t u : TaskId) → enabled m s (pass c) ≡ true → takesPart m t (pass c) ≡ true
@@ -102,11 +103,8 @@ module _ (m : Programs) (a : planAnswer m ≡ Accepted) (s : Net) (old : Consist
 
   -- a task's own instruction creates nobody but its children
   no-child : (t u : TaskId) → isActive m s t ≡ true → parentOf m u .0 ≢ t .0 → isUse opCreate (u .0) (nextOf m s t) ≡ false
-  no-child t u active ne = go (isUse opCreate (u .0) (nextOf m s t)) refl
-    where
-      go : (b : Bool) → isUse opCreate (u .0) (nextOf m s t) ≡ b → isUse opCreate (u .0) (nextOf m s t) ≡ false
-      go false e = e
-      go true e = absurd (ne (ap (λ (x : TaskId). x .0) (next-creates m a s t active u e .1)))
+  no-child t u active ne =
+      is-false (isUse opCreate (u .0) (nextOf m s t)) (λ e. ne (ap (λ (x : TaskId). x .0) (next-creates m a s t active u e .1)))
 
   label-child : (l : Label) (u : TaskId) → enabled m s l ≡ true → within 2 (length m) (u .0) ≡ true
       → effect m s l .born u ≡ isCreated m (effect m s l) u
@@ -127,31 +125,22 @@ module _ (m : Programs) (a : planAnswer m ≡ Accepted) (s : Net) (old : Consist
 
   label-nobody : (l : Label) (u : TaskId) → enabled m s l ≡ true → within 1 (length m) (u .0) ≡ false → effect m s l .born u ≡ false
   unfolding effect worked handed
-  label-nobody (own t) u h w = rw (born-after (nextOf m s t) (s .born) u, old .nobody u w) (go (isUse opCreate (u .0) (nextOf m s t)) refl)
-    where
-      go : (b : Bool) → isUse opCreate (u .0) (nextOf m s t) ≡ b → isUse opCreate (u .0) (nextOf m s t) ≡ false
-      go false e = e
-      go true e =
-          let v = next-creates m a s t (own-active m s t h) u e .0 in
-          let low = within-low 2 (length m) (u .0) v in
-          absurd (tests-differ (within-both 1 (length m) (u .0) (omega arith) (within-high 2 (length m) (u .0) v)) w)
+  label-nobody (own t) u h w =
+      rw (born-after (nextOf m s t) (s .born) u, old .nobody u w)
+      (is-false (isUse opCreate (u .0) (nextOf m s t))
+      (λ e.
+      let v = next-creates m a s t (own-active m s t h) u e .0 in
+      let low = within-low 2 (length m) (u .0) v in
+      tests-differ (within-both 1 (length m) (u .0) (omega arith) (within-high 2 (length m) (u .0) v)) w))
   label-nobody (pass c) u h w = old .nobody u w
 
   -- who is not born afterwards was not born before, and takes no part
   unborn-before : (l : Label) (t : TaskId) → effect m s l .born t ≡ false → s .born t ≡ false
-  unborn-before l t h = go (s .born t) refl
-    where
-      go : (b : Bool) → s .born t ≡ b → s .born t ≡ false
-      go false e = e
-      go true e = absurd (tests-differ (born-kept m s l t e) h)
+  unborn-before l t h = is-false (s .born t) (λ e. tests-differ (born-kept m s l t e) h)
 
   unborn-idle : (l : Label) (t : TaskId) → enabled m s l ≡ true → s .born t ≡ false → takesPart m t l ≡ false
   unfolding isActive
-  unborn-idle l t h e = go (takesPart m t l) refl
-    where
-      go : (b : Bool) → takesPart m t l ≡ b → takesPart m t l ≡ false
-      go false p = p
-      go true p = absurd (tests-differ (and-left (s .born t) _ (acting m s l t h p .active)) e)
+  unborn-idle l t h e = is-false (takesPart m t l) (λ p. tests-differ (and-left (s .born t) _ (acting m s l t h p .active)) e)
 
   label-sized : (l : Label) (t : TaskId) → enabled m s l ≡ true → effect m s l .completed t ≤ length (programFor m t)
   label-sized l t h = go (takesPart m t l) refl

@@ -1,23 +1,21 @@
 -- What a plan means: all runs of its net from one state end in one normal form, with the same words on each channel and the same labels of each
 -- task, and whatever is reached on the way is on the way there.
-use mathlib.Core.Path.{_≡_, refl, sym, ap, _∙_}
+use mathlib.Core.Path.{_≡_}
 use mathlib.Core.Bool.{Bool, true, false}
 use mathlib.Core.List.{List}
-use Prim.Native.Nat.{ℕ, suc, _+_, _-_, _≤_}
+use Prim.Native.Nat.{suc, _+_, _-_, _≤_}
 use native.Mathlib.Omega.{arith}
 use lib.ListN.{length}
-use Rattle.base.specs.Range.{sumBelow}
 use Rattle.base.specs.Lists.{count}
 use Rattle.base.specs.Beginnings.{Beginning}
 use Rattle.base.proofs.Folds.{fold-same}
 use Rattle.machine.specs.Machines.{Run, Normal}
 use Rattle.machine.proofs.Confluence.{Rest, onward, one-normal-form}
-use Rattle.machine.proofs.Halting.{Halts}
 use Rattle.plan.specs.declared.PlanAnswer.the-variants.{Accepted}
 use Rattle.plan.specs.declared.TaskId.{TaskId}
 use Rattle.plan.specs.declared.ChannelId.{ChannelId}
 use Rattle.plan.specs.Numbers.{taskId}
-use Rattle.plan.specs.Programs.{Programs, programAt}
+use Rattle.plan.specs.Programs.{Programs}
 use Rattle.plan.specs.Refusals.{planAnswer}
 use Rattle.plan.specs.Layout.{countOf, totalOf}
 use Rattle.net.specs.States.{Net, startNet}

@@ -1,17 +1,15 @@
 -- Who takes part in a label that may be taken: each is at an instruction that waits for this label and no other.
 use mathlib.Core.Path.{_≡_, refl, sym, ap, _∙_}
-use mathlib.Core.Bool.{Bool, true, false, not, _&&_, _||_, true≢false}
+use mathlib.Core.Bool.{true, false, not, _||_, or-true}
 use mathlib.Core.Logic.{_≢_, _⊎_, inl, inr, ⊎-elim}
 use Prim.Native.Nat.{ℕ}
 use native.Mathlib.Omega.{arith}
 use lib.Dec.{eqb}
-use borrow.Author.Tests.{eqb-true, eqb-false, eq-eqb, ne-eqb, not-true}
-use Rattle.base.specs.Choice.{pick}
-use Rattle.base.proofs.Tests.{and-left, and-right, or-cases, or-neither}
+use borrow.Author.Tests.{eqb-true, eqb-false, eq-eqb, not-true}
+use Rattle.base.proofs.Tests.{and-left, and-right, or-cases, or-neither, is-false}
 use Rattle.plan.specs.declared.TaskId.{TaskId}
 use Rattle.plan.specs.declared.ChannelId.{ChannelId}
-use Rattle.plan.specs.declared.Instruction.{Instruction}
-use Rattle.plan.specs.Numbers.{taskId, channelId, sameTask}
+use Rattle.plan.specs.Numbers.{taskId, sameTask}
 use Rattle.plan.specs.Kinds.{opSend, opReceive, isUse}
 use Rattle.plan.specs.Programs.{Programs}
 use Rattle.plan.specs.Users.{senderOf, receiverOf}
@@ -22,10 +20,6 @@ use Rattle.net.specs.Guards.{isActive, nextOf, standsAt, childrenComplet
 -- tasks of one number are one task
 pub same-task : (t u : TaskId) → t .0 ≡ u .0 → t ≡ u
 same-task t u e = ap taskId e
-
--- one test holds and another does not
-pub tests-differ : {b : Bool} → b ≡ true → b ≡ false → ⊥
-tests-differ p q = true≢false (sym p ∙ q)
 
 module _ (m : Programs) (t : TaskId) where
   pub part-own : (u : TaskId) → takesPart m t (own u) ≡ true → t .0 ≡ u .0
@@ -58,10 +52,6 @@ module _ (m : Programs) (c : ChannelId) where
   pub receiver-part : takesPart m (receiverOf m c) (pass c) ≡ true
   unfolding takesPart
   receiver-part = rw (eq-eqb (receiverOf m c .0) (receiverOf m c .0) refl) (or-true (sameTask (receiverOf m c) (senderOf m c)))
-    where
-      or-true : (b : Bool) → b || true ≡ true
-      or-true true = refl
-      or-true false = refl
 
 pub own-part : (m : Programs) (t : TaskId) → takesPart m t (own t) ≡ true
 unfolding takesPart
@@ -101,14 +91,17 @@ module _ (m : Programs) (s : Net) (t : TaskId) (k : ℕ) (c : ChannelId) (h : st
   pub stands-operand : nextOf m s t .operand ≡ c .0
   stands-operand = eqb-true _ (c .0) (and-right (eqb (nextOf m s t .opcode) k) _ uses)
 
-  pub stands-label : isTransfer (nextOf m s t) ≡ true → labelOf t (nextOf m s t) ≡ pass c
-  unfolding labelOf
-  stands-label e = rw (e, stands-operand) refl
-
 -- t may do its next instruction, and does it by label l
 pub record Acting (m : Programs) (s : Net) (t : TaskId) (l : Label) : Type 0 where
   pub active : isActive m s t ≡ true
   pub label : labelOf t (nextOf m s t) ≡ l
+
+-- .. who stands at a send or a receive, by a pass
+pub stands-acting : (m : Programs) (s : Net) (t : TaskId) (k : ℕ) (c : ChannelId) → standsAt m s t k c ≡ true
+    → eqb k opSend || eqb k opReceive ≡ true → Acting m s t (pass c)
+unfolding labelOf
+stands-acting m s t k c h e =
+    record { active = stands-active m s t k c h; label = rw (stands-opcode m s t k c h, e, stands-operand m s t k c h) refl }
 
 module _ (m : Programs) (s : Net) where
   own-acting : (t : TaskId) → enabled m s (own t) ≡ true → Acting m s t (own t)
@@ -121,33 +114,14 @@ module _ (m : Programs) (s : Net) where
   pub acting : (l : Label) (t : TaskId) → enabled m s l ≡ true → takesPart m t l ≡ true → Acting m s t l
   acting (own u) t h p = rw (same-task t u (part-own m t u p)) (own-acting u h)
   acting (pass c) t h p =
-      ⊎-elim
-      (λ e.
-      let q = sender-stands m s c h in
-      let z : Acting m s (senderOf m c) (pass c) =
-          record {
-            active = stands-active m s (senderOf m c) opSend c q;
-            label = stands-label m s (senderOf m c) opSend c q (rw (stands-opcode m s (senderOf m c) opSend c q) refl);
-          } in
-      rw (same-task t (senderOf m c) e) z)
-      (λ e.
-      let q = receiver-stands m s c h in
-      let z : Acting m s (receiverOf m c) (pass c) =
-          record {
-            active = stands-active m s (receiverOf m c) opReceive c q;
-            label = stands-label m s (receiverOf m c) opReceive c q (rw (stands-opcode m s (receiverOf m c) opReceive c q) refl);
-          } in
-      rw (same-task t (receiverOf m c) e) z)
+      ⊎-elim (λ e. rw (same-task t (senderOf m c) e) (stands-acting m s (senderOf m c) opSend c (sender-stands m s c h) refl))
+      (λ e. rw (same-task t (receiverOf m c) e) (stands-acting m s (receiverOf m c) opReceive c (receiver-stands m s c h) refl))
       (part-pass m t c p)
 
   -- nobody takes part in two labels that may be taken
   pub apart : (k l : Label) → k ≢ l → enabled m s k ≡ true → enabled m s l ≡ true → (t : TaskId) → takesPart m t k ≡ true
       → takesPart m t l ≡ false
-  apart k l ne hk hl t p = go (takesPart m t l) refl
-    where
-      go : (b : Bool) → takesPart m t l ≡ b → takesPart m t l ≡ false
-      go false e = e
-      go true e = absurd (ne (sym (acting k t hk p .label) ∙ acting l t hl e .label))
+  apart k l ne hk hl t p = is-false (takesPart m t l) (λ e. ne (sym (acting k t hk p .label) ∙ acting l t hl e .label))
 
   -- the two ends of a pass are two tasks
   pub ends-apart : (c : ChannelId) → enabled m s (pass c) ≡ true → senderOf m c .0 ≢ receiverOf m c .0

@@ -1,10 +1,10 @@
 -- What a run adds: the words passed before it are a beginning of those passed after it, and each task completes an instruction for each label
 -- that it takes part in.
-use mathlib.Core.Path.{_≡_, refl, _∙_}
+use mathlib.Core.Path.{_≡_, refl}
 use mathlib.Core.Bool.{Bool, true, false}
 use mathlib.Core.List.{List, [], _∷_, _++_}
 use mathlib.Core.Logic.{by-cases}
-use Prim.Native.Nat.{ℕ, suc, _+_}
+use Prim.Native.Nat.{_+_}
 use native.Mathlib.Decide.{ℕ-discrete}
 use native.Mathlib.Omega.{arith}
 use Rattle.base.specs.Choice.{pick}
@@ -15,7 +15,6 @@ use Rattle.base.proofs.Updates.{updated-at, updated-other}
 use Rattle.machine.specs.Machines.{Run, stop, take}
 use Rattle.plan.specs.declared.TaskId.{TaskId}
 use Rattle.plan.specs.declared.ChannelId.{ChannelId}
-use Rattle.plan.specs.Numbers.{channelId}
 use Rattle.plan.specs.Programs.{Programs}
 use Rattle.plan.specs.Users.{senderOf}
 use Rattle.net.specs.States.{Net}

@@ -1,30 +1,28 @@
 -- Each label leaves fewer instructions, so every run of the net ends: it is no longer than the instructions left, and a normal form is reached.
-use mathlib.Core.Path.{_≡_, refl, sym, ap, _∙_}
+use mathlib.Core.Path.{_≡_, refl, ap}
 use mathlib.Core.Bool.{Bool, true, false, not, _&&_}
 use mathlib.Core.List.{List, []}
 use mathlib.Core.Logic.{_⊎_, inl, inr, ⊎-elim, by-cases}
 use Prim.Native.Nat.{ℕ, suc, _+_, _-_, _<_, _≤_}
 use native.Mathlib.Decide.{ℕ-discrete, decLe}
 use native.Mathlib.Omega.{arith}
-use lib.Dec.{eqb, ltb}
 use lib.ListN.{length, List·getD-eq-default}
 use borrow.Author.Tests.{ltb-true, eq-eqb, ne-eqb, not-true, not-false}
-use Rattle.base.specs.Choice.{pick}
 use Rattle.base.specs.Range.{below}
-use Rattle.base.proofs.Tests.{and-right, and-both, below-at, below-cases}
+use Rattle.base.proofs.Tests.{and-right, and-both, tests-differ, is-false, below-at, below-cases}
 use Rattle.base.proofs.Sums.{sum-less}
 use Rattle.machine.specs.Machines.{Run, Normal}
 use Rattle.machine.proofs.Halting.{Next, Halts, run-bounded, halts}
 use Rattle.plan.specs.declared.TaskId.{TaskId}
 use Rattle.plan.specs.Numbers.{taskId}
-use Rattle.plan.specs.Programs.{Programs, programAt}
+use Rattle.plan.specs.Programs.{Programs}
 use Rattle.plan.specs.Users.{senderOf}
 use Rattle.net.specs.States.{Net}
 use Rattle.net.specs.Labels.{Label, own, pass, labelOf, takesPart}
 use Rattle.net.specs.Guards.{programFor, isComplete, isActive, nextOf, enabled}
 use Rattle.net.specs.Effects.{effect}
 use Rattle.net.specs.Nets.{net, remaining}
-use Rattle.net.proofs.Parts.{tests-differ, own-part, sender-part, acting}
+use Rattle.net.proofs.Parts.{own-part, sender-part, acting}
 use Rattle.net.proofs.Stays.{completed-grows, completed-stays}
 
 module _ (m : Programs) (s : Net) (t : TaskId) (active : isActive m s t ≡ true) where
@@ -75,19 +73,18 @@ module _ (m : Programs) where
   -- some label may be taken, or none
   next : (s : Net) → Next (net m) s ⊎ Normal (net m) s
   next s =
-      ⊎-elim (λ none. inr (λ l. none-enabled none l (enabled m s l) refl))
+      ⊎-elim (λ none. inr (λ l. is-false (enabled m s l) (none-enabled none l)))
       (λ x. let (k, q, e) = x in inl (record { label = labelOf (taskId (suc k)) (nextOf m s (taskId (suc k))); may = and-right (isActive m s (taskId (suc k))) _ (not-false (can s k) e) }))
       (below-cases (λ k. not (can s k)) (length m))
     where
-      none-enabled : below (length m) (λ k. not (can s k)) ≡ true → (l : Label) (b : Bool) → enabled m s l ≡ b → enabled m s l ≡ false
-      none-enabled none l false e = e
-      none-enabled none l true e =
+      none-enabled : below (length m) (λ k. not (can s k)) ≡ true → (l : Label) → enabled m s l ≡ true → ⊥
+      none-enabled none l e =
           let (t, p) = somebody m l in
           let x = acting m s l t e p in
           let (low, high) = active-task m s t (x .active) in
           let f : t ≡ taskId (suc (t .0 - 1)) = ap taskId (omega arith) in
           let y : can s (t .0 - 1) ≡ true = rw (← f) (and-both _ _ (x .active) (rw (x .label) e)) in
-          absurd (tests-differ y (not-true _ (below-at (λ k. not (can s k)) (length m) (t .0 - 1) (omega arith) none)))
+          tests-differ y (not-true _ (below-at (λ k. not (can s k)) (length m) (t .0 - 1) (omega arith) none))
 
   -- no run is longer than the instructions left
   pub run-ends : {s z : Net} {ls : List Label} → Run (net m) s ls z → length ls + remaining m z ≤ remaining m s

@@ -1,17 +1,15 @@
 -- What a label leaves as it was: a task without a part in it stays where it is, who is born or complete stays so, and another label that could
 -- be taken still can.
-use mathlib.Core.Path.{_≡_, refl, sym, ap, _∙_}
-use mathlib.Core.Bool.{Bool, true, false, not, _&&_, _||_}
-use mathlib.Core.List.{List, [], _∷_}
-use mathlib.Core.Logic.{_≢_, _⊎_, inl, inr, ⊎-elim, Ne·symm, by-cases}
+use mathlib.Core.Path.{_≡_, refl, _∙_}
+use mathlib.Core.Bool.{Bool, true, false, not, _||_}
+use mathlib.Core.List.{[], _∷_}
+use mathlib.Core.Logic.{_≢_, ⊎-elim, Ne·symm, by-cases}
 use Prim.Native.Nat.{ℕ, suc}
 use native.Mathlib.Decide.{ℕ-discrete}
-use lib.Dec.{eqb, ltb}
-use lib.ListN.{length, take}
-use borrow.Author.Tests.{not-true, not-false}
-use Rattle.base.specs.Choice.{pick}
+use lib.ListN.{take}
+use borrow.Author.Tests.{not-true}
 use Rattle.base.specs.Lists.{every}
-use Rattle.base.proofs.Tests.{and-left, and-right, and-both, or-follows}
+use Rattle.base.proofs.Tests.{and-left, and-right, and-both, or-follows, tests-differ, is-false}
 use Rattle.base.proofs.Choices.{pick-either}
 use Rattle.base.proofs.Updates.{updated-at, updated-same, updated-other}
 use Rattle.plan.specs.declared.TaskId.{TaskId}
@@ -25,7 +23,7 @@ use Rattle.net.specs.States.{Net, atTask}
 use Rattle.net.specs.Labels.{Label, own, pass, isCreate, isJoin, isTransfer, takesPart}
 use Rattle.net.specs.Guards.{programFor, isComplete, isActive, nextOf, standsAt, childrenComplete, isFree, enabled}
 use Rattle.net.specs.Effects.{bornAfter, worked, handed, effect}
-use Rattle.net.proofs.Parts.{same-task, tests-differ, part-own, no-part-own, part-pass, no-part-pass, sender-part, receiver-part, own-part, own-active, own-free, sender-stands, receiver-stands, Acting, acting, apart, ends-apart}
+use Rattle.net.proofs.Parts.{same-task, part-own, no-part-own, part-pass, no-part-pass, sender-part, receiver-part, own-part, own-active, own-free, sender-stands, receiver-stands, acting, apart, ends-apart}
 
 -- a birth adds to who is born
 born-more : (i : Instruction) (born : TaskId → Bool) (t : TaskId) → born t ≡ true → bornAfter i born t ≡ true
@@ -74,11 +72,8 @@ module _ (m : Programs) (s : Net) (l : Label) (may : enabled m s l ≡ true) whe
   -- who is complete takes no part, and stays complete
   complete-idle : (t : TaskId) → isComplete m s t ≡ true → takesPart m t l ≡ false
   unfolding isActive
-  complete-idle t h = go (takesPart m t l) refl
-    where
-      go : (b : Bool) → takesPart m t l ≡ b → takesPart m t l ≡ false
-      go false e = e
-      go true e = absurd (tests-differ h (not-true (isComplete m s t) (and-right (s .born t) (not (isComplete m s t)) (acting m s l t may e .active))))
+  complete-idle t h =
+      is-false (takesPart m t l) (λ e. tests-differ h (not-true (isComplete m s t) (and-right (s .born t) _ (acting m s l t may e .active))))
 
   pub complete-kept : (t : TaskId) → isComplete m s t ≡ true → isComplete m (effect m s l) t ≡ true
   complete-kept t h = rw (complete-stays m s l t (complete-idle t h)) h

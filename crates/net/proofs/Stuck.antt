@@ -1,18 +1,16 @@
 -- A normal form says what is stuck: each born task that is not complete; and a state in which all of these are stuck is a normal form.
 use mathlib.Core.Path.{_≡_, refl, sym, ap, _∙_}
-use mathlib.Core.Bool.{Bool, true, false, not, _&&_, _||_}
+use mathlib.Core.Bool.{Bool, true, false, not}
 use Prim.Native.Nat.{ℕ, suc, _-_, _<_}
 use native.Mathlib.Omega.{arith}
 use lib.Dec.{eqb}
 use lib.ListN.{length}
-use borrow.Author.Tests.{eqb-true, eq-eqb, not-true, not-false}
-use Rattle.base.specs.Choice.{pick}
-use Rattle.base.proofs.Tests.{and-left, and-right, and-both, or-cases, or-neither, first-fails}
+use borrow.Author.Tests.{eqb-true, eq-eqb, not-false}
+use Rattle.base.proofs.Tests.{and-right, and-both, or-cases, or-neither, first-fails, second-fails, tests-differ, is-false}
 use Rattle.machine.specs.Machines.{Normal}
 use Rattle.plan.specs.declared.PlanAnswer.the-variants.{Accepted}
 use Rattle.plan.specs.declared.TaskId.{TaskId}
 use Rattle.plan.specs.declared.ChannelId.{ChannelId}
-use Rattle.plan.specs.declared.Instruction.{Instruction}
 use Rattle.plan.specs.Numbers.{taskId, channelId}
 use Rattle.plan.specs.Kinds.{opSync, opFinish, opSend, opReceive, isUse}
 use Rattle.plan.specs.Programs.{Programs, programAt, instructionAt}
@@ -25,7 +23,7 @@ use Rattle.net.specs.Guards.{isComplete, isActive, nextOf, standsAt, chi
 use Rattle.net.specs.Nets.{net}
 use Rattle.net.specs.Consistent.{Consistent}
 use Rattle.net.specs.Stuck.{Stuck, sending, receiving, joining}
-use Rattle.net.proofs.Parts.{tests-differ, own-free, sender-stands, receiver-stands, stands-active, stands-opcode, stands-label, acting}
+use Rattle.net.proofs.Parts.{own-free, sender-stands, receiver-stands, stands-active, stands-acting, acting}
 use Rattle.net.proofs.Remaining.{active-task, somebody}
 use Rattle.net.proofs.Consistent.{next-place, next-is}
 use Rattle.net.proofs.Children.{children-complete, waits-for}
@@ -61,11 +59,6 @@ at-channel m s t k active e =
     let i = nextOf m s t in
     and-both (isActive m s t) _ active (and-both (eqb (i .opcode) k) _ (eq-eqb (i .opcode) k e) (eq-eqb (i .operand) (i .operand) refl))
 
--- a conjunction that fails though its other part holds
-second-fails : (x y : Bool) → x && y ≡ false → x ≡ true → y ≡ false
-second-fails true y h e = h
-second-fails false y h e = absurd (tests-differ e refl)
-
 module _ (m : Programs) (a : planAnswer m ≡ Accepted) (s : Net) (c : Consistent m s) where
   module _ (normal : Normal (net m) s) (t : TaskId) (active : isActive m s t ≡ true) where
     stuck-sending : nextOf m s t .opcode ≡ opSend → Stuck m s t
@@ -73,16 +66,14 @@ module _ (m : Programs) (a : planAnswer m ≡ Accepted) (s : Net) (c : Consisten
     stuck-sending e =
         let d = channelId (nextOf m s t .operand) in
         let here = at-channel m s t opSend active e in
-        let sender = stands-sender m a s t d here in
-        sending d here (second-fails (standsAt m s (senderOf m d) opSend d) _ (normal (pass d)) (rw sender here))
+        sending d here (second-fails (standsAt m s (senderOf m d) opSend d) _ (normal (pass d)) (rw (stands-sender m a s t d here) here))
 
     stuck-receiving : nextOf m s t .opcode ≡ opReceive → Stuck m s t
     unfolding enabled
     stuck-receiving e =
         let d = channelId (nextOf m s t .operand) in
         let here = at-channel m s t opReceive active e in
-        let receiver = stands-receiver m a s t d here in
-        receiving d here (first-fails (standsAt m s (senderOf m d) opSend d) _ (normal (pass d)) (rw receiver here))
+        receiving d here (first-fails (standsAt m s (senderOf m d) opSend d) _ (normal (pass d)) (rw (stands-receiver m a s t d here) here))
 
     stuck-joining : isTransfer (nextOf m s t) ≡ false → Stuck m s t
     unfolding enabled isFree
@@ -113,18 +104,18 @@ module _ (m : Programs) (a : planAnswer m ≡ Accepted) (s : Net) (c : Consisten
   stuck-waits : (l : Label) (t : TaskId) → enabled m s l ≡ true → takesPart m t l ≡ true → Stuck m s t → ⊥
   unfolding labelOf isFree
   stuck-waits l t h p (sending d here other) =
-      let e : l ≡ pass d = sym (acting m s l t h p .label) ∙ stands-label m s t opSend d here (rw (stands-opcode m s t opSend d here) refl) in
+      let e : l ≡ pass d = sym (acting m s l t h p .label) ∙ stands-acting m s t opSend d here refl .label in
       tests-differ (receiver-stands m s d (rw e at h)) other
   stuck-waits l t h p (receiving d here other) =
-      let e : l ≡ pass d = sym (acting m s l t h p .label) ∙ stands-label m s t opReceive d here (rw (stands-opcode m s t opReceive d here) refl) in
+      let e : l ≡ pass d = sym (acting m s l t h p .label) ∙ stands-acting m s t opReceive d here refl .label in
       tests-differ (sender-stands m s d (rw e at h)) other
   stuck-waits l t h p (joining u join parent born incomplete) =
       let x = acting m s l t h p in
       let i = nextOf m s t in
       let alone : isTransfer i ≡ false =
-          or-cases (eqb (i .opcode) opSync) (eqb (i .opcode) opFinish) join
-          (λ q. rw (eqb-true (i .opcode) opSync q) refl)
-          (λ q. rw (eqb-true (i .opcode) opFinish q) refl) in
+      or-cases (eqb (i .opcode) opSync) (eqb (i .opcode) opFinish) join
+      (λ q. rw (eqb-true (i .opcode) opSync q) refl)
+      (λ q. rw (eqb-true (i .opcode) opFinish q) refl) in
       let e : l ≡ own t = sym (x .label) ∙ rw alone refl in
       let free = and-right (not (isTransfer i)) _ (own-free m s t (rw e at h)) in
       let complete : childrenComplete m s t ≡ true = rw join at free in
@@ -133,8 +124,5 @@ module _ (m : Programs) (a : planAnswer m ≡ Accepted) (s : Net) (c : Consisten
 
   -- and where each of these is stuck, nothing may be taken
   pub stuck-normal : ((t : TaskId) → isActive m s t ≡ true → Stuck m s t) → Normal (net m) s
-  stuck-normal all l = go (enabled m s l) refl
-    where
-      go : (b : Bool) → enabled m s l ≡ b → enabled m s l ≡ false
-      go false e = e
-      go true e = let (t, p) = somebody m l in absurd (stuck-waits l t e p (all t (acting m s l t e p .active)))
+  stuck-normal all l =
+      is-false (enabled m s l) (λ e. let (t, p) = somebody m l in stuck-waits l t e p (all t (acting m s l t e p .active)))
