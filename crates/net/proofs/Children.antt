@@ -1,7 +1,7 @@
 -- The children of a task, in a consistent state of an accepted plan: a task that is about to create one is not late, and a sync or finish waits
 -- for exactly the born tasks whose parent it is.
 use mathlib.Core.Path.{_≡_, refl, sym, ap, _∙_}
-use mathlib.Core.Bool.{true, false, not, _||_}
+use mathlib.Core.Bool.{true, false, not}
 use Prim.Native.Nat.{ℕ, _-_, _<_, _≤_}
 use native.Mathlib.Omega.{arith}
 use lib.ListN.{length, take, length-take}
@@ -22,7 +22,7 @@ use Rattle.plan.specs.Refusals.{planAnswer}
 use Rattle.plan_laws.proofs.Users.{created-by, created-once, no-parent}
 use Rattle.net.specs.States.{Net}
 use Rattle.net.specs.Labels.{isCreate}
-use Rattle.net.specs.Guards.{programFor, isComplete, isActive, nextOf, childrenComplete}
+use Rattle.net.specs.Guards.{programFor, isComplete, isActive, nextOf, childComplete, childrenComplete}
 use Rattle.net.specs.Consistent.{isCreated, Consistent}
 use Rattle.net.proofs.Remaining.{active-short, active-task}
 use Rattle.net.proofs.Consistent.{program-some, next-creates}
@@ -60,8 +60,8 @@ module _ (m : Programs) (a : planAnswer m ≡ Accepted) (s : Net) (c : Consisten
         let there : any (isUse opCreate (u .0)) (take done g) ≡ true = rw e at (sym (c .child u (child-within t u low e)) ∙ b) in
         let (i, k, l, q) = any-front-at (isUse opCreate (u .0)) noInstruction g done there in
         let x = instructionAt g i in
-        let r = every-at (λ i. not (isCreate i) || isComplete m s (taskId (i .operand))) (take done g) i noInstruction (omega (arith, length-take done g)) h in
-        let y : not (isCreate x) || isComplete m s (taskId (x .operand)) ≡ true = rw (getD-take done g i noInstruction k) at r in
+        let r = every-at (childComplete m s) (take done g) i noInstruction (omega (arith, length-take done g)) h in
+        let y : childComplete m s x ≡ true = rw (getD-take done g i noInstruction k) at r in
         let create = and-left (isCreate x) _ q in
         let operand = eqb-true (x .operand) (u .0) (and-right (isCreate x) _ q) in
         rw (create, operand) at y
@@ -72,12 +72,12 @@ module _ (m : Programs) (a : planAnswer m ≡ Accepted) (s : Net) (c : Consisten
     waits-for h =
         let g = programFor m t in
         let done = s .completed t in
-        let (i, j, r) = every-fails (λ i. not (isCreate i) || isComplete m s (taskId (i .operand))) (take done g) noInstruction h in
+        let (i, j, r) = every-fails (childComplete m s) (take done g) noInstruction h in
         let n = length-take done g in
         let k : i < done = omega arith in
         let l : i < length g = omega arith in
         let x = instructionAt g i in
-        let y : not (isCreate x) || isComplete m s (taskId (x .operand)) ≡ false = rw (getD-take done g i noInstruction k) at r in
+        let y : childComplete m s x ≡ false = rw (getD-take done g i noInstruction k) at r in
         let (create, incomplete) = or-neither (not (isCreate x)) (isComplete m s (taskId (x .operand))) y in
         let u = taskId (x .operand) in
         let uses : isUse opCreate (u .0) x ≡ true = and-both (isCreate x) _ (not-false (isCreate x) create) (eq-eqb (x .operand) (u .0) refl) in

@@ -1,6 +1,6 @@
 -- The start is consistent, and each label that may be taken in a net of an accepted plan keeps it so.
 use mathlib.Core.Path.{_≡_, refl, sym, ap, _∙_}
-use mathlib.Core.Bool.{Bool, true, false, _&&_, _||_, or-false, or-true}
+use mathlib.Core.Bool.{Bool, true, false, _||_, or-false}
 use mathlib.Core.List.{List}
 use mathlib.Core.Logic.{_≢_, by-cases, ⊎-elim}
 use Prim.Native.Nat.{ℕ, _-_, _<_, _≤_}
@@ -9,16 +9,14 @@ use native.Mathlib.Omega.{arith}
 use lib.Dec.{eqb}
 use lib.ListN.{length}
 use borrow.Author.Tests.{eqb-true, eq-eqb, ne-eqb}
-use Rattle.base.specs.Choice.{pick, within}
+use Rattle.base.specs.Choice.{within}
 use Rattle.base.specs.Lists.{any}
 use Rattle.base.proofs.Tests.{and-left, and-right, tests-differ, is-false, within-low, within-high, within-both}
-use Rattle.base.proofs.Updates.{updated-at, updated-other}
 use Rattle.base.proofs.Fronts.{any-front-more}
 use Rattle.machine.proofs.Runs.{run-keeps}
 use Rattle.plan.specs.declared.PlanAnswer.the-variants.{Accepted}
 use Rattle.plan.specs.declared.TaskId.{TaskId}
 use Rattle.plan.specs.declared.ChannelId.{ChannelId}
-use Rattle.plan.specs.declared.Instruction.{Instruction}
 use Rattle.plan.specs.Numbers.{taskId}
 use Rattle.plan.specs.Kinds.{opCreate, opSend, opReceive, isUse, noInstruction}
 use Rattle.plan.specs.Programs.{Programs, programAt, instructionAt}
@@ -27,32 +25,20 @@ use Rattle.plan.specs.Refusals.{planAnswer}
 use Rattle.plan_laws.proofs.Answers.{plan-passed, sized}
 use Rattle.plan_laws.proofs.Programs.{instruction-fine, create-operand}
 use Rattle.plan_laws.proofs.Users.{created-by}
-use Rattle.net.specs.States.{Net, startNet, atTask}
-use Rattle.net.specs.Labels.{Label, own, pass, isCreate, takesPart}
+use Rattle.net.specs.States.{Net, startNet}
+use Rattle.net.specs.Labels.{Label, own, pass, takesPart}
 use Rattle.net.specs.Guards.{programFor, isActive, nextOf, enabled}
-use Rattle.net.specs.Effects.{bornAfter, worked, handed, effect}
+use Rattle.net.specs.Effects.{worked, handed, effect}
 use Rattle.net.specs.Nets.{net, Reached}
 use Rattle.net.specs.Consistent.{isCreated, Consistent}
 use Rattle.net.proofs.Parts.{same-task, part-pass, acting, own-active, stands-opcode, sender-stands, receiver-stands}
-use Rattle.net.proofs.Stays.{completed-grows, completed-stays, word-stays, born-kept}
+use Rattle.net.proofs.Stays.{born-after, completed-grows, completed-stays, word-stays, born-kept}
 use Rattle.net.proofs.Remaining.{active-short, active-task}
 
 -- the program of a task that is some
 pub program-some : (m : Programs) (t : TaskId) → 1 ≤ t .0 → programFor m t ≡ programAt m (t .0 - 1)
 unfolding programFor
 program-some m t h = rw (ne-eqb (t .0) 0 (λ e. omega arith)) refl
-
--- who is born after an instruction
-pub born-after : (i : Instruction) (born : TaskId → Bool) (u : TaskId) → bornAfter i born u ≡ born u || isUse opCreate (u .0) i
-unfolding bornAfter
-born-after i born u = go (isCreate i)
-  where
-    go : (b : Bool) → pick b (atTask born (taskId (i .operand)) true) born u ≡ born u || (b && eqb (i .operand) (u .0))
-    go true =
-        by-cases (ℕ-discrete (u .0) (i .operand))
-        (λ e. rw (updated-at (λ (x : TaskId). x .0) born (taskId (i .operand)) u true e, eq-eqb (i .operand) (u .0) (sym e), or-true (born u)) refl)
-        (λ ne. rw (updated-other (λ (x : TaskId). x .0) born (taskId (i .operand)) u true ne, ne-eqb (i .operand) (u .0) (λ e. ne (sym e)), or-false (born u)) refl)
-    go false = sym (or-false (born u))
 
 module _ (m : Programs) (a : planAnswer m ≡ Accepted) (s : Net) (t : TaskId) (active : isActive m s t ≡ true) where
   -- the next instruction of a task is one that the plan was accepted with

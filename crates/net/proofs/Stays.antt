@@ -1,37 +1,42 @@
 -- What a label leaves as it was: a task without a part in it stays where it is, who is born or complete stays so, and another label that could
 -- be taken still can.
-use mathlib.Core.Path.{_≡_, refl, _∙_}
-use mathlib.Core.Bool.{Bool, true, false, not, _||_}
+use mathlib.Core.Path.{_≡_, refl, sym}
+use mathlib.Core.Bool.{Bool, true, false, not, _&&_, _||_, or-false, or-true}
 use mathlib.Core.List.{[], _∷_}
 use mathlib.Core.Logic.{_≢_, ⊎-elim, Ne·symm, by-cases}
 use Prim.Native.Nat.{ℕ, suc}
 use native.Mathlib.Decide.{ℕ-discrete}
 use lib.ListN.{take}
-use borrow.Author.Tests.{not-true}
+use lib.Dec.{eqb}
+use borrow.Author.Tests.{not-true, eq-eqb, ne-eqb}
 use Rattle.base.specs.Lists.{every}
 use Rattle.base.proofs.Tests.{and-left, and-right, and-both, or-follows, tests-differ, is-false}
-use Rattle.base.proofs.Choices.{pick-either}
+use Rattle.base.specs.Choice.{pick}
 use Rattle.base.proofs.Updates.{updated-at, updated-same, updated-other}
 use Rattle.plan.specs.declared.TaskId.{TaskId}
 use Rattle.plan.specs.declared.ChannelId.{ChannelId}
 use Rattle.plan.specs.declared.Instruction.{Instruction}
 use Rattle.plan.specs.Numbers.{taskId}
-use Rattle.plan.specs.Kinds.{opSend, opReceive}
+use Rattle.plan.specs.Kinds.{opCreate, opSend, opReceive, isUse}
 use Rattle.plan.specs.Programs.{Program, Programs}
 use Rattle.plan.specs.Users.{senderOf, receiverOf}
 use Rattle.net.specs.States.{Net, atTask}
 use Rattle.net.specs.Labels.{Label, own, pass, isCreate, isJoin, isTransfer, takesPart}
-use Rattle.net.specs.Guards.{programFor, isComplete, isActive, nextOf, standsAt, childrenComplete, isFree, enabled}
+use Rattle.net.specs.Guards.{programFor, isComplete, isActive, nextOf, standsAt, childComplete, childrenComplete, isFree, enabled}
 use Rattle.net.specs.Effects.{bornAfter, worked, handed, effect}
 use Rattle.net.proofs.Parts.{same-task, part-own, no-part-own, part-pass, no-part-pass, sender-part, receiver-part, own-part, own-active, own-free, sender-stands, receiver-stands, acting, apart, ends-apart}
 
--- a birth adds to who is born
-born-more : (i : Instruction) (born : TaskId → Bool) (t : TaskId) → born t ≡ true → bornAfter i born t ≡ true
+-- who is born after an instruction
+pub born-after : (i : Instruction) (born : TaskId → Bool) (u : TaskId) → bornAfter i born u ≡ born u || isUse opCreate (u .0) i
 unfolding bornAfter
-born-more i born t h =
-    pick-either (λ f. f t ≡ true) (isCreate i) (atTask born (taskId (i .operand)) true) born
-    (by-cases (ℕ-discrete (t .0) (i .operand)) (λ e. updated-at _ born (taskId (i .operand)) t true e) (λ ne. updated-other _ born (taskId (i .operand)) t true ne ∙ h))
-    h
+born-after i born u = go (isCreate i)
+  where
+    go : (b : Bool) → pick b (atTask born (taskId (i .operand)) true) born u ≡ born u || (b && eqb (i .operand) (u .0))
+    go true =
+        by-cases (ℕ-discrete (u .0) (i .operand))
+        (λ e. rw (updated-at (λ (x : TaskId). x .0) born (taskId (i .operand)) u true e, eq-eqb (i .operand) (u .0) (sym e), or-true (born u)) refl)
+        (λ ne. rw (updated-other (λ (x : TaskId). x .0) born (taskId (i .operand)) u true ne, ne-eqb (i .operand) (u .0) (λ e. ne (sym e)), or-false (born u)) refl)
+    go false = sym (or-false (born u))
 
 module _ (m : Programs) (s : Net) where
   -- who takes part completes one instruction, and nobody else does
@@ -64,7 +69,7 @@ module _ (m : Programs) (s : Net) where
   -- who is born stays born
   pub born-kept : (l : Label) (t : TaskId) → s .born t ≡ true → effect m s l .born t ≡ true
   unfolding effect worked handed
-  born-kept (own u) t h = born-more (nextOf m s u) (s .born) t h
+  born-kept (own u) t h = rw (born-after (nextOf m s u) (s .born) t, h) refl
   born-kept (pass c) t h = h
 
 -- while a label is taken
@@ -78,14 +83,14 @@ module _ (m : Programs) (s : Net) (l : Label) (may : enabled m s l ≡ true) whe
   pub complete-kept : (t : TaskId) → isComplete m s t ≡ true → isComplete m (effect m s l) t ≡ true
   complete-kept t h = rw (complete-stays m s l t (complete-idle t h)) h
 
-  children-kept : (g : Program) → every (λ i. not (isCreate i) || isComplete m s (taskId (i .operand))) g ≡ true
-      → every (λ i. not (isCreate i) || isComplete m (effect m s l) (taskId (i .operand))) g ≡ true
+  children-kept : (g : Program) → every (childComplete m s) g ≡ true
+      → every (childComplete m (effect m s l)) g ≡ true
   unfolding every
   children-kept [] h = refl
   children-kept (i ∷ g) h =
-      and-both (not (isCreate i) || isComplete m (effect m s l) (taskId (i .operand))) _
-      (or-follows (not (isCreate i)) _ _ (complete-kept (taskId (i .operand))) (and-left (not (isCreate i) || isComplete m s (taskId (i .operand))) _ h))
-      (children-kept g (and-right (not (isCreate i) || isComplete m s (taskId (i .operand))) _ h))
+      and-both (childComplete m (effect m s l) i) _
+      (or-follows (not (isCreate i)) _ _ (complete-kept (taskId (i .operand))) (and-left (childComplete m s i) _ h))
+      (children-kept g (and-right (childComplete m s i) _ h))
 
   -- a task that takes no part can still do what it could
   module _ (t : TaskId) (idle : takesPart m t l ≡ false) where

@@ -35,9 +35,13 @@ nextOf m s t = instructionAt (programFor m t) (s .completed t)
 unfoldable pub standsAt : Programs → Net → TaskId → ℕ → ChannelId → Bool
 standsAt m s t k c = isActive m s t && isUse k (c .0) (nextOf m s t)
 
--- each child that it has created so far is complete
+-- the child that instruction i creates, if it creates one, is complete
+abbrev pub childComplete : Programs → Net → Instruction → Bool
+childComplete m s i = not (isCreate i) || isComplete m s (taskId (i .operand))
+
+-- each child that task t has created so far is
 unfoldable pub childrenComplete : Programs → Net → TaskId → Bool
-childrenComplete m s t = every (λ i. not (isCreate i) || isComplete m s (taskId (i .operand))) (take (s .completed t) (programFor m t))
+childrenComplete m s t = every (childComplete m s) (take (s .completed t) (programFor m t))
 
 -- it can do instruction i by itself: create, set and add always, sync and finish when every child created so far is complete
 unfoldable pub isFree : Programs → Net → TaskId → Instruction → Bool
