@@ -2,15 +2,14 @@
 -- form, and each label is taken as often on every way to it.
 use mathlib.Core.Path.{_≡_, refl, sym}
 use mathlib.Core.Bool.{Bool, true}
-use mathlib.Core.List.{List, [], _∷_}
+use mathlib.Core.List.{List, [], _∷_, List·Memᴰ, List·Memᴰ·head, List·Memᴰ·tail}
 use mathlib.Core.Logic.{_≢_}
-use Prim.Native.Nat.{_+_, _≤_}
+use Prim.Native.Nat.{_+_}
 use native.Mathlib.Omega.{arith}
-use lib.ListN.{length}
 use Rattle.base.specs.Lists.{count}
-use Rattle.base.proofs.Counts.{count-all}
+use Rattle.base.proofs.Tests.{tests-differ}
 use Rattle.machine.specs.Machines.{Machine, Run, stop, take, Normal, Commuting}
-use Rattle.machine.proofs.Runs.{not-normal, normal-stops}
+use Rattle.machine.proofs.Runs.{normal-stops}
 
 -- a run by the labels `rest`, where ks and then `rest` are as many of each kind as ls
 pub record Rest {S : Type 0} {L : Type 0} (machine : Machine S L) (s : S) (ks ls : List L) (z : S) : Type 0 where
@@ -19,11 +18,18 @@ pub record Rest {S : Type 0} {L : Type 0} (machine : Machine S L) (s : S) (ks ls
   pub counted : (p : L → Bool) → count p ls ≡ count p ks + count p rest
 
 module _ {S : Type 0} {L : Type 0} (machine : Machine S L) (commuting : Commuting machine) where
+  -- a label that may be taken may be taken until it is
+  pub until-taken : {s z : S} {ls : List L} → Run machine s ls z → (k : L) → ((l : L) → List·Memᴰ l ls → l ≢ k) → machine .enabled s k ≡ true
+      → machine .enabled z k ≡ true
+  until-taken stop k other h = h
+  until-taken (take {s = s} l e r) k other h =
+      until-taken r k (λ x m. other x (List·Memᴰ·tail m)) (commuting .stays s l k (other l (List·Memᴰ·head refl)) e h)
+
   -- a label that may be taken can be taken first, of all the labels of any run to a normal form
   advance : {s z : S} {ls : List L} → Run machine s ls z → Normal machine z → (k : L) → machine .enabled s k ≡ true
       → Rest machine (machine .effect s k) (k ∷ []) ls z
   unfolding count
-  advance {s} stop n k h = absurd (not-normal machine s k h n)
+  advance stop n k h = absurd (tests-differ h (n k))
   advance {z = z} (take {s = s} {ls = ls} l e r) n k h = first (commuting .same k l) (advance r n k)
     where
       first : Dec (k ≡ l) → (machine .enabled (machine .effect s l) k ≡ true → Rest machine (machine .effect (machine .effect s l) k) (k ∷ []) ls z)
@@ -55,9 +61,3 @@ module _ {S : Type 0} {L : Type 0} (machine : Machine S L) (commuting : Commutin
       let end = onward p q nz in
       let (same, none) = normal-stops machine (end .run) na in
       (same, λ t. let e : count t (end .rest) ≡ 0 = rw none refl in omega (arith, end .counted t))
-
-  -- no run is longer than one to a normal form
-  pub longest : {s a z : S} {ks ls : List L} → Run machine s ks a → Run machine s ls z → Normal machine z → length ks ≤ length ls
-  longest {ks = ks} {ls = ls} p q n =
-      let end = onward p q n in
-      omega (arith, end .counted (λ l. true), count-all ks, count-all ls)

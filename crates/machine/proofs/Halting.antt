@@ -32,13 +32,13 @@ module _ {S : Type 0} {L : Type 0} (machine : Machine S L) (measure : S → ℕ)
     more : (s : S) (k : Next machine s) → Halts machine (machine .effect s (k .label)) → Halts machine s
     more s k h = record { labels = k .label ∷ h .labels; end = h .end; run = take (k .label) (k .may) (h .run); normal = h .normal }
 
-    within : (n : ℕ) (s : S) → measure s ≤ n → Halts machine s
-    within zero s b =
-        ⊎-elim (λ k. absurd (omega (arith, less s (k .label) (k .may)))) (λ n. record { labels = []; end = s; run = stop; normal = n }) (next s)
-    within (suc n) s b =
-        ⊎-elim (λ k. more s k (within n (machine .effect s (k .label)) (omega (arith, less s (k .label) (k .may)))))
-        (λ n. record { labels = []; end = s; run = stop; normal = n })
-        (next s)
+    ended : (s : S) → Normal machine s → Halts machine s
+    ended s n = record { labels = []; end = s; run = stop; normal = n }
+
+    halts-by : (n : ℕ) (s : S) → measure s ≤ n → Halts machine s
+    halts-by zero s b = ⊎-elim (λ k. absurd (omega (arith, less s (k .label) (k .may)))) (ended s) (next s)
+    halts-by (suc n) s b =
+        ⊎-elim (λ k. more s k (halts-by n (machine .effect s (k .label)) (omega (arith, less s (k .label) (k .may))))) (ended s) (next s)
 
     pub halts : (s : S) → Halts machine s
-    halts s = within (measure s) s (le-refl (measure s))
+    halts s = halts-by (measure s) s (le-refl (measure s))

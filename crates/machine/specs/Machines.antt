@@ -21,6 +21,7 @@ module _ {S : Type 0} {L : Type 0} (machine : Machine S L) where
 
   -- of two different labels that may be taken, either may still be taken after the other, and the order does not matter
   pub record Commuting : Type 0 where
+    -- labels can be told apart
     pub same : Discrete L
     pub stays : (s : S) (k l : L) → k ≢ l → machine .enabled s k ≡ true → machine .enabled s l ≡ true
         → machine .enabled (machine .effect s k) l ≡ true

@@ -19,13 +19,13 @@ use Rattle.plan.specs.Kinds.{opCreate, isUse, noInstruction}
 use Rattle.plan.specs.Programs.{Programs, programAt, instructionAt}
 use Rattle.plan.specs.Users.{parentOf}
 use Rattle.plan.specs.Refusals.{planAnswer}
-use Rattle.plan_laws.proofs.Users.{created-by, created-once, no-parent}
+use Rattle.plan_laws.proofs.Parents.{created-by, created-once, no-parent}
 use Rattle.net.specs.States.{Net}
 use Rattle.net.specs.Labels.{isCreate}
 use Rattle.net.specs.Guards.{programFor, isComplete, isActive, nextOf, childComplete, childrenComplete}
 use Rattle.net.specs.Consistent.{isCreated, Consistent}
 use Rattle.net.proofs.Remaining.{active-short, active-task}
-use Rattle.net.proofs.Consistent.{program-some, next-creates}
+use Rattle.net.proofs.NextInstruction.{program-some, next-creates}
 
 module _ (m : Programs) (a : planAnswer m ≡ Accepted) (s : Net) (c : Consistent m s) where
   -- whom a task is about to create is not born yet

@@ -16,7 +16,7 @@ use Rattle.plan.specs.Users.{senderOf, receiverOf}
 use Rattle.net.specs.States.{Net, atTask}
 use Rattle.net.specs.Labels.{Label, Label-discrete, own, pass, isCreate}
 use Rattle.net.specs.Guards.{nextOf, enabled}
-use Rattle.net.specs.Effects.{bornAfter, wordAfter, worked, handed, effect}
+use Rattle.net.specs.Effects.{bornAfter, wordAfter, afterOwn, afterPass, effect}
 use Rattle.net.specs.Nets.{net}
 use Rattle.net.proofs.Parts.{no-part-own, no-part-pass, sender-part, receiver-part, own-part, apart, ends-apart}
 use Rattle.net.proofs.Stays.{next-stays, still-enabled}
@@ -46,25 +46,25 @@ own-values f t u g h ne =
     (updated-comm _ f t u (g (f t)) (h (f u)) ne)
 
 module _ (s : Net) where
-  worked-worked : (t u : TaskId) (i j : Instruction) → t .0 ≢ u .0 → worked (worked s t i) u j ≡ worked (worked s u j) t i
-  unfolding worked
-  worked-worked t u i j ne =
+  own-own-state : (t u : TaskId) (i j : Instruction) → t .0 ≢ u .0 → afterOwn (afterOwn s t i) u j ≡ afterOwn (afterOwn s u j) t i
+  unfolding afterOwn
+  own-own-state t u i j ne =
       same-net (births i j (s .born)) (own-values (s .completed) t u suc suc ne) (own-values (s .word) t u (wordAfter i) (wordAfter j) ne) refl
 
-  worked-handed : (t : TaskId) (i : Instruction) (c : ChannelId) (a b : TaskId) → t .0 ≢ a .0 → t .0 ≢ b .0 → a .0 ≢ b .0
-      → handed (worked s t i) c a b ≡ worked (handed s c a b) t i
-  unfolding worked handed
-  worked-handed t i c a b ta tb ab =
+  own-pass-state : (t : TaskId) (i : Instruction) (c : ChannelId) (a b : TaskId) → t .0 ≢ a .0 → t .0 ≢ b .0 → a .0 ≢ b .0
+      → afterPass (afterOwn s t i) c a b ≡ afterOwn (afterPass s c a b) t i
+  unfolding afterOwn afterPass
+  own-pass-state t i c a b ta tb ab =
       let at = Ne·symm ta in
       let bt = Ne·symm tb in
       let ba = Ne·symm ab in
       same-net refl (simp (updated-other, updated-comm)) (simp (updated-other, updated-comm)) (simp updated-other)
 
-  handed-handed : (c : ChannelId) (a b : TaskId) (d : ChannelId) (e f : TaskId) → c .0 ≢ d .0 → a .0 ≢ b .0 → e .0 ≢ f .0
+  pass-pass-state : (c : ChannelId) (a b : TaskId) (d : ChannelId) (e f : TaskId) → c .0 ≢ d .0 → a .0 ≢ b .0 → e .0 ≢ f .0
       → a .0 ≢ e .0 → a .0 ≢ f .0 → b .0 ≢ e .0 → b .0 ≢ f .0
-      → handed (handed s c a b) d e f ≡ handed (handed s d e f) c a b
-  unfolding handed
-  handed-handed c a b d e f cd ab ef ae af be bf =
+      → afterPass (afterPass s c a b) d e f ≡ afterPass (afterPass s d e f) c a b
+  unfolding afterPass
+  pass-pass-state c a b d e f cd ab ef ae af be bf =
       let dc = Ne·symm cd in
       let ba = Ne·symm ab in
       let fe = Ne·symm ef in
@@ -82,7 +82,7 @@ module _ (m : Programs) (s : Net) where
       let t-idle = apart m s (own t) (own u) ne ht hu t (own-part m t) in
       let u-idle = apart m s (own u) (own t) (Ne·symm ne) hu ht u (own-part m u) in
       rw (next-stays m s (own t) u u-idle, next-stays m s (own u) t t-idle)
-      (worked-worked s t u (nextOf m s t) (nextOf m s u) (no-part-own m t u t-idle))
+      (own-own-state s t u (nextOf m s t) (nextOf m s u) (no-part-own m t u t-idle))
 
   own-pass : (t : TaskId) (c : ChannelId) → own t ≢ pass c → enabled m s (own t) ≡ true → enabled m s (pass c) ≡ true
       → effect m (effect m s (own t)) (pass c) ≡ effect m (effect m s (pass c)) (own t)
@@ -90,7 +90,7 @@ module _ (m : Programs) (s : Net) where
   own-pass t c ne ht hc =
       let idle = apart m s (own t) (pass c) ne ht hc t (own-part m t) in
       let (ts, tr) = no-part-pass m t c idle in
-      rw (next-stays m s (pass c) t idle) (worked-handed s t (nextOf m s t) c (senderOf m c) (receiverOf m c) ts tr (ends-apart m s c hc))
+      rw (next-stays m s (pass c) t idle) (own-pass-state s t (nextOf m s t) c (senderOf m c) (receiverOf m c) ts tr (ends-apart m s c hc))
 
   pass-pass : (c d : ChannelId) → pass c ≢ pass d → enabled m s (pass c) ≡ true → enabled m s (pass d) ≡ true
       → effect m (effect m s (pass c)) (pass d) ≡ effect m (effect m s (pass d)) (pass c)
@@ -98,7 +98,7 @@ module _ (m : Programs) (s : Net) where
   pass-pass c d ne hc hd =
       let (ss, sr) = no-part-pass m (senderOf m c) d (apart m s (pass c) (pass d) ne hc hd (senderOf m c) (sender-part m c)) in
       let (rs, rr) = no-part-pass m (receiverOf m c) d (apart m s (pass c) (pass d) ne hc hd (receiverOf m c) (receiver-part m c)) in
-      handed-handed s c (senderOf m c) (receiverOf m c) d (senderOf m d) (receiverOf m d) (λ e. ne (ap (λ (n : ℕ). pass (channelId n)) e))
+      pass-pass-state s c (senderOf m c) (receiverOf m c) d (senderOf m d) (receiverOf m d) (λ e. ne (ap (λ (n : ℕ). pass (channelId n)) e))
       (ends-apart m s c hc) (ends-apart m s d hd) ss sr rs rr
 
   pub same-effect : (k l : Label) → k ≢ l → enabled m s k ≡ true → enabled m s l ≡ true → effect m (effect m s k) l ≡ effect m (effect m s l) k

@@ -3,15 +3,15 @@ use mathlib.Core.Path.{_≡_, refl, sym, ap, _∙_}
 use mathlib.Core.Bool.{Bool, true, false, _||_, or-false}
 use mathlib.Core.List.{List}
 use mathlib.Core.Logic.{_≢_, by-cases, ⊎-elim}
-use Prim.Native.Nat.{ℕ, _-_, _<_, _≤_}
+use Prim.Native.Nat.{ℕ, _≤_}
 use native.Mathlib.Decide.{ℕ-discrete}
 use native.Mathlib.Omega.{arith}
 use lib.Dec.{eqb}
 use lib.ListN.{length}
-use borrow.Author.Tests.{eqb-true, eq-eqb, ne-eqb}
+use borrow.Author.Tests.{eq-eqb, ne-eqb}
 use Rattle.base.specs.Choice.{within}
 use Rattle.base.specs.Lists.{any}
-use Rattle.base.proofs.Tests.{and-left, and-right, tests-differ, is-false, within-low, within-high, within-both}
+use Rattle.base.proofs.Tests.{and-left, tests-differ, is-false, within-low, within-high, within-both}
 use Rattle.base.proofs.Fronts.{any-front-more}
 use Rattle.machine.proofs.Runs.{run-keeps}
 use Rattle.plan.specs.declared.PlanAnswer.the-variants.{Accepted}
@@ -19,48 +19,20 @@ use Rattle.plan.specs.declared.TaskId.{TaskId}
 use Rattle.plan.specs.declared.ChannelId.{ChannelId}
 use Rattle.plan.specs.Numbers.{taskId}
 use Rattle.plan.specs.Kinds.{opCreate, opSend, opReceive, isUse, noInstruction}
-use Rattle.plan.specs.Programs.{Programs, programAt, instructionAt}
+use Rattle.plan.specs.Programs.{Programs}
 use Rattle.plan.specs.Users.{senderOf, receiverOf, parentOf}
 use Rattle.plan.specs.Refusals.{planAnswer}
 use Rattle.plan_laws.proofs.Answers.{plan-passed, sized}
-use Rattle.plan_laws.proofs.Programs.{instruction-fine, create-operand}
-use Rattle.plan_laws.proofs.Users.{created-by}
 use Rattle.net.specs.States.{Net, startNet}
 use Rattle.net.specs.Labels.{Label, own, pass, takesPart}
 use Rattle.net.specs.Guards.{programFor, isActive, nextOf, enabled}
-use Rattle.net.specs.Effects.{worked, handed, effect}
+use Rattle.net.specs.Effects.{afterOwn, afterPass, effect}
 use Rattle.net.specs.Nets.{net, Reached}
 use Rattle.net.specs.Consistent.{isCreated, Consistent}
 use Rattle.net.proofs.Parts.{same-task, part-pass, acting, own-active, stands-opcode, sender-stands, receiver-stands}
 use Rattle.net.proofs.Stays.{born-after, completed-grows, completed-stays, word-stays, born-kept}
-use Rattle.net.proofs.Remaining.{active-short, active-task}
-
--- the program of a task that is some
-pub program-some : (m : Programs) (t : TaskId) → 1 ≤ t .0 → programFor m t ≡ programAt m (t .0 - 1)
-unfolding programFor
-program-some m t h = rw (ne-eqb (t .0) 0 (λ e. omega arith)) refl
-
-module _ (m : Programs) (a : planAnswer m ≡ Accepted) (s : Net) (t : TaskId) (active : isActive m s t ≡ true) where
-  -- the next instruction of a task is one that the plan was accepted with
-  pub next-place : s .completed t < length (programAt m (t .0 - 1))
-  next-place = let (low, high) = active-task m s t active in rw (← program-some m t low) (active-short m s t active)
-
-  pub next-is : nextOf m s t ≡ instructionAt (programAt m (t .0 - 1)) (s .completed t)
-  unfolding nextOf
-  next-is = let (low, high) = active-task m s t active in rw (program-some m t low) refl
-
-  -- whom it creates: a task 2 .. T, and it is the parent
-  pub next-creates : (u : TaskId) → isUse opCreate (u .0) (nextOf m s t) ≡ true → (within 2 (length m) (u .0) ≡ true) × (parentOf m u ≡ t)
-  next-creates u e =
-      let (low, high) = active-task m s t active in
-      let i = nextOf m s t in
-      let opcode = eqb-true (i .opcode) opCreate (and-left (eqb (i .opcode) opCreate) _ e) in
-      let operand = eqb-true (i .operand) (u .0) (and-right (eqb (i .opcode) opCreate) _ e) in
-      let fine = instruction-fine m a (t .0 - 1) (omega arith) (s .completed t) next-place in
-      let here = rw next-is at e in (
-        rw operand at (create-operand (length m) i (rw (← next-is) at fine) opcode),
-        created-by m a (u .0) (t .0 - 1) (s .completed t) (omega arith) next-place here ∙ ap taskId (omega arith),
-      )
+use Rattle.net.proofs.Remaining.{active-short}
+use Rattle.net.proofs.NextInstruction.{next-creates}
 
 -- nobody is created by a word that passes
 pass-creates : (m : Programs) (s : Net) (c : ChannelId) (t u : TaskId) → enabled m s (pass c) ≡ true → takesPart m t (pass c) ≡ true
@@ -94,7 +66,7 @@ module _ (m : Programs) (a : planAnswer m ≡ Accepted) (s : Net) (old : Consist
 
   label-child : (l : Label) (u : TaskId) → enabled m s l ≡ true → within 2 (length m) (u .0) ≡ true
       → effect m s l .born u ≡ isCreated m (effect m s l) u
-  unfolding effect worked handed takesPart
+  unfolding effect afterOwn afterPass takesPart
   label-child (own t) u h w =
       rw (born-after (nextOf m s t) (s .born) u, old .child u w)
       (by-cases (ℕ-discrete (parentOf m u .0) (t .0))
@@ -110,7 +82,7 @@ module _ (m : Programs) (a : planAnswer m ≡ Accepted) (s : Net) (old : Consist
       go true p = created-more (pass c) u h p ∙ rw (pass-creates m s c (parentOf m u) u h p) (or-false (isCreated m s u))
 
   label-nobody : (l : Label) (u : TaskId) → enabled m s l ≡ true → within 1 (length m) (u .0) ≡ false → effect m s l .born u ≡ false
-  unfolding effect worked handed
+  unfolding effect afterOwn afterPass
   label-nobody (own t) u h w =
       rw (born-after (nextOf m s t) (s .born) u, old .nobody u w)
       (is-false (isUse opCreate (u .0) (nextOf m s t))

@@ -4,6 +4,7 @@ pub mod Stays
 pub mod Commute
 pub mod Passed
 pub mod Remaining
+pub mod NextInstruction
 pub mod Consistent
 pub mod Children
 pub mod Stuck

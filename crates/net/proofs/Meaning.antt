@@ -26,7 +26,8 @@ use Rattle.net.specs.Stuck.{Stuck}
 use Rattle.net.proofs.Commute.{commuting}
 use Rattle.net.proofs.Passed.{run-passed}
 use Rattle.net.proofs.Remaining.{run-ends, reaches-normal}
-use Rattle.net.proofs.Consistent.{program-some, consistent}
+use Rattle.net.proofs.NextInstruction.{program-some}
+use Rattle.net.proofs.Consistent.{consistent}
 use Rattle.net.proofs.Stuck.{stuck}
 
 -- two runs from one state, to a and to a normal form z
@@ -57,13 +58,16 @@ start-remaining m =
     fold-same _+_ 0 (length m) (λ k. length (programFor m (taskId (suc k))) - 0) (countOf m)
     (λ k h. let e : suc k - 1 ≡ k = omega arith in rw (program-some m (taskId (suc k)) (omega arith), e) (omega arith))
 
+-- no run from the start has more labels than the plan has instructions
+pub few-labels : (m : Programs) {ls : List Label} {s : Net} → Reached m ls s → length ls + remaining m s ≤ totalOf m
+few-labels m r = omega (arith, run-ends m r, start-remaining m)
+
 -- what an accepted plan means: the normal form that every run from the start comes to
 pub record Meaning (m : Programs) : Type 0 where
   pub labels : List Label
   pub end : Net
   pub run : Reached m labels end
   pub normal : Normal (net m) end
-  pub few : length labels ≤ totalOf m
   pub stuck : (t : TaskId) → end .born t ≡ true → isComplete m end t ≡ false → Stuck m end t
 
 pub meaning : (m : Programs) → planAnswer m ≡ Accepted → Meaning m
@@ -74,6 +78,5 @@ meaning m a =
       end = h .end;
       run = h .run;
       normal = h .normal;
-      few = omega (arith, run-ends m (h .run), start-remaining m);
       stuck = stuck m a (h .end) (consistent m a (h .run)) (h .normal);
     }

@@ -6,15 +6,17 @@ use Prim.Native.Nat.{ℕ}
 use native.Mathlib.Omega.{arith}
 use lib.Dec.{eqb}
 use borrow.Author.Tests.{eqb-true, eqb-false, eq-eqb, not-true}
+use Rattle.base.specs.Choice.{pick}
 use Rattle.base.proofs.Tests.{and-left, and-right, or-cases, or-neither, is-false}
 use Rattle.plan.specs.declared.TaskId.{TaskId}
 use Rattle.plan.specs.declared.ChannelId.{ChannelId}
-use Rattle.plan.specs.Numbers.{taskId, sameTask}
+use Rattle.plan.specs.declared.Instruction.{Instruction}
+use Rattle.plan.specs.Numbers.{taskId, channelId, sameTask}
 use Rattle.plan.specs.Kinds.{opSend, opReceive, isUse}
 use Rattle.plan.specs.Programs.{Programs}
 use Rattle.plan.specs.Users.{senderOf, receiverOf}
 use Rattle.net.specs.States.{Net}
-use Rattle.net.specs.Labels.{Label, own, pass, isJoin, isTransfer, labelOf, takesPart}
+use Rattle.net.specs.Labels.{Label, own, pass, isJoin, isTransfer, takesPart}
 use Rattle.net.specs.Guards.{isActive, nextOf, standsAt, childrenComplete, isFree, enabled}
 
 -- tasks of one number are one task
@@ -90,6 +92,10 @@ module _ (m : Programs) (s : Net) (t : TaskId) (k : ℕ) (c : ChannelId) (h : st
 
   pub stands-operand : nextOf m s t .operand ≡ c .0
   stands-operand = eqb-true _ (c .0) (and-right (eqb (nextOf m s t .opcode) k) _ uses)
+
+-- the label by which task t does instruction i
+unfoldable pub labelOf : TaskId → Instruction → Label
+labelOf t i = pick (isTransfer i) (pass (channelId (i .operand))) (own t)
 
 -- t may do its next instruction, and does it by label l
 pub record Acting (m : Programs) (s : Net) (t : TaskId) (l : Label) : Type 0 where

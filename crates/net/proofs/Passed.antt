@@ -20,13 +20,13 @@ use Rattle.plan.specs.Users.{senderOf}
 use Rattle.net.specs.States.{Net}
 use Rattle.net.specs.Labels.{Label, own, pass, takesPart}
 use Rattle.net.specs.Guards.{enabled}
-use Rattle.net.specs.Effects.{worked, handed, effect}
+use Rattle.net.specs.Effects.{afterOwn, afterPass, effect}
 use Rattle.net.specs.Nets.{net}
 use Rattle.net.proofs.Stays.{completed-grows, completed-stays}
 
 module _ (m : Programs) where
   label-passed : (s : Net) (l : Label) (c : ChannelId) → Beginning (s .passed c) (effect m s l .passed c)
-  unfolding effect worked handed
+  unfolding effect afterOwn afterPass
   label-passed s (own t) c = beginning-whole (s .passed c)
   label-passed s (pass d) c =
       by-cases (ℕ-discrete (c .0) (d .0))

@@ -18,11 +18,11 @@ use Rattle.plan.specs.Numbers.{taskId}
 use Rattle.plan.specs.Programs.{Programs}
 use Rattle.plan.specs.Users.{senderOf}
 use Rattle.net.specs.States.{Net}
-use Rattle.net.specs.Labels.{Label, own, pass, labelOf, takesPart}
+use Rattle.net.specs.Labels.{Label, own, pass, takesPart}
 use Rattle.net.specs.Guards.{programFor, isComplete, isActive, nextOf, enabled}
 use Rattle.net.specs.Effects.{effect}
 use Rattle.net.specs.Nets.{net, remaining}
-use Rattle.net.proofs.Parts.{own-part, sender-part, acting}
+use Rattle.net.proofs.Parts.{own-part, sender-part, labelOf, acting}
 use Rattle.net.proofs.Stays.{completed-grows, completed-stays}
 
 module _ (m : Programs) (s : Net) (t : TaskId) (active : isActive m s t ≡ true) where

@@ -23,7 +23,7 @@ use Rattle.plan.specs.Users.{senderOf, receiverOf}
 use Rattle.net.specs.States.{Net, atTask}
 use Rattle.net.specs.Labels.{Label, own, pass, isCreate, isJoin, isTransfer, takesPart}
 use Rattle.net.specs.Guards.{programFor, isComplete, isActive, nextOf, standsAt, childComplete, childrenComplete, isFree, enabled}
-use Rattle.net.specs.Effects.{bornAfter, worked, handed, effect}
+use Rattle.net.specs.Effects.{bornAfter, afterOwn, afterPass, effect}
 use Rattle.net.proofs.Parts.{same-task, part-own, no-part-own, part-pass, no-part-pass, sender-part, receiver-part, own-part, own-active, own-free, sender-stands, receiver-stands, acting, apart, ends-apart}
 
 -- who is born after an instruction
@@ -41,7 +41,7 @@ born-after i born u = go (isCreate i)
 module _ (m : Programs) (s : Net) where
   -- who takes part completes one instruction, and nobody else does
   pub completed-grows : (l : Label) (t : TaskId) → enabled m s l ≡ true → takesPart m t l ≡ true → effect m s l .completed t ≡ suc (s .completed t)
-  unfolding effect worked handed
+  unfolding effect afterOwn afterPass
   completed-grows (own u) t h p = rw (same-task t u (part-own m t u p), updated-same) refl
   completed-grows (pass c) t h p =
       ⊎-elim (λ e. rw (same-task t (senderOf m c) e, updated-other _ _ _ _ _ (ends-apart m s c h), updated-same) refl)
@@ -49,12 +49,12 @@ module _ (m : Programs) (s : Net) where
       (part-pass m t c p)
 
   pub completed-stays : (l : Label) (t : TaskId) → takesPart m t l ≡ false → effect m s l .completed t ≡ s .completed t
-  unfolding effect worked handed
+  unfolding effect afterOwn afterPass
   completed-stays (own u) t p = let ne = no-part-own m t u p in simp updated-other
   completed-stays (pass c) t p = let (a, b) = no-part-pass m t c p in simp updated-other
 
   pub word-stays : (l : Label) (t : TaskId) → takesPart m t l ≡ false → effect m s l .word t ≡ s .word t
-  unfolding effect worked handed
+  unfolding effect afterOwn afterPass
   word-stays (own u) t p = let ne = no-part-own m t u p in simp updated-other
   word-stays (pass c) t p = let (a, b) = no-part-pass m t c p in simp updated-other
 
@@ -68,7 +68,7 @@ module _ (m : Programs) (s : Net) where
 
   -- who is born stays born
   pub born-kept : (l : Label) (t : TaskId) → s .born t ≡ true → effect m s l .born t ≡ true
-  unfolding effect worked handed
+  unfolding effect afterOwn afterPass
   born-kept (own u) t h = rw (born-after (nextOf m s u) (s .born) t, h) refl
   born-kept (pass c) t h = h
 

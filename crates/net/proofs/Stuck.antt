@@ -16,16 +16,16 @@ use Rattle.plan.specs.Kinds.{opSync, opFinish, opSend, opReceive, isUse}
 use Rattle.plan.specs.Programs.{Programs, programAt, instructionAt}
 use Rattle.plan.specs.Users.{senderOf, receiverOf}
 use Rattle.plan.specs.Refusals.{planAnswer}
-use Rattle.plan_laws.proofs.Users.{sends-on, receives-on}
+use Rattle.plan_laws.proofs.Ends.{sends-on, receives-on}
 use Rattle.net.specs.States.{Net}
-use Rattle.net.specs.Labels.{Label, own, pass, isJoin, isTransfer, labelOf, takesPart}
+use Rattle.net.specs.Labels.{Label, own, pass, isJoin, isTransfer, takesPart}
 use Rattle.net.specs.Guards.{isComplete, isActive, nextOf, standsAt, childrenComplete, isFree, enabled}
 use Rattle.net.specs.Nets.{net}
 use Rattle.net.specs.Consistent.{Consistent}
 use Rattle.net.specs.Stuck.{Stuck, sending, receiving, joining}
-use Rattle.net.proofs.Parts.{own-free, sender-stands, receiver-stands, stands-active, stands-acting, acting}
+use Rattle.net.proofs.Parts.{labelOf, own-free, sender-stands, receiver-stands, stands-active, stands-acting, acting}
 use Rattle.net.proofs.Remaining.{active-task, somebody}
-use Rattle.net.proofs.Consistent.{next-place, next-is}
+use Rattle.net.proofs.NextInstruction.{next-place, next-is}
 use Rattle.net.proofs.Children.{children-complete, waits-for}
 
 -- who stands at a send or a receive is that end of the channel

@@ -1,4 +1,4 @@
--- What holds of each state that a run from the start reaches.
+-- What holds of each state that a run from the start of an accepted plan reaches.
 use mathlib.Core.Path.{_≡_}
 use mathlib.Core.Bool.{Bool, true, false}
 use Prim.Native.Nat.{_≤_}

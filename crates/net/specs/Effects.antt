@@ -24,9 +24,9 @@ bornAfter i born = pick (isCreate i) (atTask born (taskId (i .operand)) true) bo
 unfoldable pub wordAfter : Instruction → Word → Word
 wordAfter i w = pick (eqb (i .opcode) opSet) (setWord w i) (pick (eqb (i .opcode) opAdd) (addWord w i) w)
 
--- task t completes its own instruction i
-unfoldable pub worked : Net → TaskId → Instruction → Net
-worked s t i =
+-- the state after task t's own instruction i
+unfoldable pub afterOwn : Net → TaskId → Instruction → Net
+afterOwn s t i =
     record {
       born = bornAfter i (s .born);
       completed = atTask (s .completed) t (suc (s .completed t));
@@ -34,9 +34,9 @@ worked s t i =
       passed = s .passed;
     }
 
--- the word of task a passes channel c to task b: both complete their instruction
-unfoldable pub handed : Net → ChannelId → TaskId → TaskId → Net
-handed s c a b =
+-- the state after the word of task a has passed channel c to task b: both have completed their instruction
+unfoldable pub afterPass : Net → ChannelId → TaskId → TaskId → Net
+afterPass s c a b =
     record {
       born = s .born;
       completed = atTask (atTask (s .completed) a (suc (s .completed a))) b (suc (s .completed b));
@@ -44,6 +44,7 @@ handed s c a b =
       passed = atChannel (s .passed) c (s .passed c ++ (s .word a ∷ []));
     }
 
+-- the state after a label
 unfoldable pub effect : Programs → Net → Label → Net
-effect m s (own t) = worked s t (nextOf m s t)
-effect m s (pass c) = handed s c (senderOf m c) (receiverOf m c)
+effect m s (own t) = afterOwn s t (nextOf m s t)
+effect m s (pass c) = afterPass s c (senderOf m c) (receiverOf m c)

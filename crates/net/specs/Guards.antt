@@ -47,6 +47,7 @@ childrenComplete m s t = every (childComplete m s) (take (s .completed t) (progr
 unfoldable pub isFree : Programs → Net → TaskId → Instruction → Bool
 isFree m s t i = not (isTransfer i) && (not (isJoin i) || childrenComplete m s t)
 
+-- a label may be taken
 unfoldable pub enabled : Programs → Net → Label → Bool
 enabled m s (own t) = isActive m s t && isFree m s t (nextOf m s t)
 enabled m s (pass c) = standsAt m s (senderOf m c) opSend c && standsAt m s (receiverOf m c) opReceive c

@@ -1,11 +1,10 @@
 -- The labels of the net: what can happen next.
 use mathlib.Core.Bool.{Bool, _||_}
 use lib.Dec.{eqb}
-use Rattle.base.specs.Choice.{pick}
 use Rattle.plan.specs.declared.TaskId.{TaskId}
 use Rattle.plan.specs.declared.ChannelId.{ChannelId}
 use Rattle.plan.specs.declared.Instruction.{Instruction}
-use Rattle.plan.specs.Numbers.{channelId, sameTask}
+use Rattle.plan.specs.Numbers.{sameTask}
 use Rattle.plan.specs.Kinds.{opCreate, opSync, opFinish, opSend, opReceive}
 use Rattle.plan.specs.Programs.{Programs}
 use Rattle.plan.specs.Users.{senderOf, receiverOf}
@@ -28,10 +27,6 @@ isJoin i = eqb (i .opcode) opSync || eqb (i .opcode) opFinish
 -- send and receive, which need another task
 abbrev pub isTransfer : Instruction → Bool
 isTransfer i = eqb (i .opcode) opSend || eqb (i .opcode) opReceive
-
--- the label by which task t does instruction i
-unfoldable pub labelOf : TaskId → Instruction → Label
-labelOf t i = pick (isTransfer i) (pass (channelId (i .operand))) (own t)
 
 -- task t does an instruction by this label
 unfoldable pub takesPart : Programs → TaskId → Label → Bool

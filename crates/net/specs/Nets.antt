@@ -11,6 +11,7 @@ use Rattle.net.specs.Labels.{Label}
 use Rattle.net.specs.Guards.{programFor, enabled}
 use Rattle.net.specs.Effects.{effect}
 
+-- the machine
 abbrev pub net : Programs → Machine Net Label
 net m = record { enabled = enabled m; effect = effect m }
 

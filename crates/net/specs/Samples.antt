@@ -40,6 +40,7 @@ pub record Sample : Type 0 where
 abbrev those : ℕ → (ℕ → Bool) → List ℕ
 those n p = joined n (λ k. pick (p (suc k)) (suc k ∷ []) [])
 
+-- just these may be taken
 unfoldable pub mayAct : Programs → Net → List ℕ → List ℕ → Bool
 mayAct m s tasks channels =
     sameBytes (those (length m) (λ t. enabled m s (own (taskId t)))) tasks && sameBytes (those 3 (λ c. enabled m s (pass (channelId c)))) channels
@@ -48,10 +49,12 @@ mayAct m s tasks channels =
 abbrev taskNumbers : Net → TaskId → List ℕ
 taskNumbers s t = pick (s .born t) 1 0 ∷ s .completed t ∷ wordNumbers (s .word t)
 
+-- words, as numbers
 unfoldable pub wordsNumbers : List Word → List ℕ
 wordsNumbers [] = []
 wordsNumbers (w ∷ ws) = wordNumbers w ++ wordsNumbers ws
 
+-- the same lists of numbers
 unfoldable pub sameRows : List (List ℕ) → List (List ℕ) → Bool
 sameRows [] [] = true
 sameRows [] (y ∷ ys) = false
@@ -65,16 +68,19 @@ ended x s =
     && (sameRows (table (length (x .plan)) (λ k. taskNumbers s (taskId (suc k)))) (x .tasks)
     && sameRows (table 3 (λ k. wordsNumbers (s .passed (channelId (suc k))))) (x .channels))
 
+-- from s on, each moment is as said, and the end
 unfoldable pub played : Sample → Net → List Moment → Bool
 played x s [] = ended x s
 played x s (a ∷ later) = mayAct (x .plan) s (a .tasks) (a .channels) && played x (effect (x .plan) s (a .taken)) later
 
+-- the plan is accepted, and from the start the run is as said
 unfoldable pub sampleHolds : Sample → Bool
 sampleHolds x = isAccepted (planAnswer (x .plan)) && played x startNet (x .run)
 
 abbrev end : Instruction
 end = does opFinish 0
 
+-- in a state where these tasks and channels may act, task t does; or a word passes channel c
 abbrev acts : List ℕ → List ℕ → ℕ → Moment
 acts tasks channels t = record { tasks = tasks; channels = channels; taken = own (taskId t) }
 
@@ -113,7 +119,8 @@ childrenSample =
       channels = [] ∷ [] ∷ [] ∷ [];
     }
 
--- words in their order, one that wraps, and one that is set over one received; two tasks that each wait on the other's next channel
+-- words in their order, one that wraps, and one that is set over one received; then a sender whose receiver waits elsewhere, on a channel that
+-- nobody sends on
 abbrev wordsSample : Sample
 wordsSample =
     record {
@@ -134,7 +141,7 @@ wordsSample =
       channels = (65535 ∷ 2 ∷ []) ∷ [] ∷ [] ∷ [];
     }
 
--- two tasks at once, and a task that is not born yet: its word may not pass
+-- a task that is not born yet: its word may not pass
 abbrev bornSample : Sample
 bornSample =
     record {
@@ -148,5 +155,29 @@ bornSample =
       channels = [] ∷ [] ∷ [] ∷ [];
     }
 
+-- several labels at once; a create does not wait for an earlier child
+abbrev severalSample : Sample
+severalSample =
+    record {
+      plan =
+          (does opCreate 2 ∷ does opCreate 3 ∷ does opSet 4 ∷ does opSync 0 ∷ end ∷ [])
+          ∷ (does opSend 1 ∷ does opAdd 1 ∷ end ∷ [])
+          ∷ (does opReceive 1 ∷ end ∷ [])
+          ∷ [];
+      run =
+          acts (1 ∷ []) [] 1
+          ∷ acts (1 ∷ []) [] 1
+          ∷ passes (1 ∷ []) (1 ∷ []) 1
+          ∷ acts (1 ∷ 2 ∷ 3 ∷ []) [] 3
+          ∷ acts (1 ∷ 2 ∷ []) [] 1
+          ∷ acts (2 ∷ []) [] 2
+          ∷ acts (2 ∷ []) [] 2
+          ∷ acts (1 ∷ []) [] 1
+          ∷ acts (1 ∷ []) [] 1
+          ∷ [];
+      tasks = (1 ∷ 5 ∷ 4 ∷ []) ∷ (1 ∷ 3 ∷ 1 ∷ []) ∷ (1 ∷ 2 ∷ 0 ∷ []) ∷ [];
+      channels = (0 ∷ []) ∷ [] ∷ [] ∷ [];
+    }
+
 unfoldable pub samples : List Sample
-samples = workedSample ∷ childrenSample ∷ wordsSample ∷ bornSample ∷ []
+samples = workedSample ∷ childrenSample ∷ wordsSample ∷ bornSample ∷ severalSample ∷ []

@@ -10,3 +10,5 @@ pub mod LayoutBytes
 pub mod RoundTrip
 pub mod Programs
 pub mod Users
+pub mod Parents
+pub mod Ends

@@ -1,11 +1,11 @@
 -- A rig whose arrays have their sizes is sound where the test of 9 holds, and the other way round.
 use mathlib.Core.Path.{_≡_, refl}
 use mathlib.Core.Bool.{true}
-use Prim.Native.Nat.{suc, _-_}
+use Prim.Native.Nat.{suc}
 use native.Mathlib.Omega.{arith}
 use lib.Dec.{leb}
 use borrow.Author.Tests.{leb-true, le-leb}
-use Rattle.base.proofs.Tests.{and-both, within-low, within-high, within-both, below-at, below-all}
+use Rattle.base.proofs.Tests.{and-both, within-low, within-high, within-both, up-to-at, below-all}
 use Rattle.plan.specs.declared.PlanAnswer.{PlanAnswer}
 use Rattle.plan.specs.declared.PlanAnswer.the-variants.{Accepted, Refused}
 use Rattle.plan.specs.Answers.{isAccepted}
@@ -36,10 +36,7 @@ module _ (r : System) (s : Shaped r) where
         frame = record { some = within-low 1 6 n (b .processors); few = within-high 1 6 n (b .processors); plan = accepted-is (planAnswer (meaning r)) (b .plan) };
         rig =
             record {
-              tasks =
-                  λ t l k.
-                  let e : suc (t .0 - 1) ≡ t .0 = omega arith in
-                  rw e at (below-at (λ i. taskOkIn r (suc i)) (r .plan .tasks) (t .0 - 1) (omega arith) (b .tasks));
+              tasks = λ t l k. up-to-at (taskOkIn r) (r .plan .tasks) (t .0) l k (b .tasks);
               entries = tables-fine n r s (b .tables);
               channels = channels-fine n r s (b .channels);
             };

@@ -1,0 +1,57 @@
+-- The two ends of a channel in an accepted plan: its sender and its receiver, which are two tasks.
+use mathlib.Core.Path.{_≡_, ap}
+use mathlib.Core.Bool.{true, false, not}
+use mathlib.Core.Logic.{_≢_}
+use Prim.Native.Nat.{ℕ, suc, _≤_, _<_}
+use native.Mathlib.Omega.{arith}
+use lib.ListN.{length}
+use lib.Dec.{eqb}
+use borrow.Author.Tests.{eq-eqb, not-true}
+use Rattle.base.specs.Choice.{within}
+use Rattle.base.specs.Lists.{any}
+use Rattle.base.proofs.Tests.{within-low, within-high, up-to-at}
+use Rattle.plan.specs.declared.PlanAnswer.the-variants.{Accepted}
+use Rattle.plan.specs.declared.ChannelId.{ChannelId}
+use Rattle.plan.specs.Numbers.{taskId, channelId}
+use Rattle.plan.specs.Kinds.{opSend, opReceive, isUse}
+use Rattle.plan.specs.Programs.{Programs, programAt, instructionAt}
+use Rattle.plan.specs.Users.{users, firstOf, oneTask, share, senderOf, receiverOf}
+use Rattle.plan.specs.Refusals.{channelOk, channelsOk, planAnswer}
+use Rattle.plan_laws.proofs.Answers.{and-parts}
+use Rattle.plan_laws.proofs.Programs.{send-operand, receive-operand}
+use Rattle.plan_laws.proofs.Users.{first-any, found-within, no-user, used-by, structure-passed}
+
+module _ (m : Programs) (a : planAnswer m ≡ Accepted) where
+  -- the sender and the receiver of a channel
+  ends : (c : ℕ) → within 1 128 c ≡ true
+      → (oneTask (users m opSend c) ≡ true) × (oneTask (users m opReceive c) ≡ true)
+      × (not (share (users m opSend c) (users m opReceive c)) ≡ true)
+  unfolding channelsOk
+  ends c w =
+      let all = up-to-at (channelOk m) 128 c (within-low 1 128 c w) (within-high 1 128 c w) (structure-passed m a .1) in
+      let (s, rest) = and-parts (oneTask (users m opSend c)) _ all in
+      let (r, apart) = and-parts (oneTask (users m opReceive c)) _ rest in
+      (s, r, apart)
+
+  pub sends-on : (c k i : ℕ) → k < length m → i < length (programAt m k) → isUse opSend c (instructionAt (programAt m k) i) ≡ true
+      → senderOf m (channelId c) ≡ taskId (suc k)
+  sends-on c k i l q e = ap taskId (used-by m a opSend 1 128 (send-operand (length m)) (λ c w. ends c w .0) c k i l q e)
+
+  pub receives-on : (c k i : ℕ) → k < length m → i < length (programAt m k) → isUse opReceive c (instructionAt (programAt m k) i) ≡ true
+      → receiverOf m (channelId c) ≡ taskId (suc k)
+  receives-on c k i l q e = ap taskId (used-by m a opReceive 1 128 (receive-operand (length m)) (λ c w. ends c w .1) c k i l q e)
+
+  -- a number outside 1 .. 128 has neither
+  pub no-ends : (c : ChannelId) → within 1 128 (c .0) ≡ false → (senderOf m c .0 ≡ 0) × (receiverOf m c .0 ≡ 0)
+  no-ends c e = (no-user m a opSend 1 128 (send-operand (length m)) (c .0) e, no-user m a opReceive 1 128 (receive-operand (length m)) (c .0) e)
+
+  -- nobody is at both ends
+  pub ends-differ : (c : ChannelId) → 1 ≤ senderOf m c .0 → senderOf m c .0 ≢ receiverOf m c .0
+  ends-differ c h e =
+      let ss = users m opSend (c .0) in
+      let rs = users m opReceive (c .0) in
+      let apart = ends (c .0) (found-within m a opSend 1 128 (send-operand (length m)) (c .0) h) .2 in
+      let there : any (eqb (firstOf ss)) rs ≡ true = first-any (eqb (firstOf ss)) rs (omega arith) (eq-eqb (firstOf ss) (firstOf rs) e) in
+      let both : share ss rs ≡ true = first-any (λ s. any (eqb s) rs) ss h there in
+      let z : _≡_ {A = ℕ} 0 1 = cc (not-true (share ss rs) apart) in
+      omega arith
