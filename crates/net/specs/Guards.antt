@@ -16,7 +16,7 @@ use Rattle.plan.specs.Users.{senderOf, receiverOf}
 use Rattle.net.specs.States.{Net}
 use Rattle.net.specs.Labels.{Label, own, pass, isCreate, isJoin, isTransfer}
 
--- the program of task t; "0 means none"
+-- the program of task t; number 0 is no task
 unfoldable pub programFor : Programs → TaskId → Program
 programFor m t = pick (eqb (t .0) 0) [] (programAt m (t .0 - 1))
 
