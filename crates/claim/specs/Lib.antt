@@ -1,0 +1,10 @@
+-- Demand 3.
+pub mod Readings
+pub mod Progress
+pub mod Letters
+pub mod Views
+pub mod Turns
+pub mod Acts
+pub mod Family
+pub mod Agreement
+pub mod Weights
