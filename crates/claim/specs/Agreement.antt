@@ -8,7 +8,7 @@ use Rattle.base.specs.Choice.{pick, within}
 use Rattle.plan.specs.declared.TaskId.{TaskId}
 use Rattle.plan.specs.declared.ChannelId.{ChannelId}
 use Rattle.plan.specs.declared.Word.{Word}
-use Rattle.plan.specs.Numbers.{channelId}
+use Rattle.plan.specs.Numbers.{taskId, channelId}
 use Rattle.plan.specs.Kinds.{opSync}
 use Rattle.plan.specs.Programs.{Program, Programs}
 use Rattle.plan.specs.Users.{parentOf}
@@ -62,5 +62,7 @@ pub record Running (m : Programs) (h : Histories) (s : Net) (x : Reading) (recei
   pub places : (t : TaskId) → within 1 (length m) (t .0) ≡ true → Placed (x .processors) (h t) (x .tasks t) (moversOf t (x .letters))
   pub children : (u : TaskId) → within 2 (length m) (u .0) ≡ true → Child u (x .tasks (parentOf m u)) (x .tasks u) (endedOf u (x .letters))
   pub kin : Kin m (x .tasks)
+  -- task 1 has no parent, so that no ended letter names it
+  pub root : endedOf (taskId 1) (x .letters) ≡ []
   pub agrees : (t : TaskId) → Agrees m s (x .letters) t (x .tasks t)
   pub passed : PassedAlike s received (x .letters)

@@ -8,3 +8,4 @@ pub mod Acts
 pub mod Family
 pub mod Agreement
 pub mod Weights
+pub mod Statement
