@@ -1,24 +1,45 @@
 -- What is read of a rig after it is changed.
-use mathlib.Core.Path.{_≡_}
-use mathlib.Core.Bool.{Bool, true}
-use mathlib.Core.List.{List, _++_}
+use mathlib.Core.Path.{_≡_, refl, sym, _∙_, ap, fun-ext}
+use mathlib.Core.Bool.{Bool, true, false, not, _&&_}
+use mathlib.Core.List.{List, [], _∷_, _++_}
 use mathlib.Core.Option.{some}
-use mathlib.Core.Logic.{_⊎_}
-use Prim.Native.Nat.{ℕ, _+_, _-_, _≤_}
-use lib.ListN.{length, getElem?}
+use mathlib.Core.Logic.{_≢_, by-cases}
+use Prim.Native.Nat.{ℕ, zero, suc, _+_, _-_, _≤_, _<_}
+use native.Mathlib.Omega.{arith}
+use native.Mathlib.Decide.{ℕ-discrete}
+use lib.Dec.{eqb}
+use lib.ListN.{length, getD, getElem?, take, drop}
+use borrow.Author.Tests.{eqb-false, ne-eqb, le-leb}
+use Rattle.base.specs.Choice.{pick}
+use Rattle.base.proofs.Choices.{pick-either}
+use Rattle.base.proofs.Tests.{tests-differ, within-low, within-high, within-both}
+use Rattle.base.proofs.Updates.{updated-at, updated-same, updated-other}
 use Rattle.plan.specs.declared.TaskId.{TaskId}
 use Rattle.plan.specs.declared.ProcessorId.{ProcessorId}
 use Rattle.plan.specs.declared.ChannelId.{ChannelId}
+use Rattle.plan.specs.Numbers.{taskId, processorId, channelId}
 use Rattle.rules.specs.declared.task.Task.{Task}
+use Rattle.rules.specs.declared.channel.Entry.{Entry}
+use Rattle.rules.specs.declared.channel.Channel.{Channel}
 use Rattle.rules.specs.declared.channel.Cell.{Cell}
+use Rattle.rules.specs.declared.message.Message.{Message}
+use Rattle.rules.specs.declared.message.Message.the-variants.{Empty}
+use Rattle.rules.specs.declared.message.Network.{Network}
 use Rattle.rules.specs.declared.rule.Outcome.{Outcome}
 use Rattle.rules.specs.declared.system.System.{System}
-use Rattle.rules.specs.Networks.{letterAt, dequeued, lettersOf}
-use Rattle.rules.specs.Systems.{withNetwork, taskAt, withTask, cellAt}
+use Rattle.rules.specs.Numbers.{channelNumberOk}
+use Rattle.rules.specs.Networks.{letters, letterAt, enqueuedAll, dequeued, lettersOf}
+use Rattle.rules.specs.Systems.{withNetwork, taskAt, withTask, entryAt, channelAt, cellAt, withCell}
 use Rattle.rules.specs.Effects.{Effect, completed, withOutcome, forChannels}
 use Rattle.rules_laws.specs.Shapes.{Shaped}
+use Rattle.rules_laws.proofs.TaskAt.{withTask-processors, withTask-network, withTask-entryAt, withTask-channelAt, withTask-shaped, withTask-taskAt, taskAt-same, taskAt-other}
+use Rattle.rules_laws.proofs.CellAt.{withCell-processors, withCell-network, withCell-taskAt, withCell-shaped, entryAt-same, channelAt-same, entryAt-other-processor, entryAt-other-channel, channelAt-other}
+use Rattle.rules_laws.proofs.ForChannels.{forChannels-processors, forChannels-network, forChannels-taskAt, forChannels-elsewhere, forChannels-entryAt, forChannels-channelAt}
+use Rattle.rules_laws.proofs.Letters.{length-letters, letters-enqueuedAll, letterAt-letters, letters-dequeued}
+use Rattle.net.specs.States.{atChannel}
+use Rattle.channel.specs.Updates.{atNumber}
 use Rattle.channel.specs.Bags.{without}
-use Rattle.claim.specs.Readings.{Reading, reading, cellOf, withTaskRead, withLettersRead, withOutcomeRead, forChannelsRead}
+use Rattle.claim.specs.Readings.{Reading, reading, entryOf, channelOf, noEntry, noChannel, cellOf, withTaskRead, withLettersRead, withOutcomeRead, forChannelsRead}
 
 -- a task that exists
 pub record IsTask (t : TaskId) : Type 0 where
@@ -32,30 +53,269 @@ pub record IsCell (d : ProcessorId) (c : ChannelId) : Type 0 where
   pub low : 1 ≤ c .0
   pub high : c .0 ≤ 128
 
-module _ (r : System) (shaped : Shaped r) where
-  pub read-task : (t : TaskId) (y : Task) → IsTask t → reading (withTask r t y) ≡ withTaskRead (reading r) t y
-  read-task t y is = ?read-task
+-- readings with the same parts
+abbrev made : ℕ → (TaskId → Task) → (ChannelId → ℕ → Entry) → (ChannelId → Channel) → List Message → Reading
+made n t e k l = record { processors = n; tasks = t; entries = e; channels = k; letters = l }
 
-  pub read-cell : (d : ProcessorId) (c : ChannelId) → IsCell d c → cellAt r d c ≡ cellOf (reading r) c (d .0)
-  read-cell d c is = ?read-cell
+made-same : {n m : ℕ} {t u : TaskId → Task} {e f : ChannelId → ℕ → Entry} {j k : ChannelId → Channel} {l i : List Message}
+    → n ≡ m → t ≡ u → e ≡ f → j ≡ k → l ≡ i → made n t e j l ≡ made m u f k i
+made-same p q r s z = cc
 
-  -- an end of a channel exists, or nothing changes there
-  pub read-outcome : (s u : TaskId) (c : ChannelId) (d : ProcessorId) (o : Outcome) → IsCell d c → s .0 ≤ 64 → u .0 ≤ 64 → (s .0 ≡ 0 → o .sender ≡ taskAt r s) → (u .0 ≡ 0 → o .receiver ≡ taskAt r u)
-      → r .network .used + length (lettersOf (r .processors) (o .posting)) ≤ 256
-      → reading (completed (withOutcome r s u c d o)) ≡ withOutcomeRead (reading r) s u c (d .0) o ((reading r) .letters ++ lettersOf (r .processors) (o .posting))
-  read-outcome s u c d o is sf uf sn un fits = ?read-outcome
+-- a cell that is written
+abbrev withCellRead : Reading → ChannelId → ℕ → Cell → Reading
+withCellRead x c d y =
+    made (x .processors) (x .tasks) (atChannel (x .entries) c (atNumber (x .entries c) d (y .entry))) (atChannel (x .channels) c (y .channel)) (x .letters)
 
-  pub read-forChannels : (test : ChannelId → Bool) (rule : Cell → Cell) (d : ProcessorId) → 1 ≤ d .0 → d .0 ≤ 6 → reading (forChannels 128 test rule d r) ≡ forChannelsRead test rule (d .0) (reading r)
-  read-forChannels test rule d l u = ?read-forChannels
+readings-same : (x y : Reading) → x .processors ≡ y .processors → ((t : TaskId) → x .tasks t ≡ y .tasks t)
+    → ((c : ChannelId) (d : ℕ) → x .entries c d ≡ y .entries c d) → ((c : ChannelId) → x .channels c ≡ y .channels c) → x .letters ≡ y .letters
+    → x ≡ y
+readings-same x y p t e k l = made-same p (fun-ext t) (fun-ext λ c. fun-ext (e c)) (fun-ext k) l
 
-  -- a letter is taken out
-  pub read-dequeued : (p : ℕ) → 1 ≤ p → p ≤ r .network .used → r .network .used ≤ 256 → reading (withNetwork r (dequeued (r .network) p)) ≡ withLettersRead (reading r) (without ((reading r) .letters) (p - 1))
-  read-dequeued p l u few = ?read-dequeued
+-- the entry where there is a channel and a desk, and where not
+module _ (r : System) (c : ChannelId) where
+  pub entry-there : (d : ℕ) → 1 ≤ c .0 → c .0 ≤ 128 → 1 ≤ d → entryOf r c d ≡ entryAt r (processorId d) c
+  unfolding entryOf
+  entry-there d cl ch dl = rw (within-both 1 128 (c .0) cl ch, ne-eqb d 0 (λ e. omega arith)) refl
 
-  pub read-letter : (p : ℕ) → 1 ≤ p → p ≤ r .network .used → r .network .used ≤ 256 → getElem? ((reading r) .letters) (p - 1) ≡ some (letterAt (r .network) p)
-  read-letter p l u few = ?read-letter
+  pub channel-there : 1 ≤ c .0 → c .0 ≤ 128 → channelOf r c ≡ channelAt r c
+  unfolding channelOf
+  channel-there cl ch = rw (within-both 1 128 (c .0) cl ch) refl
+
+-- entries and channels are read alike in two rigs where they are alike wherever there is a desk and a channel
+module _ (q r : System) where
+  entries-same : (c : ChannelId) (d : ℕ)
+      → (1 ≤ c .0 → c .0 ≤ 128 → 1 ≤ d → entryAt q (processorId d) c ≡ entryAt r (processorId d) c) → entryOf q c d ≡ entryOf r c d
+  unfolding entryOf
+  entries-same c d same = go (channelNumberOk c) (eqb d 0) (λ h. within-low 1 128 (c .0) h) (λ h. within-high 1 128 (c .0) h) (eqb-false d 0)
+    where
+      go : (b z : Bool) → (b ≡ true → 1 ≤ c .0) → (b ≡ true → c .0 ≤ 128) → (z ≡ false → d ≢ 0)
+          → pick (b && not z) (entryAt q (processorId d) c) noEntry ≡ pick (b && not z) (entryAt r (processorId d) c) noEntry
+      go false z low high here = refl
+      go true true low high here = refl
+      go true false low high here = let ne = here refl in same (low refl) (high refl) (omega arith)
+
+  channels-same : (c : ChannelId) → (1 ≤ c .0 → c .0 ≤ 128 → channelAt q c ≡ channelAt r c) → channelOf q c ≡ channelOf r c
+  unfolding channelOf
+  channels-same c same = go (channelNumberOk c) (λ h. within-low 1 128 (c .0) h) (λ h. within-high 1 128 (c .0) h)
+    where
+      go : (b : Bool) → (b ≡ true → 1 ≤ c .0) → (b ≡ true → c .0 ≤ 128) → pick b (channelAt q c) noChannel ≡ pick b (channelAt r c) noChannel
+      go false low high = refl
+      go true low high = same (low refl) (high refl)
+
+-- lists: without one element, and one element
+without-split : {A : Type 0} (xs : List A) (k : ℕ) → without xs k ≡ take k xs ++ drop (suc k) xs
+unfolding without
+without-split [] zero = refl
+without-split [] (suc k) = refl
+without-split (x ∷ xs) zero = refl
+without-split (x ∷ xs) (suc k) = ap (x ∷_) (without-split xs k)
+
+getElem-getD : {A : Type 0} (xs : List A) (k : ℕ) (a : A) → k < length xs → getElem? xs k ≡ some (getD xs k a)
+getElem-getD [] k a h = absurd (omega arith)
+getElem-getD (x ∷ xs) zero a h = refl
+getElem-getD (x ∷ xs) (suc k) a h = getElem-getD xs k a (omega arith)
+
+-- another mail
+read-network : (r : System) (k : Network) → reading (withNetwork r k) ≡ withLettersRead (reading r) (letters k)
+unfolding reading taskAt entryOf entryAt channelOf channelAt
+read-network r k = refl
 
 -- letters join the mail
 pub read-completed : (e : Effect) → Shaped (e .system) → e .system .network .used + length (lettersOf (e .system .processors) (e .posting)) ≤ 256
     → reading (completed e) ≡ withLettersRead (reading (e .system)) ((reading (e .system)) .letters ++ lettersOf (e .system .processors) (e .posting))
-read-completed e shaped fits = ?read-completed
+unfolding reading completed
+read-completed e shaped fits =
+    let r = e .system in
+    let ms = lettersOf (r .processors) (e .posting) in
+    read-network r (enqueuedAll (r .network) ms)
+    ∙ ap (withLettersRead (reading r)) (letters-enqueuedAll (r .network) ms (omega (arith, shaped .slots)))
+
+module _ (r : System) (shaped : Shaped r) where
+  -- a task that does not exist is written as it was
+  module _ (t : TaskId) (y : Task) (few : t .0 ≤ 64) (none : t .0 ≡ 0 → y ≡ taskAt r t) where
+    task-written : taskAt (withTask r t y) t ≡ y
+    task-written =
+        by-cases
+        (ℕ-discrete (t .0) 0)
+        (λ e. let same = none e in rw same (ap (λ q. taskAt q t) (withTask-taskAt r t)))
+        (λ ne. taskAt-same r t y shaped (omega arith) few)
+
+    read-end : reading (withTask r t y) ≡ withTaskRead (reading r) t y
+    unfolding reading
+    read-end =
+        readings-same (reading (withTask r t y)) (withTaskRead (reading r) t y)
+        (withTask-processors r t y)
+        (λ u. by-cases (ℕ-discrete (u .0) (t .0))
+        (λ e. ap (taskAt (withTask r t y)) (ap taskId e) ∙ task-written ∙ sym (updated-at (λ (k : TaskId). k .0) (taskAt r) t u y e))
+        (λ ne. taskAt-other r t y u (λ e. ne (sym e)) ∙ sym (updated-other (λ (k : TaskId). k .0) (taskAt r) t u y ne)))
+        (λ c d. entries-same (withTask r t y) r c d (λ cl ch dl. withTask-entryAt r t y (processorId d) c))
+        (λ c. channels-same (withTask r t y) r c (λ cl ch. withTask-channelAt r t y c))
+        (ap letters (withTask-network r t y))
+
+  -- a cell that is written
+  module _ (d : ProcessorId) (c : ChannelId) (x : Cell) (is : IsCell d c) where
+    written-entry : (e : ℕ) → entryOf (withCell r d c x) c e ≡ atNumber (entryOf r c) (d .0) (x .entry) e
+    written-entry e =
+        by-cases
+        (ℕ-discrete e (d .0))
+        (λ (h : e ≡ d .0).
+        rw h (entry-there (withCell r d c x) c (d .0) (is .low) (is .high) (is .desk) ∙ entryAt-same r d c x shaped (is .desk-few) (is .high))
+        ∙ sym (updated-at (λ (k : ℕ). k) (entryOf r c) (d .0) e (x .entry) h))
+        (λ ne.
+        entries-same (withCell r d c x) r c e (λ cl ch el. entryAt-other-processor r d c x (processorId e) c (is .desk) el (is .high) ch (λ h. ne (sym h)))
+        ∙ sym (updated-other (λ (k : ℕ). k) (entryOf r c) (d .0) e (x .entry) ne))
+
+    written-entries : (f : ChannelId) (e : ℕ) → entryOf (withCell r d c x) f e ≡ atChannel (entryOf r) c (atNumber (entryOf r c) (d .0) (x .entry)) f e
+    written-entries f e =
+        by-cases
+        (ℕ-discrete (f .0) (c .0))
+        (λ (h : f .0 ≡ c .0).
+        ap (λ g. entryOf (withCell r d c x) g e) (ap channelId h)
+        ∙ written-entry e
+        ∙ sym (ap (λ g. g e) (updated-at (λ (k : ChannelId). k .0) (entryOf r) c f (atNumber (entryOf r c) (d .0) (x .entry)) h)))
+        (λ ne.
+        entries-same (withCell r d c x) r f e (λ fl fh el. entryAt-other-channel r d c x (processorId e) f (is .low) (is .high) fl fh (λ h. ne (sym h)))
+        ∙ sym (ap (λ g. g e) (updated-other (λ (k : ChannelId). k .0) (entryOf r) c f (atNumber (entryOf r c) (d .0) (x .entry)) ne)))
+
+    written-channels : (f : ChannelId) → channelOf (withCell r d c x) f ≡ atChannel (channelOf r) c (x .channel) f
+    written-channels f =
+        by-cases
+        (ℕ-discrete (f .0) (c .0))
+        (λ (h : f .0 ≡ c .0).
+        ap (channelOf (withCell r d c x)) (ap channelId h)
+        ∙ channel-there (withCell r d c x) c (is .low) (is .high)
+        ∙ channelAt-same r d c x shaped (is .high)
+        ∙ sym (updated-at (λ (k : ChannelId). k .0) (channelOf r) c f (x .channel) h))
+        (λ ne.
+        channels-same (withCell r d c x) r f (λ fl fh. channelAt-other r d c x f (is .low) fl (λ h. ne (sym h)))
+        ∙ sym (updated-other (λ (k : ChannelId). k .0) (channelOf r) c f (x .channel) ne))
+
+    read-written : reading (withCell r d c x) ≡ withCellRead (reading r) c (d .0) x
+    unfolding reading
+    read-written =
+        readings-same
+        (reading (withCell r d c x))
+        (withCellRead (reading r) c (d .0) x)
+        (withCell-processors r d c x)
+        (withCell-taskAt r d c x)
+        written-entries
+        written-channels
+        (ap letters (withCell-network r d c x))
+
+-- a rule for each channel of which a test holds
+module _ (r : System) (shaped : Shaped r) (test : ChannelId → Bool) (rule : Cell → Cell) (d : ProcessorId) (l : 1 ≤ d .0) (u : d .0 ≤ 6) where
+  module _ (c : ChannelId) where
+    abbrev found : Cell
+    found = record { entry = entryOf r c (d .0); channel = channelOf r c }
+
+    low : channelNumberOk c ≡ true → 1 ≤ c .0
+    low e = within-low 1 128 (c .0) e
+
+    high : channelNumberOk c ≡ true → c .0 ≤ 128
+    high e = within-high 1 128 (c .0) e
+
+    found-there : channelNumberOk c ≡ true → cellAt r d c ≡ found
+    found-there e = rw (entry-there r c (d .0) (low e) (high e) l, channel-there r c (low e) (high e)) refl
+
+    entry-here : (b : Bool) → channelNumberOk c ≡ b → (t : Bool) → test c ≡ t
+        → entryOf (forChannels 128 test rule d r) c (d .0) ≡ pick (b && t) (atNumber (entryOf r c) (d .0) (rule found .entry)) (entryOf r c) (d .0)
+    entry-here false e t f = entries-same (forChannels 128 test rule d r) r c (d .0) (λ cl ch dl. absurd (tests-differ (within-both 1 128 (c .0) cl ch) e))
+    entry-here true e true f =
+        let le = le-leb (c .0) 128 (high e) in
+        entry-there (forChannels 128 test rule d r) c (d .0) (low e) (high e) l
+        ∙ (rw (le, f, found-there e) at (forChannels-entryAt test rule d 128 r c shaped (omega arith) u (low e) (high e)))
+        ∙ sym (updated-same (λ (k : ℕ). k) (entryOf r c) (d .0) (rule found .entry))
+    entry-here true e false f =
+        let le = le-leb (c .0) 128 (high e) in
+        entry-there (forChannels 128 test rule d r) c (d .0) (low e) (high e) l
+        ∙ (rw (le, f) at (forChannels-entryAt test rule d 128 r c shaped (omega arith) u (low e) (high e)))
+        ∙ sym (entry-there r c (d .0) (low e) (high e) l)
+
+    channel-here : (b : Bool) → channelNumberOk c ≡ b → (t : Bool) → test c ≡ t
+        → channelOf (forChannels 128 test rule d r) c ≡ pick (b && t) (rule found .channel) (channelOf r c)
+    channel-here false e t f = channels-same (forChannels 128 test rule d r) r c (λ cl ch. absurd (tests-differ (within-both 1 128 (c .0) cl ch) e))
+    channel-here true e true f =
+        let le = le-leb (c .0) 128 (high e) in
+        channel-there (forChannels 128 test rule d r) c (low e) (high e)
+        ∙ (rw (le, f, found-there e) at (forChannels-channelAt test rule d 128 r c shaped (omega arith) u (low e) (high e)))
+    channel-here true e false f =
+        let le = le-leb (c .0) 128 (high e) in
+        channel-there (forChannels 128 test rule d r) c (low e) (high e)
+        ∙ (rw (le, f) at (forChannels-channelAt test rule d 128 r c shaped (omega arith) u (low e) (high e)))
+        ∙ sym (channel-there r c (low e) (high e))
+
+    entry-elsewhere : (e : ℕ) → e ≢ d .0
+        → entryOf (forChannels 128 test rule d r) c e ≡ pick (channelNumberOk c && test c) (atNumber (entryOf r c) (d .0) (rule found .entry)) (entryOf r c) e
+    entry-elsewhere e ne =
+        entries-same (forChannels 128 test rule d r) r c e
+        (λ cl ch el. forChannels-elsewhere test rule d 128 r (processorId e) c (omega arith) l el ch (λ h. ne (sym h)))
+        ∙ pick-either (λ g. entryOf r c e ≡ g e) (channelNumberOk c && test c) (atNumber (entryOf r c) (d .0) (rule found .entry)) (entryOf r c)
+        (sym (updated-other (λ (k : ℕ). k) (entryOf r c) (d .0) e (rule found .entry) ne)) refl
+
+  read-all : reading (forChannels 128 test rule d r) ≡ forChannelsRead test rule (d .0) (reading r)
+  unfolding reading
+  read-all =
+      readings-same (reading (forChannels 128 test rule d r)) (forChannelsRead test rule (d .0) (reading r))
+      (forChannels-processors test rule d 128 r)
+      (forChannels-taskAt test rule d 128 r)
+      (λ c e. by-cases (ℕ-discrete e (d .0)) (λ (h : e ≡ d .0). rw h (entry-here c (channelNumberOk c) refl (test c) refl)) (λ ne. entry-elsewhere c e ne))
+      (λ c. channel-here c (channelNumberOk c) refl (test c) refl)
+      (ap letters (forChannels-network test rule d 128 r))
+
+module _ (r : System) (shaped : Shaped r) where
+  pub read-task : (t : TaskId) (y : Task) → IsTask t → reading (withTask r t y) ≡ withTaskRead (reading r) t y
+  read-task t y is = read-end r shaped t y (is .high) (λ e. absurd (omega (arith, is .low)))
+
+  pub read-cell : (d : ProcessorId) (c : ChannelId) → IsCell d c → cellAt r d c ≡ cellOf (reading r) c (d .0)
+  unfolding reading
+  read-cell d c is = rw (entry-there r c (d .0) (is .low) (is .high) (is .desk), channel-there r c (is .low) (is .high)) refl
+
+  -- a task that does not exist is not written
+  none-written : (s u : TaskId) (y : Task) → (s .0 ≡ 0 → y ≡ taskAt r s) → u .0 ≡ 0 → taskAt (withTask r s y) u ≡ taskAt r u
+  none-written s u y none e =
+      by-cases
+      (ℕ-discrete (s .0) (u .0))
+      (λ h. let same = none (h ∙ e) in rw same (ap (λ q. taskAt q u) (withTask-taskAt r s)))
+      (λ ne. taskAt-other r s y u ne)
+
+  -- an end of a channel exists, or nothing changes there
+  pub read-outcome : (s u : TaskId) (c : ChannelId) (d : ProcessorId) (o : Outcome) → IsCell d c → s .0 ≤ 64 → u .0 ≤ 64
+      → (s .0 ≡ 0 → o .sender ≡ taskAt r s) → (u .0 ≡ 0 → o .receiver ≡ taskAt r u)
+      → r .network .used + length (lettersOf (r .processors) (o .posting)) ≤ 256
+      → reading (completed (withOutcome r s u c d o)) ≡ withOutcomeRead (reading r) s u c (d .0) o ((reading r) .letters ++ lettersOf (r .processors) (o .posting))
+  unfolding withOutcome
+  read-outcome s u c d o is sf uf sn un fits =
+      let q1 = withTask r s (o .sender) in
+      let q2 = withTask q1 u (o .receiver) in
+      let q3 = withCell q2 d c (o .cell) in
+      let shaped1 = withTask-shaped r s (o .sender) shaped in
+      let shaped2 = withTask-shaped q1 u (o .receiver) shaped1 in
+      let shaped3 = withCell-shaped q2 d c (o .cell) shaped2 in
+      let mail : q3 .network ≡ r .network = withCell-network q2 d c (o .cell) ∙ withTask-network q1 u (o .receiver) ∙ withTask-network r s (o .sender) in
+      let desks : q3 .processors ≡ r .processors = withCell-processors q2 d c (o .cell) ∙ withTask-processors q1 u (o .receiver) ∙ withTask-processors r s (o .sender) in
+      let read1 : reading q1 ≡ withTaskRead (reading r) s (o .sender) = read-end r shaped s (o .sender) sf sn in
+      let read2 : reading q2 ≡ withTaskRead (reading q1) u (o .receiver) = read-end q1 shaped1 u (o .receiver) uf (λ e. un e ∙ sym (none-written s u (o .sender) sn e)) in
+      let read3 : reading q3 ≡ withCellRead (reading q2) c (d .0) (o .cell) = read-written q2 shaped2 d c (o .cell) is in
+      read-completed (withOutcome r s u c d o) shaped3 (rw (mail, desks) fits) ∙ rw (read3, read2, read1, desks) refl
+
+  pub read-forChannels : (test : ChannelId → Bool) (rule : Cell → Cell) (d : ProcessorId) → 1 ≤ d .0 → d .0 ≤ 6
+      → reading (forChannels 128 test rule d r) ≡ forChannelsRead test rule (d .0) (reading r)
+  read-forChannels test rule d l u = read-all r shaped test rule d l u
+
+  -- a letter is taken out
+  pub read-dequeued : (p : ℕ) → 1 ≤ p → p ≤ r .network .used → r .network .used ≤ 256
+      → reading (withNetwork r (dequeued (r .network) p)) ≡ withLettersRead (reading r) (without ((reading r) .letters) (p - 1))
+  unfolding reading
+  read-dequeued p l u few =
+      let ms = letters (r .network) in
+      let e : suc (p - 1) ≡ p = omega arith in
+      let s : without ms (p - 1) ≡ take (p - 1) ms ++ drop p ms = rw e at (without-split ms (p - 1)) in
+      read-network r (dequeued (r .network) p)
+      ∙ ap (withLettersRead (reading r)) (letters-dequeued (r .network) p l u (omega (arith, shaped .slots)) ∙ sym s)
+
+  pub read-letter : (p : ℕ) → 1 ≤ p → p ≤ r .network .used → r .network .used ≤ 256
+      → getElem? ((reading r) .letters) (p - 1) ≡ some (letterAt (r .network) p)
+  unfolding reading
+  read-letter p l u few =
+      let size : length (letters (r .network)) ≡ r .network .used = length-letters (r .network) (omega (arith, shaped .slots)) in
+      getElem-getD (letters (r .network)) (p - 1) Empty (omega arith) ∙ ap some (sym (letterAt-letters (r .network) p l u))

@@ -1,3 +1,11 @@
 -- Demand 3.
 pub mod Flats
 pub mod Frames
+pub mod Runs
+pub mod Unseen
+pub mod OwnActs
+pub mod Work
+pub mod TaskLetters
+pub mod Falls
+pub mod Quiet
+pub mod ViewsKept

@@ -1,0 +1,129 @@
+-- Laws that the events share: the offer or the advert that is kept, offers that count no more, the way of an offer, and what holds while nothing
+-- is sent.
+use mathlib.Core.Path.{_≡_, sym}
+use mathlib.Core.Logic.{_≢_, _⊎_, ⊎-elim}
+use Prim.Native.Nat.{ℕ, suc, _≤_, _<_}
+use native.Mathlib.Omega.{arith}
+use lib.Dec.{eqb, ltb}
+use borrow.Author.Tests.{ltb-true, ltb-false, eqb-true, eqb-false}
+use Rattle.base.proofs.Choices.{pick-either, pick-cases}
+use Rattle.base.proofs.Updates.{updated-other}
+use Rattle.plan.specs.declared.ProcessorId.{ProcessorId}
+use Rattle.rules.specs.declared.channel.Hint.{Hint}
+use Rattle.rules.specs.declared.channel.Offer.{Offer}
+use Rattle.rules.specs.Cells.{larger, firstNoted}
+use Rattle.channel.specs.Updates.{atNumber}
+use Rattle.channel.specs.Bags.{In}
+use Rattle.channel.specs.Hints.{Right}
+use Rattle.channel.specs.Letters.{offer, advert, call}
+use Rattle.channel.specs.Views.{View}
+use Rattle.channel.specs.Places.{takingOver}
+use Rattle.channel.specs.Invariant.{Way, Live, Advertised, CallOk, Offered, Coming, Invariant}
+use Rattle.channel.proofs.Updates.{at-elim}
+use Rattle.channel.proofs.Hints.{away}
+
+-- clauses of the invariant: an offer that counts is of the send under way; the next send is offered; the receiver is on its way to desk x
+abbrev pub OfferLive : View → Offer → Type 0
+OfferLive v o = Live (v .state .granted) (v .sender .sending) (v .sender .sent) (v .sender .at) (o .processor .0) (o .number)
+
+abbrev pub NextOffered : View → Type 0
+NextOffered v = Offered (v .processors) (v .sender .sent) (v .sender .at) (v .tables .held) (v .tables .noted) (v .state .carried) (v .letters)
+
+abbrev pub ComingTo : View → ℕ → Type 0
+ComingTo v x = Coming (v .receiver .at) (v .receiver .moves) x (v .receiver .history (v .receiver .moves))
+
+-- of two offers one is kept
+pub larger-elim : (Q : Offer → Type 0) (a b : Offer) → Q a → Q b → Q (larger a b)
+unfolding larger
+larger-elim Q a b x y = pick-either Q (ltb (a .number) (b .number)) b a y x
+
+pub takingOver-elim : (Q : Offer → Type 0) (n : ℕ) (a b : Offer) → Q a → Q b → Q (takingOver n a b)
+unfolding takingOver
+takingOver-elim Q n a b x y = pick-either Q (ltb n (b .number)) (larger a b) a (larger-elim Q a b x y) x
+
+-- to prove something of every held offer, one more being held at desk x
+pub held-elim : (Q : ℕ → Offer → Type 0) (held : ℕ → Offer) (x : ℕ) (o : Offer) → ((y : ℕ) → Q y (held y)) → Q x o → (y : ℕ) → Q y (atNumber held x (larger (held x) o) y)
+held-elim Q held x o old new = at-elim Q held x (larger (held x) o) (larger-elim (Q x) (held x) o (old x) new) (λ y ne. old y)
+
+-- if one of two offers is of the send under way, the one that is kept has its number
+module _ (v : View) (a b : Offer) (la : OfferLive v a) (lb : OfferLive v b) (e : v .state .granted ≡ v .sender .sent) (s : (a .number ≡ suc (v .sender .sent)) ⊎ (b .number ≡ suc (v .sender .sent))) where
+  pub larger-number : larger a b .number ≡ suc (v .sender .sent)
+  unfolding larger
+  larger-number = pick-cases (λ o. o .number ≡ suc (v .sender .sent)) (ltb (a .number) (b .number)) b a
+      (λ t. let l = ltb-true (a .number) (b .number) t in ⊎-elim (λ q. lb (omega arith) .number) (λ q. q) s)
+      (λ t. let l = ltb-false (a .number) (b .number) t in ⊎-elim (λ q. q) (λ q. la (omega arith) .number) s)
+
+  pub taking-number : takingOver (v .state .granted) a b .number ≡ suc (v .sender .sent)
+  unfolding takingOver
+  taking-number = pick-cases (λ o. o .number ≡ suc (v .sender .sent)) (ltb (v .state .granted) (b .number)) (larger a b) a
+      (λ t. larger-number)
+      (λ t. let l = ltb-false (v .state .granted) (b .number) t in ⊎-elim (λ q. q) (λ q. absurd (omega arith)) s)
+
+-- of two adverts one is noted, and there is one if one was
+pub firstNoted-elim : (Q : ProcessorId → Type 0) (a d : ProcessorId) → Q a → Q d → Q (firstNoted a d)
+unfolding firstNoted
+firstNoted-elim Q a d x y = pick-either Q (eqb (a .0) 0) d a y x
+
+pub firstNoted-some : (a d : ProcessorId) → (1 ≤ a .0) ⊎ (1 ≤ d .0) → 1 ≤ firstNoted a d .0
+unfolding firstNoted
+firstNoted-some a d s = pick-cases (λ x. 1 ≤ x .0) (eqb (a .0) 0) d a
+    (λ t. let z = eqb-true (a .0) 0 t in ⊎-elim (λ q. absurd (omega arith)) (λ q. q) s)
+    (λ t. let z : a .0 ≢ 0 = eqb-false (a .0) 0 t in omega arith)
+
+pub noted-elim : (Q : ℕ → ProcessorId → Type 0) (noted : ℕ → ProcessorId) (x : ℕ) (d : ProcessorId) → ((y : ℕ) → Q y (noted y)) → Q x d → (y : ℕ) → Q y (atNumber noted x (firstNoted (noted x) d) y)
+noted-elim Q noted x d old new = at-elim Q noted x (firstNoted (noted x) d) (firstNoted-elim (Q x) (noted x) d (old x) new) (λ y ne. old y)
+
+-- while nothing is sent, no offer and no advert counts
+pub quiet : {C : Type 0} {granted sending sent at d w : ℕ} → sending ≡ 0 → Live granted sending sent at d w → granted < w → C
+quiet z f l = let e = f l .on in absurd (omega arith)
+
+pub advert-quiet : {C : Type 0} {granted sending at d x : ℕ} → sending ≡ 0 → (granted ≡ 0 → Advertised sending at d x) → granted ≡ 0 → C
+advert-quiet z f l = let e = f l .on in absurd (omega arith)
+
+-- with one more called for, no more counts
+pub live-more : {granted sending sent at d w : ℕ} → Live granted sending sent at d w → Live (suc granted) sending sent at d w
+live-more f l = f (omega arith)
+
+-- once the send is done, its offers count no more; nor once it is called for
+pub done : {C : Type 0} {granted sending sent at d w : ℕ} → granted ≤ suc sent → Live granted sending sent at d w → suc sent < w → C
+done z f l = let e = f (omega arith) .number in absurd (omega arith)
+
+pub done-called : {C : Type 0} {granted sending sent at d w : ℕ} → granted ≡ suc sent → Live granted sending sent at d w → granted < w → C
+done-called z f l = let e = f l .number in absurd (omega arith)
+
+-- the way of an offer is the same after one more move
+pub way-more : {history : ℕ → ℕ} {moves : ℕ} (e : ℕ) {to k : ℕ} → Way history moves to k → Way (atNumber history (suc moves) e) (suc moves) to k
+way-more {history} {moves} e {to} {k} y =
+    let o = y .old in
+    let ne : k ≢ suc moves = omega arith in
+    record { some = y .some; old = omega arith; says = rw (updated-other (λ n. n) history (suc moves) k e ne) (y .says) }
+
+-- an offer goes where a right pointer says
+pub pointed : {history : ℕ → ℕ} {moves : ℕ} {p : Hint} → Right history moves p → 1 ≤ p .moves → Way history moves (p .processor .0) (p .moves)
+pointed r l = record { some = l; old = r .old; says = r .says }
+
+-- a receiver that was sent to desk x last and is not there is on its way
+pub coming : (v : View) → Invariant v → (x : ℕ) → (x ≡ v .receiver .history (v .receiver .moves)) × (1 ≤ v .receiver .moves) → v .receiver .at ≢ x → ComingTo v x
+coming v i x (last, born) ne = record { moving = away (i .table) x last (λ e. ne (sym e)); born = born; sent = last }
+
+-- while nothing is sent, what is said of offers, adverts and calls holds of whatever the sender does next
+module _ (v : View) (i : Invariant v) (z : v .sender .sending ≡ 0) where
+  pub quiet-letters : (s n at to d w k : ℕ) → In (offer to d w k) (v .letters) → Live (v .state .granted) s n at d w
+  quiet-letters s n at to d w k m = quiet z (i .offer-letters to d w k m)
+
+  pub quiet-held : (s n at x : ℕ) → Live (v .state .granted) s n at (v .tables .held x .processor .0) (v .tables .held x .number)
+  quiet-held s n at x = quiet z (i .offer-held x)
+
+  pub quiet-carried : (s n at : ℕ) → Live (v .state .granted) s n at (v .state .carried .processor .0) (v .state .carried .number)
+  quiet-carried s n at = quiet z (i .offer-carried)
+
+  pub quiet-adverts : (s at to d : ℕ) → In (advert to d) (v .letters) → v .state .granted ≡ 0 → Advertised s at d to
+  quiet-adverts s at to d m = advert-quiet z (i .advert-letters to d m)
+
+  pub quiet-noted : (s at x : ℕ) → 1 ≤ v .tables .noted x .0 → v .state .granted ≡ 0 → Advertised s at (v .tables .noted x .0) x
+  quiet-noted s at x l = advert-quiet z (i .advert-noted x l)
+
+  pub quiet-calls : (s at r n to d k : ℕ) → In (call to d k) (v .letters) → CallOk s at r n to d k
+  quiet-calls s at r n to d k m = let q = i .call-letters to d k m .on in absurd (omega arith)
+
+pub ruleset quiets = (quiet-letters, quiet-held, quiet-carried, quiet-adverts, quiet-noted, quiet-calls)

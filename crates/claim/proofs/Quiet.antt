@@ -1,0 +1,85 @@
+-- Rest: exactly when no run and no delivery would be accepted; and then every ready task is at its finish, with a living child.
+use mathlib.Core.Path.{_≡_, refl, sym, ap, _∙_}
+use mathlib.Core.Logic.{_≢_, by-cases}
+use mathlib.Core.Bool.{Bool, true, false, not, _&&_, _||_}
+use mathlib.Core.List.{List, []}
+use Prim.Native.Nat.{ℕ, zero, suc, _+_, _≤_, _<_}
+use native.Mathlib.Omega.{arith}
+use native.Mathlib.Decide.{ℕ-discrete}
+use lib.Dec.{eqb}
+use lib.ListN.{length}
+use borrow.Author.Tests.{eqb-true, eq-eqb, ne-eqb}
+use Rattle.base.specs.Choice.{pick, unless, within}
+use Rattle.base.specs.Range.{upTo}
+use Rattle.base.proofs.Tests.{and-left, and-right, and-both, or-cases, within-low, within-high, within-both, up-to-at, below-all, is-false, tests-differ}
+use Rattle.plan.specs.declared.TaskId.{TaskId}
+use Rattle.plan.specs.Numbers.{taskId}
+use Rattle.rules.specs.declared.step.Step.{Step}
+use Rattle.rules.specs.declared.step.StepAnswer.{StepAnswer}
+use Rattle.rules.specs.declared.step.StepAnswer.the-variants.{Accepted}
+use Rattle.rules.specs.declared.system.System.{System}
+use Rattle.rules.specs.Answers.{isAccepted}
+use Rattle.rules.specs.Deliver.{deliverAnswer}
+use Rattle.rules.specs.Steps.{isRun, isDeliver, isMove, wellFormed, kindAnswer, ruledAnswer, stepAnswer, runStep, quiescent}
+use Rattle.rules.specs.Runs.{runAnswer}
+use Rattle.rules.specs.Sound.{systemOk}
+use Rattle.rules_laws.proofs.Steps.{accepted-is, step-passed}
+use Rattle.rules_laws.proofs.StepKinds.{answer-run, answer-deliver, deliver-passed}
+use Rattle.rules_sound.proofs.Answers.{run-passed}
+
+-- a delivery of position p
+abbrev pub deliverStep : ℕ → Step
+deliverStep p = record { kind = 2; task = 0; number = p }
+
+not-passed : (b : Bool) → not b ≡ true → b ≡ false
+not-passed true h = cc
+not-passed false h = refl
+
+module _ (r : System) (ok : systemOk r ≡ true) where
+  -- where a letter is, its delivery is accepted
+  pub deliver-accepted : (p : ℕ) → 1 ≤ p → p ≤ r .network .used → stepAnswer r (deliverStep p) ≡ Accepted
+  unfolding stepAnswer ruledAnswer wellFormed kindAnswer deliverAnswer
+  deliver-accepted p l u = rw (ok, within-both 1 (r .network .used) p l u) refl
+
+  module _ (quiet : quiescent r ≡ true) where
+    no-letters : r .network .used ≡ 0
+    unfolding quiescent
+    no-letters = eqb-true (r .network .used) 0 (and-left (eqb (r .network .used) 0) _ quiet)
+
+    no-run : (t : ℕ) → 1 ≤ t → t ≤ r .plan .tasks → isAccepted (stepAnswer r (runStep t)) ≡ false
+    unfolding quiescent
+    no-run t l u = not-passed _ (up-to-at (λ t. not (isAccepted (stepAnswer r (runStep t)))) (r .plan .tasks) t l u (and-right (eqb (r .network .used) 0) _ quiet))
+
+    -- a run and a delivery are refused
+    run-refused : (s : Step) → isRun s ≡ true → stepAnswer r s ≡ Accepted → ⊥
+    unfolding wellFormed
+    run-refused s kind a =
+        let q = step-passed r s a in
+        let task = run-passed r (taskId (s .task)) (sym (answer-run r s kind) ∙ q .rule) .task in
+        let one : s .kind ≡ 1 = eqb-true (s .kind) 1 kind in
+        let none : s .number ≡ 0 = eqb-true (s .number) 0 (rw kind at (q .form)) in
+        let same : s ≡ runStep (s .task) = rw (← one, ← none) refl in
+        let no = no-run (s .task) (within-low 1 (r .plan .tasks) (s .task) task) (within-high 1 (r .plan .tasks) (s .task) task) in
+        tests-differ (ap isAccepted a) (ap (λ (z : Step). isAccepted (stepAnswer r z)) same ∙ no)
+
+    deliver-refused : (s : Step) → isDeliver s ≡ true → stepAnswer r s ≡ Accepted → ⊥
+    deliver-refused s kind a =
+        let (l, u) = deliver-passed r (s .number) (sym (answer-deliver r s kind) ∙ step-passed r s a .rule) in
+        omega (arith, no-letters)
+
+    pub rest-refuses : (s : Step) → (isRun s || isDeliver s) ≡ true → isAccepted (stepAnswer r s) ≡ false
+    rest-refuses s kind =
+        is-false (isAccepted (stepAnswer r s)) (λ e.
+        let a = accepted-is (stepAnswer r s) e in
+        or-cases (isRun s) (isDeliver s) kind (λ k. run-refused s k a) (λ k. deliver-refused s k a))
+
+  pub refuses-rest : ((s : Step) → (isRun s || isDeliver s) ≡ true → isAccepted (stepAnswer r s) ≡ false) → quiescent r ≡ true
+  unfolding quiescent
+  refuses-rest none =
+      and-both (eqb (r .network .used) 0) _
+      (eq-eqb (r .network .used) 0
+      (by-cases
+      (ℕ-discrete (r .network .used) 0)
+      (λ e. e)
+      (λ ne. absurd (tests-differ (ap isAccepted (deliver-accepted 1 (omega arith) (omega arith))) (none (deliverStep 1) refl)))))
+      (below-all (λ k. not (isAccepted (stepAnswer r (runStep (suc k))))) (r .plan .tasks) (λ k l. rw (none (runStep (suc k)) refl) refl))

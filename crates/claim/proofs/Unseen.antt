@@ -1,0 +1,180 @@
+-- A change of tasks that no channel's view sees.
+use mathlib.Core.Path.{_≡_, refl, sym, ap, _∙_}
+use mathlib.Core.Bool.{Bool, true, false, _&&_}
+use mathlib.Core.Logic.{by-cases}
+use Prim.Native.Nat.{ℕ, suc, _+_, _-_, _≤_}
+use native.Mathlib.Decide.{ℕ-discrete}
+use native.Mathlib.Omega.{arith}
+use lib.Dec.{eqb, ltb}
+use borrow.Author.Tests.{eqb-true, ltb-true}
+use Rattle.base.specs.Choice.{pick}
+use Rattle.base.specs.Range.{fold}
+use Rattle.base.specs.Sets.{removed}
+use Rattle.base.proofs.Choices.{pick-cases}
+use Rattle.base.proofs.Tests.{and-left, or-neither}
+use Rattle.base.proofs.Updates.{updated-same, updated-other}
+use Rattle.plan.specs.declared.TaskId.{TaskId}
+use Rattle.plan.specs.declared.ChannelId.{ChannelId}
+use Rattle.plan.specs.declared.Word.{Word}
+use Rattle.plan.specs.Numbers.{taskId}
+use Rattle.plan.specs.Kinds.{opSync, opSend, opReceive, noInstruction}
+use Rattle.plan.specs.Programs.{Program, Programs, instructionAt}
+use Rattle.plan.specs.Users.{senderOf, receiverOf}
+use Rattle.rules.specs.declared.task.TaskState.{TaskState}
+use Rattle.rules.specs.declared.task.TaskState.the-variants.{Ready, Waiting, Sending, Receiving}
+use Rattle.rules.specs.declared.task.Task.{Task}
+use Rattle.rules.specs.Tasks.{stateNumber, isIn, withState, withWord, withChildren, advanced, readied, isChildless, woken, withoutChild}
+use Rattle.rules.specs.Places.{nextIn, lastIn, isOn}
+use Rattle.net.specs.States.{atTask}
+use Rattle.net.specs.Labels.{isTransfer}
+use Rattle.claim.specs.Readings.{Reading}
+use Rattle.claim.specs.Progress.{programOf, completedBy, useNumber}
+use Rattle.claim.specs.Letters.{lettersOn}
+use Rattle.claim.specs.Views.{Histories, senderView, receiverView, viewOf}
+use Rattle.claim.specs.Acts.{Unseen, finished}
+
+-- two records of a task with program g that no channel tells apart
+pub record Alike (g : Program) (x y : Task) : Type 0 where
+  pub sender : (c : ChannelId) → senderView g c y ≡ senderView g c x
+  pub receiver : (c : ChannelId) (history : ℕ → ℕ) → receiverView g c history y ≡ receiverView g c history x
+
+-- a task that neither sends nor receives
+record Idle (x : Task) : Type 0 where
+  sends : isIn Sending x ≡ false
+  receives : isIn Receiving x ≡ false
+
+idle-ready : (x : Task) → isIn Ready x ≡ true → Idle x
+idle-ready x e = let s = eqb-true (stateNumber (x .state)) 1 e in record { sends = rw s refl; receives = rw s refl }
+
+idle-waiting : (x : Task) → isIn Waiting x ≡ true → Idle x
+idle-waiting x e = let s = eqb-true (stateNumber (x .state)) 2 e in record { sends = rw s refl; receives = rw s refl }
+
+completed-ready : (x : Task) → isIn Ready x ≡ true → completedBy x ≡ x .pc - 1
+unfolding completedBy
+completed-ready x e = rw (eqb-true (stateNumber (x .state)) 1 e) refl
+
+completed-waiting : (x : Task) → isIn Waiting x ≡ true → completedBy x ≡ x .pc - 2
+unfolding completedBy
+completed-waiting x e = rw (eqb-true (stateNumber (x .state)) 2 e) refl
+
+module _ (g : Program) where
+  -- an instruction that is neither send nor receive is no use of a channel
+  use-more : (k : ℕ) (c : ChannelId) (n : ℕ) → eqb (instructionAt g n .opcode) k ≡ false → useNumber k g c (suc n) ≡ useNumber k g c n
+  unfolding useNumber fold
+  use-more k c n e = rw e (omega arith)
+
+  pub alike-same : (x : Task) → Alike g x x
+  alike-same x = record { sender = λ c. refl; receiver = λ c history. refl }
+
+  pub alike-then : (x y z : Task) → Alike g x y → Alike g y z → Alike g x z
+  alike-then x y z p q = record { sender = λ c. q .sender c ∙ p .sender c; receiver = λ c history. q .receiver c history ∙ p .receiver c history }
+
+  off : (s : TaskState) (x : Task) → isIn s x ≡ false → (c : ChannelId) → isOn s g c x ≡ false
+  unfolding isOn
+  off s x e c = rw e refl
+
+  -- an idle task that stays idle, at one desk with one move count
+  module _ (x y : Task) (desk : y .processor ≡ x .processor) (moves : y .moves ≡ x .moves) (before : Idle x) (after : Idle y) where
+    -- it has completed as many sends and receives
+    alike : ((c : ChannelId) → useNumber opSend g c (completedBy y) ≡ useNumber opSend g c (completedBy x))
+        → ((c : ChannelId) → useNumber opReceive g c (completedBy y) ≡ useNumber opReceive g c (completedBy x))
+        → Alike g x y
+    unfolding senderView receiverView
+    alike sent received =
+        record {
+          sender = λ c. rw (sent c, off Sending y (after .sends) c, off Sending x (before .sends) c, desk) refl;
+          receiver = λ c history. rw (received c, off Receiving y (after .receives) c, off Receiving x (before .receives) c, desk, moves) refl;
+        }
+
+    -- it has completed nothing
+    alike-level : completedBy y ≡ completedBy x → Alike g x y
+    alike-level e = alike (λ c. rw e refl) (λ c. rw e refl)
+
+    -- it has completed one instruction that is neither send nor receive
+    alike-further : completedBy y ≡ suc (completedBy x) → isTransfer (instructionAt g (completedBy x)) ≡ false → Alike g x y
+    alike-further e i =
+        let k = instructionAt g (completedBy x) .opcode in
+        let (no-send, no-receive) = or-neither (eqb k opSend) (eqb k opReceive) i in
+        alike (λ c. rw (e, use-more opSend c (completedBy x) no-send) refl) (λ c. rw (e, use-more opReceive c (completedBy x) no-receive) refl)
+
+  -- a ready task at an instruction that is neither send nor receive
+  module _ (x : Task) (ready : isIn Ready x ≡ true) (low : 1 ≤ x .pc) where
+    one-more : x .pc + 1 - 1 ≡ suc (completedBy x)
+    one-more = rw (completed-ready x ready) (omega arith)
+
+    here : isTransfer (nextIn g x) ≡ false → isTransfer (instructionAt g (completedBy x)) ≡ false
+    unfolding nextIn
+    here i = rw (completed-ready x ready) i
+
+    -- goes on, is done, or waits
+    pub alike-on : isTransfer (nextIn g x) ≡ false → (w : Word) → Alike g x (advanced (withWord x w))
+    alike-on i w =
+        let y = advanced (withWord x w) in
+        alike-further x y refl refl (idle-ready x ready) (idle-ready y ready) (completed-ready y ready ∙ one-more) (here i)
+
+    pub alike-done : isTransfer (nextIn g x) ≡ false → Alike g x (finished x)
+    unfolding completedBy
+    alike-done i = alike-further x (finished x) refl refl (idle-ready x ready) (record { sends = refl; receives = refl }) one-more (here i)
+
+    pub alike-waits : Alike g x (advanced (withState x Waiting))
+    alike-waits =
+        let y = advanced (withState x Waiting) in
+        let e : x .pc + 1 - 2 ≡ x .pc - 1 = omega arith in
+        alike-level x y refl refl (idle-ready x ready) (idle-waiting y refl) (completed-waiting y refl ∙ e ∙ sym (completed-ready x ready))
+
+  -- a task that waits at a sync is ready
+  module _ (x : Task) (waiting : isIn Waiting x ≡ true) (sync : lastIn g x .opcode ≡ opSync) where
+    waits-at : (2 ≤ x .pc) × (instructionAt g (x .pc - 2) .opcode ≡ opSync)
+    unfolding lastIn
+    waits-at = go (ltb 1 (x .pc)) refl sync
+      where
+        go : (b : Bool) → ltb 1 (x .pc) ≡ b → pick b (instructionAt g (x .pc - 2)) noInstruction .opcode ≡ opSync
+            → (2 ≤ x .pc) × (instructionAt g (x .pc - 2) .opcode ≡ opSync)
+        go true e h = (ltb-true 1 (x .pc) e, h)
+        go false e h = absurd (omega arith)
+
+    alike-ready : Alike g x (readied x)
+    alike-ready =
+        let (low, kind) = waits-at in
+        let y = readied x in
+        let e : x .pc - 1 ≡ suc (x .pc - 2) = omega arith in
+        let c = completed-waiting x waiting in
+        alike-further x y refl refl (idle-waiting x waiting) (idle-ready y refl) (completed-ready y refl ∙ e ∙ ap suc (sym c)) (rw (c, kind) refl)
+
+  -- a task loses a child
+  module _ (x : Task) (sync : isIn Waiting x ≡ true → lastIn g x .opcode ≡ opSync) where
+    other-children : (n : ℕ) → Alike g x (withChildren x n)
+    unfolding senderView receiverView isOn lastIn completedBy
+    other-children n = record { sender = λ c. refl; receiver = λ c history. refl }
+
+    pub alike-without : (t : TaskId) → Alike g x (withoutChild x t)
+    unfolding woken lastIn
+    alike-without t =
+        let z = withChildren x (removed (t .0) (x .children)) in
+        let fewer = other-children (removed (t .0) (x .children)) in
+        pick-cases (Alike g x) (isIn Waiting z && isChildless z) (readied z) z
+        (λ e.
+        let w = and-left (isIn Waiting z) (isChildless z) e in
+        alike-then x z (readied z) fewer (alike-ready z w (sync w)))
+        (λ e. fewer)
+
+-- a task changes
+module _ (m : Programs) (tasks : TaskId → Task) where
+  pub alike-at : (t : TaskId) (y : Task) → Alike (programOf m t) (tasks t) y → (u : TaskId) → Alike (programOf m u) (tasks u) (atTask tasks t y u)
+  alike-at t y p u =
+      by-cases (ℕ-discrete (u .0) (t .0))
+      (λ (e : u .0 ≡ t .0). let q : u ≡ t = ap taskId e in rw (q, updated-same (λ (k : TaskId). k .0) tasks t y) p)
+      (λ ne. rw (updated-other (λ (k : TaskId). k .0) tasks t u y ne) (alike-same (programOf m u) (tasks u)))
+
+-- no channel sees that tasks change
+module _ (m : Programs) (h : Histories) where
+  pub unseen-of : (x y : Reading) → y .processors ≡ x .processors → y .entries ≡ x .entries → y .channels ≡ x .channels
+      → ((c : ChannelId) → lettersOn c (y .letters) ≡ lettersOn c (x .letters))
+      → ((t : TaskId) → Alike (programOf m t) (x .tasks t) (y .tasks t))
+      → Unseen m h x y
+  unfolding viewOf
+  unseen-of x y desks entries channels letters tasks =
+      record {
+        processors = desks;
+        views = λ c low high. rw (desks, entries, channels, letters c, tasks (senderOf m c) .sender c, tasks (receiverOf m c) .receiver c (h (receiverOf m c))) refl;
+      }
