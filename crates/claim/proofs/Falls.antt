@@ -7,7 +7,7 @@ use mathlib.Core.Option.{some}
 use Prim.Native.Nat.{ℕ, suc, _+_, _-_, _*_, _^_, _<_, _≤_}
 use native.Mathlib.Decide.{ℕ-discrete}
 use native.Mathlib.Omega.{arith}
-use lib.Dec.{eqb, ltb}
+use lib.Dec.{ltb}
 use lib.ListN.{length, getElem?}
 use borrow.Author.Tests.{eqb-true}
 use Rattle.base.specs.Choice.{within}
@@ -43,7 +43,7 @@ use Rattle.channel.specs.Measure.{measure}
 use Rattle.channel.proofs.Measure.{delivery-falls, transfer-adds, isDeparture, place-still, bounded}
 use Rattle.claim.specs.Readings.{Reading}
 use Rattle.claim.specs.Progress.{programOf, unexecuted}
-use Rattle.claim.specs.Letters.{lettersOn, endedOf, moversOf}
+use Rattle.claim.specs.Letters.{lettersOn}
 use Rattle.claim.specs.Views.{Histories, viewOf}
 use Rattle.claim.specs.Acts.{Ran, by-sender, by-receiver, by-nobody, ChannelAct, Unseen, OwnAct, goes-on, waits, Own, Placing, none, sender-birth, receiver-birth, sender-arrival, receiver-arrival, CreateAct, finished, Finishing, alone, near, away, FinishAct, EndedAct, ArrivalAct, MoveAct, RunAct, transfers, owns, creates, finishes, DeliverAct, delivers, ends, arrives}
 use Rattle.claim.specs.Agreement.{Running}
@@ -113,8 +113,8 @@ module _ (m : Programs) where
         let l = low in
         let u = high in
         let q =
-            sum-change (length m) (λ k. taskLetters (ms ++ one a) (taskId (suc k))) (λ k. taskLetters ms (taskId (suc k))) (t .0 - 1) (omega arith)
-            (λ k b ne. posted-other ms t a about (taskId (suc k)) (omega arith)) in
+        sum-change (length m) (λ k. taskLetters (ms ++ one a) (taskId (suc k))) (λ k. taskLetters ms (taskId (suc k))) (t .0 - 1) (omega arith)
+        (λ k b ne. posted-other ms t a about (taskId (suc k)) (omega arith)) in
         let e = posted-own ms t a about in
         let f = ap (taskLetters (ms ++ one a)) here in
         let g = ap (taskLetters ms) here in
@@ -125,8 +125,8 @@ module _ (m : Programs) where
         let l = low in
         let u = high in
         let q =
-            sum-change (length m) (λ k. taskLetters (without ms p) (taskId (suc k))) (λ k. taskLetters ms (taskId (suc k))) (t .0 - 1) (omega arith)
-            (λ k b ne. taken-other ms t a about p at (taskId (suc k)) (omega arith)) in
+        sum-change (length m) (λ k. taskLetters (without ms p) (taskId (suc k))) (λ k. taskLetters ms (taskId (suc k))) (t .0 - 1) (omega arith)
+        (λ k b ne. taken-other ms t a about p at (taskId (suc k)) (omega arith)) in
         let e = taken-own ms t a about p at in
         let f = ap (taskLetters (without ms p)) here in
         let g = ap (taskLetters ms) here in
@@ -150,8 +150,8 @@ module _ (m : Programs) where
         let l = act .low in
         let u = act .high in
         let q =
-            sum-change 128 (λ k. measure (viewOf m h y (channelId (suc k)))) (λ k. measure (viewOf m h x (channelId (suc k)))) (c .0 - 1) (omega arith)
-            (λ k b ne. ap measure (act .others (channelId (suc k)) (omega arith) (omega arith) (omega arith))) in
+        sum-change 128 (λ k. measure (viewOf m h y (channelId (suc k)))) (λ k. measure (viewOf m h x (channelId (suc k)))) (c .0 - 1) (omega arith)
+        (λ k b ne. ap measure (act .others (channelId (suc k)) (omega arith) (omega arith) (omega arith))) in
         let a = ap (λ d. measure (viewOf m h x d)) spot in
         let b = ap (λ d. measure (viewOf m h y d)) spot ∙ ap measure (act .view) in
         omega (arith, q, a, b)
@@ -231,7 +231,7 @@ module _ (m : Programs) where
         goes (waits a b) = omega arith
 
     -- an unborn task is at its first place
-    unborn-place : (t : TaskId) → within 1 (length m) (t .0) ≡ true → isIn Unborn (x .tasks t) ≡ true → x .tasks t .pc ≡ 1
+    pub unborn-place : (t : TaskId) → within 1 (length m) (t .0) ≡ true → isIn Unborn (x .tasks t) ≡ true → x .tasks t .pc ≡ 1
     unfolding taskOk unbornOk
     unborn-place t is un =
         let k = x .tasks t in

@@ -34,7 +34,7 @@ use Rattle.rules.specs.Effects.{Effect, completed, withOutcome, forChannels}
 use Rattle.rules_laws.specs.Shapes.{Shaped}
 use Rattle.rules_laws.proofs.TaskAt.{withTask-processors, withTask-network, withTask-entryAt, withTask-channelAt, withTask-shaped, withTask-taskAt, taskAt-same, taskAt-other}
 use Rattle.rules_laws.proofs.CellAt.{withCell-processors, withCell-network, withCell-taskAt, withCell-shaped, entryAt-same, channelAt-same, entryAt-other-processor, entryAt-other-channel, channelAt-other}
-use Rattle.rules_laws.proofs.ForChannels.{forChannels-processors, forChannels-network, forChannels-taskAt, forChannels-elsewhere, forChannels-entryAt, forChannels-channelAt}
+use Rattle.rules_laws.proofs.ForChannels.{forChannels-processors, forChannels-network, forChannels-taskAt, forChannels-elsewhere, forChannels-cellAt}
 use Rattle.rules_laws.proofs.Letters.{length-letters, letters-enqueuedAll, letterAt-letters, letters-dequeued}
 use Rattle.net.specs.States.{atChannel}
 use Rattle.channel.specs.Updates.{atNumber}
@@ -61,17 +61,18 @@ made-same : {n m : ℕ} {t u : TaskId → Task} {e f : ChannelId → ℕ → Ent
     → n ≡ m → t ≡ u → e ≡ f → j ≡ k → l ≡ i → made n t e j l ≡ made m u f k i
 made-same p q r s z = cc
 
--- a cell that is written
-abbrev withCellRead : Reading → ChannelId → ℕ → Cell → Reading
-withCellRead x c d y =
-    made (x .processors) (x .tasks) (atChannel (x .entries) c (atNumber (x .entries c) d (y .entry))) (atChannel (x .channels) c (y .channel)) (x .letters)
-
 readings-same : (x y : Reading) → x .processors ≡ y .processors → ((t : TaskId) → x .tasks t ≡ y .tasks t)
     → ((c : ChannelId) (d : ℕ) → x .entries c d ≡ y .entries c d) → ((c : ChannelId) → x .channels c ≡ y .channels c) → x .letters ≡ y .letters
     → x ≡ y
 readings-same x y p t e k l = made-same p (fun-ext t) (fun-ext λ c. fun-ext (e c)) (fun-ext k) l
 
--- the entry where there is a channel and a desk, and where not
+-- a cell that is written
+abbrev withCellRead : Reading → ChannelId → ℕ → Cell → Reading
+withCellRead x c d y =
+    let es = atChannel (x .entries) c (atNumber (x .entries c) d (y .entry)) in
+    made (x .processors) (x .tasks) es (atChannel (x .channels) c (y .channel)) (x .letters)
+
+-- where there is a channel and a desk
 module _ (r : System) (c : ChannelId) where
   pub entry-there : (d : ℕ) → 1 ≤ c .0 → c .0 ≤ 128 → 1 ≤ d → entryOf r c d ≡ entryAt r (processorId d) c
   unfolding entryOf
@@ -80,6 +81,9 @@ module _ (r : System) (c : ChannelId) where
   pub channel-there : 1 ≤ c .0 → c .0 ≤ 128 → channelOf r c ≡ channelAt r c
   unfolding channelOf
   channel-there cl ch = rw (within-both 1 128 (c .0) cl ch) refl
+
+  cell-there : (d : ProcessorId) → IsCell d c → cellAt r d c ≡ record { entry = entryOf r c (d .0); channel = channelOf r c }
+  cell-there d is = rw (entry-there (d .0) (is .low) (is .high) (is .desk), channel-there (is .low) (is .high)) refl
 
 -- entries and channels are read alike in two rigs where they are alike wherever there is a desk and a channel
 module _ (q r : System) where
@@ -145,7 +149,9 @@ module _ (r : System) (shaped : Shaped r) where
     read-end =
         readings-same (reading (withTask r t y)) (withTaskRead (reading r) t y)
         (withTask-processors r t y)
-        (λ u. by-cases (ℕ-discrete (u .0) (t .0))
+        (λ u.
+        by-cases
+        (ℕ-discrete (u .0) (t .0))
         (λ e. ap (taskAt (withTask r t y)) (ap taskId e) ∙ task-written ∙ sym (updated-at (λ (k : TaskId). k .0) (taskAt r) t u y e))
         (λ ne. taskAt-other r t y u (λ e. ne (sym e)) ∙ sym (updated-other (λ (k : TaskId). k .0) (taskAt r) t u y ne)))
         (λ c d. entries-same (withTask r t y) r c d (λ cl ch dl. withTask-entryAt r t y (processorId d) c))
@@ -162,7 +168,8 @@ module _ (r : System) (shaped : Shaped r) where
         rw h (entry-there (withCell r d c x) c (d .0) (is .low) (is .high) (is .desk) ∙ entryAt-same r d c x shaped (is .desk-few) (is .high))
         ∙ sym (updated-at (λ (k : ℕ). k) (entryOf r c) (d .0) e (x .entry) h))
         (λ ne.
-        entries-same (withCell r d c x) r c e (λ cl ch el. entryAt-other-processor r d c x (processorId e) c (is .desk) el (is .high) ch (λ h. ne (sym h)))
+        entries-same (withCell r d c x) r c e
+        (λ cl ch el. entryAt-other-processor r d c x (processorId e) c (is .desk) el (is .high) ch (λ h. ne (sym h)))
         ∙ sym (updated-other (λ (k : ℕ). k) (entryOf r c) (d .0) e (x .entry) ne))
 
     written-entries : (f : ChannelId) (e : ℕ) → entryOf (withCell r d c x) f e ≡ atChannel (entryOf r) c (atNumber (entryOf r c) (d .0) (x .entry)) f e
@@ -174,7 +181,8 @@ module _ (r : System) (shaped : Shaped r) where
         ∙ written-entry e
         ∙ sym (ap (λ g. g e) (updated-at (λ (k : ChannelId). k .0) (entryOf r) c f (atNumber (entryOf r c) (d .0) (x .entry)) h)))
         (λ ne.
-        entries-same (withCell r d c x) r f e (λ fl fh el. entryAt-other-channel r d c x (processorId e) f (is .low) (is .high) fl fh (λ h. ne (sym h)))
+        entries-same (withCell r d c x) r f e
+        (λ fl fh el. entryAt-other-channel r d c x (processorId e) f (is .low) (is .high) fl fh (λ h. ne (sym h)))
         ∙ sym (ap (λ g. g e) (updated-other (λ (k : ChannelId). k .0) (entryOf r) c f (atNumber (entryOf r c) (d .0) (x .entry)) ne)))
 
     written-channels : (f : ChannelId) → channelOf (withCell r d c x) f ≡ atChannel (channelOf r) c (x .channel) f
@@ -204,61 +212,54 @@ module _ (r : System) (shaped : Shaped r) where
 
 -- a rule for each channel of which a test holds
 module _ (r : System) (shaped : Shaped r) (test : ChannelId → Bool) (rule : Cell → Cell) (d : ProcessorId) (l : 1 ≤ d .0) (u : d .0 ≤ 6) where
+  abbrev then : System
+  then = forChannels 128 test rule d r
+
   module _ (c : ChannelId) where
     abbrev found : Cell
     found = record { entry = entryOf r c (d .0); channel = channelOf r c }
 
-    low : channelNumberOk c ≡ true → 1 ≤ c .0
-    low e = within-low 1 128 (c .0) e
+    abbrev entriesThen : ℕ → Entry
+    entriesThen = atNumber (entryOf r c) (d .0) (rule found .entry)
 
-    high : channelNumberOk c ≡ true → c .0 ≤ 128
-    high e = within-high 1 128 (c .0) e
+    -- the channel exists, and the test has the value t
+    module _ (e : channelNumberOk c ≡ true) (t : Bool) (f : test c ≡ t) where
+      is : IsCell d c
+      is = record { desk = l; desk-few = u; low = within-low 1 128 (c .0) e; high = within-high 1 128 (c .0) e }
 
-    found-there : channelNumberOk c ≡ true → cellAt r d c ≡ found
-    found-there e = rw (entry-there r c (d .0) (low e) (high e) l, channel-there r c (low e) (high e)) refl
+      cell-here : record { entry = entryOf then c (d .0); channel = channelOf then c } ≡ pick t (rule found) found
+      cell-here =
+          let le = le-leb (c .0) 128 (is .high) in
+          sym (cell-there then c d is)
+          ∙ (rw (le, f, cell-there r c d is) at (forChannels-cellAt test rule d 128 r c shaped (omega arith) u (is .low) (is .high)))
 
-    entry-here : (b : Bool) → channelNumberOk c ≡ b → (t : Bool) → test c ≡ t
-        → entryOf (forChannels 128 test rule d r) c (d .0) ≡ pick (b && t) (atNumber (entryOf r c) (d .0) (rule found .entry)) (entryOf r c) (d .0)
-    entry-here false e t f = entries-same (forChannels 128 test rule d r) r c (d .0) (λ cl ch dl. absurd (tests-differ (within-both 1 128 (c .0) cl ch) e))
-    entry-here true e true f =
-        let le = le-leb (c .0) 128 (high e) in
-        entry-there (forChannels 128 test rule d r) c (d .0) (low e) (high e) l
-        ∙ (rw (le, f, found-there e) at (forChannels-entryAt test rule d 128 r c shaped (omega arith) u (low e) (high e)))
-        ∙ sym (updated-same (λ (k : ℕ). k) (entryOf r c) (d .0) (rule found .entry))
-    entry-here true e false f =
-        let le = le-leb (c .0) 128 (high e) in
-        entry-there (forChannels 128 test rule d r) c (d .0) (low e) (high e) l
-        ∙ (rw (le, f) at (forChannels-entryAt test rule d 128 r c shaped (omega arith) u (low e) (high e)))
-        ∙ sym (entry-there r c (d .0) (low e) (high e) l)
+    entry-here : (b : Bool) → channelNumberOk c ≡ b → (t : Bool) → test c ≡ t → entryOf then c (d .0) ≡ pick (b && t) entriesThen (entryOf r c) (d .0)
+    entry-here false e t f = entries-same then r c (d .0) (λ cl ch dl. absurd (tests-differ (within-both 1 128 (c .0) cl ch) e))
+    entry-here true e true f = ap (λ x. x .entry) (cell-here e true f) ∙ sym (updated-same (λ (k : ℕ). k) (entryOf r c) (d .0) (rule found .entry))
+    entry-here true e false f = ap (λ x. x .entry) (cell-here e false f)
 
-    channel-here : (b : Bool) → channelNumberOk c ≡ b → (t : Bool) → test c ≡ t
-        → channelOf (forChannels 128 test rule d r) c ≡ pick (b && t) (rule found .channel) (channelOf r c)
-    channel-here false e t f = channels-same (forChannels 128 test rule d r) r c (λ cl ch. absurd (tests-differ (within-both 1 128 (c .0) cl ch) e))
-    channel-here true e true f =
-        let le = le-leb (c .0) 128 (high e) in
-        channel-there (forChannels 128 test rule d r) c (low e) (high e)
-        ∙ (rw (le, f, found-there e) at (forChannels-channelAt test rule d 128 r c shaped (omega arith) u (low e) (high e)))
-    channel-here true e false f =
-        let le = le-leb (c .0) 128 (high e) in
-        channel-there (forChannels 128 test rule d r) c (low e) (high e)
-        ∙ (rw (le, f) at (forChannels-channelAt test rule d 128 r c shaped (omega arith) u (low e) (high e)))
-        ∙ sym (channel-there r c (low e) (high e))
+    channel-here : (b : Bool) → channelNumberOk c ≡ b → (t : Bool) → test c ≡ t → channelOf then c ≡ pick (b && t) (rule found .channel) (channelOf r c)
+    channel-here false e t f = channels-same then r c (λ cl ch. absurd (tests-differ (within-both 1 128 (c .0) cl ch) e))
+    channel-here true e true f = ap (λ x. x .channel) (cell-here e true f)
+    channel-here true e false f = ap (λ x. x .channel) (cell-here e false f)
 
-    entry-elsewhere : (e : ℕ) → e ≢ d .0
-        → entryOf (forChannels 128 test rule d r) c e ≡ pick (channelNumberOk c && test c) (atNumber (entryOf r c) (d .0) (rule found .entry)) (entryOf r c) e
+    entry-elsewhere : (e : ℕ) → e ≢ d .0 → entryOf then c e ≡ pick (channelNumberOk c && test c) entriesThen (entryOf r c) e
     entry-elsewhere e ne =
-        entries-same (forChannels 128 test rule d r) r c e
-        (λ cl ch el. forChannels-elsewhere test rule d 128 r (processorId e) c (omega arith) l el ch (λ h. ne (sym h)))
-        ∙ pick-either (λ g. entryOf r c e ≡ g e) (channelNumberOk c && test c) (atNumber (entryOf r c) (d .0) (rule found .entry)) (entryOf r c)
+        entries-same then r c e (λ cl ch el. forChannels-elsewhere test rule d 128 r (processorId e) c (omega arith) l el ch (λ h. ne (sym h)))
+        ∙ pick-either (λ g. entryOf r c e ≡ g e) (channelNumberOk c && test c) entriesThen (entryOf r c)
         (sym (updated-other (λ (k : ℕ). k) (entryOf r c) (d .0) e (rule found .entry) ne)) refl
 
-  read-all : reading (forChannels 128 test rule d r) ≡ forChannelsRead test rule (d .0) (reading r)
+  read-all : reading then ≡ forChannelsRead test rule (d .0) (reading r)
   unfolding reading
   read-all =
-      readings-same (reading (forChannels 128 test rule d r)) (forChannelsRead test rule (d .0) (reading r))
+      readings-same (reading then) (forChannelsRead test rule (d .0) (reading r))
       (forChannels-processors test rule d 128 r)
       (forChannels-taskAt test rule d 128 r)
-      (λ c e. by-cases (ℕ-discrete e (d .0)) (λ (h : e ≡ d .0). rw h (entry-here c (channelNumberOk c) refl (test c) refl)) (λ ne. entry-elsewhere c e ne))
+      (λ c e.
+      by-cases
+      (ℕ-discrete e (d .0))
+      (λ (h : e ≡ d .0). rw h (entry-here c (channelNumberOk c) refl (test c) refl))
+      (λ ne. entry-elsewhere c e ne))
       (λ c. channel-here c (channelNumberOk c) refl (test c) refl)
       (ap letters (forChannels-network test rule d 128 r))
 
@@ -268,7 +269,7 @@ module _ (r : System) (shaped : Shaped r) where
 
   pub read-cell : (d : ProcessorId) (c : ChannelId) → IsCell d c → cellAt r d c ≡ cellOf (reading r) c (d .0)
   unfolding reading
-  read-cell d c is = rw (entry-there r c (d .0) (is .low) (is .high) (is .desk), channel-there r c (is .low) (is .high)) refl
+  read-cell d c is = cell-there r c d is
 
   -- a task that does not exist is not written
   none-written : (s u : TaskId) (y : Task) → (s .0 ≡ 0 → y ≡ taskAt r s) → u .0 ≡ 0 → taskAt (withTask r s y) u ≡ taskAt r u
@@ -282,7 +283,8 @@ module _ (r : System) (shaped : Shaped r) where
   pub read-outcome : (s u : TaskId) (c : ChannelId) (d : ProcessorId) (o : Outcome) → IsCell d c → s .0 ≤ 64 → u .0 ≤ 64
       → (s .0 ≡ 0 → o .sender ≡ taskAt r s) → (u .0 ≡ 0 → o .receiver ≡ taskAt r u)
       → r .network .used + length (lettersOf (r .processors) (o .posting)) ≤ 256
-      → reading (completed (withOutcome r s u c d o)) ≡ withOutcomeRead (reading r) s u c (d .0) o ((reading r) .letters ++ lettersOf (r .processors) (o .posting))
+      → reading (completed (withOutcome r s u c d o))
+      ≡ withOutcomeRead (reading r) s u c (d .0) o ((reading r) .letters ++ lettersOf (r .processors) (o .posting))
   unfolding withOutcome
   read-outcome s u c d o is sf uf sn un fits =
       let q1 = withTask r s (o .sender) in
@@ -291,10 +293,13 @@ module _ (r : System) (shaped : Shaped r) where
       let shaped1 = withTask-shaped r s (o .sender) shaped in
       let shaped2 = withTask-shaped q1 u (o .receiver) shaped1 in
       let shaped3 = withCell-shaped q2 d c (o .cell) shaped2 in
-      let mail : q3 .network ≡ r .network = withCell-network q2 d c (o .cell) ∙ withTask-network q1 u (o .receiver) ∙ withTask-network r s (o .sender) in
-      let desks : q3 .processors ≡ r .processors = withCell-processors q2 d c (o .cell) ∙ withTask-processors q1 u (o .receiver) ∙ withTask-processors r s (o .sender) in
+      let mail : q3 .network ≡ r .network = rw (withCell-network q2 d c (o .cell), withTask-network q1 u (o .receiver)) (withTask-network r s (o .sender)) in
+      let desks : q3 .processors ≡ r .processors =
+      rw (withCell-processors q2 d c (o .cell), withTask-processors q1 u (o .receiver)) (withTask-processors r s (o .sender))
+      in
+      let none : u .0 ≡ 0 → o .receiver ≡ taskAt q1 u = λ e. un e ∙ sym (none-written s u (o .sender) sn e) in
       let read1 : reading q1 ≡ withTaskRead (reading r) s (o .sender) = read-end r shaped s (o .sender) sf sn in
-      let read2 : reading q2 ≡ withTaskRead (reading q1) u (o .receiver) = read-end q1 shaped1 u (o .receiver) uf (λ e. un e ∙ sym (none-written s u (o .sender) sn e)) in
+      let read2 : reading q2 ≡ withTaskRead (reading q1) u (o .receiver) = read-end q1 shaped1 u (o .receiver) uf none in
       let read3 : reading q3 ≡ withCellRead (reading q2) c (d .0) (o .cell) = read-written q2 shaped2 d c (o .cell) is in
       read-completed (withOutcome r s u c d o) shaped3 (rw (mail, desks) fits) ∙ rw (read3, read2, read1, desks) refl
 

@@ -34,7 +34,7 @@ use Rattle.claim.specs.Views.{Histories}
 use Rattle.claim.specs.Acts.{Runs, Own, goes-on, waits, OwnAct}
 use Rattle.claim.proofs.Frames.{read-task}
 use Rattle.claim.proofs.Runs.{completed-changed, run-is-task, run-instruction, runs-of}
-use Rattle.claim.proofs.Unseen.{Alike, alike-on, alike-waits, alike-at, unseen-of}
+use Rattle.claim.proofs.Unseen.{SeenAlike, alike-on, alike-waits, alike-at, unseen-of}
 
 -- one of three, and what a function makes of them
 three : {A : Type 0} {B : Type 0} (f : A → B) (b c : Bool) (x y z : A) → pick b (f x) (pick c (f y) (f z)) ≡ f (pick b x (pick c y z))
@@ -86,7 +86,7 @@ module _ (i : Instruction) (no-create : isCreate i ≡ false) (no-finish : isFin
 
 -- what becomes of a ready task by its own instruction is seen by no channel
 own-alike : (m : Programs) (x : Reading) (t : TaskId) (i : Instruction) → Runs m x t i → (y : Task) → Own i (x .tasks t) y
-    → Alike (programOf m t) (x .tasks t) y
+    → SeenAlike (programOf m t) (x .tasks t) y
 own-alike m x t i run y (goes-on n j) = alike-on (programOf m t) (x .tasks t) (run .ready) (run .low) (rw (run .next) n) (wordAfter i (x .tasks t .word))
 own-alike m x t i run y (waits k c) = alike-waits (programOf m t) (x .tasks t) (run .ready) (run .low)
 
@@ -109,8 +109,9 @@ module _ (r : System) (shaped : Shaped r) (ok : systemOk r ≡ true) (h : Histor
   unfolding reading
   own-act =
       let runs = runs-of r shaped ok t a in
-      let own : Own (nextOf r t) ((reading r) .tasks t) then = own-rule (nextOf r t) no-create no-finish no-transfer (r .plan .tasks) (run-instruction r shaped ok t a) (taskAt r t) in
-      let alike = own-alike (meaning r) (reading r) t (nextOf r t) runs then own in
+      let fine = run-instruction r shaped ok t a in
+      let own : Own (nextOf r t) ((reading r) .tasks t) then = own-rule (nextOf r t) no-create no-finish no-transfer (r .plan .tasks) fine (taskAt r t) in
+      let alike = alike-at (meaning r) ((reading r) .tasks) t then (own-alike (meaning r) (reading r) t (nextOf r t) runs then own) in
       rw read
       (record {
         task = t;
@@ -122,5 +123,5 @@ module _ (r : System) (shaped : Shaped r) (ok : systemOk r ≡ true) (h : Histor
         own = own;
         tasks = refl;
         letters = refl;
-        unseen = unseen-of (meaning r) h (reading r) (withTaskRead (reading r) t then) refl refl refl (λ c. refl) (alike-at (meaning r) ((reading r) .tasks) t then alike);
+        unseen = unseen-of (meaning r) h (reading r) (withTaskRead (reading r) t then) refl refl refl (λ c. refl) alike;
       })

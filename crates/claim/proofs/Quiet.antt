@@ -1,31 +1,44 @@
 -- Rest: exactly when no run and no delivery would be accepted; and then every ready task is at its finish, with a living child.
 use mathlib.Core.Path.{_≡_, refl, sym, ap, _∙_}
-use mathlib.Core.Logic.{_≢_, by-cases}
-use mathlib.Core.Bool.{Bool, true, false, not, _&&_, _||_}
-use mathlib.Core.List.{List, []}
-use Prim.Native.Nat.{ℕ, zero, suc, _+_, _≤_, _<_}
+use mathlib.Core.Logic.{by-cases}
+use mathlib.Core.Bool.{Bool, true, false, not, _||_}
+use mathlib.Core.List.{List, [], _∷_}
+use Prim.Native.Nat.{ℕ, suc, _+_, _≤_}
 use native.Mathlib.Omega.{arith}
 use native.Mathlib.Decide.{ℕ-discrete}
-use lib.Dec.{eqb}
+use lib.Dec.{eqb, leb}
 use lib.ListN.{length}
-use borrow.Author.Tests.{eqb-true, eq-eqb, ne-eqb}
-use Rattle.base.specs.Choice.{pick, unless, within}
-use Rattle.base.specs.Range.{upTo}
-use Rattle.base.proofs.Tests.{and-left, and-right, and-both, or-cases, within-low, within-high, within-both, up-to-at, below-all, is-false, tests-differ}
+use borrow.Author.Tests.{eqb-true, eq-eqb, le-leb}
+use Rattle.base.specs.Choice.{pick, within}
+use Rattle.base.proofs.Tests.{and-left, and-right, and-both, or-cases, within-low, within-high, within-both, up-to-at, below-all, is-false, is-true, tests-differ}
+use Rattle.base.proofs.Choices.{pick-either}
+use Rattle.base.proofs.Joins.{length-joined}
+use Rattle.base.proofs.Sums.{sum-at-most}
 use Rattle.plan.specs.declared.TaskId.{TaskId}
-use Rattle.plan.specs.Numbers.{taskId}
+use Rattle.plan.specs.Numbers.{taskId, processorId}
+use Rattle.plan.specs.Kinds.{isFinish}
+use Rattle.rules.specs.declared.task.TaskState.the-variants.{Ready}
+use Rattle.rules.specs.declared.message.Message.{Message}
+use Rattle.rules.specs.declared.message.Message.the-variants.{Advert}
+use Rattle.rules.specs.declared.rule.Posting.{Posting}
+use Rattle.rules.specs.declared.rule.Posting.the-variants.{Nothing, Letter, Adverts}
 use Rattle.rules.specs.declared.step.Step.{Step}
-use Rattle.rules.specs.declared.step.StepAnswer.{StepAnswer}
 use Rattle.rules.specs.declared.step.StepAnswer.the-variants.{Accepted}
 use Rattle.rules.specs.declared.system.System.{System}
 use Rattle.rules.specs.Answers.{isAccepted}
 use Rattle.rules.specs.Deliver.{deliverAnswer}
-use Rattle.rules.specs.Steps.{isRun, isDeliver, isMove, wellFormed, kindAnswer, ruledAnswer, stepAnswer, runStep, quiescent}
-use Rattle.rules.specs.Runs.{runAnswer}
+use Rattle.rules.specs.Steps.{isRun, isDeliver, wellFormed, kindAnswer, ruledAnswer, stepAnswer, runStep, quiescent}
+use Rattle.rules.specs.Networks.{letters, lettersOf}
+use Rattle.rules.specs.Tasks.{isIn, isChildless}
+use Rattle.rules.specs.Systems.{taskAt}
+use Rattle.rules.specs.Runs.{nextOf, ran, fits, finishesEarly, runAnswer}
 use Rattle.rules.specs.Sound.{systemOk}
+use Rattle.rules_laws.specs.Shapes.{Shaped}
 use Rattle.rules_laws.proofs.Steps.{accepted-is, step-passed}
 use Rattle.rules_laws.proofs.StepKinds.{answer-run, answer-deliver, deliver-passed}
 use Rattle.rules_sound.proofs.Answers.{run-passed}
+use Rattle.rules_sound.proofs.Sound.{sound}
+use Rattle.claim.specs.Readings.{reading}
 
 -- a delivery of position p
 abbrev pub deliverStep : ℕ → Step
@@ -83,3 +96,34 @@ module _ (r : System) (ok : systemOk r ≡ true) where
       (λ e. e)
       (λ ne. absurd (tests-differ (ap isAccepted (deliver-accepted 1 (omega arith) (omega arith))) (none (deliverStep 1) refl)))))
       (below-all (λ k. not (isAccepted (stepAnswer r (runStep (suc k))))) (r .plan .tasks) (λ k l. rw (none (runStep (suc k)) refl) refl))
+
+-- the letters of one posting are few
+few-posted : (n : ℕ) (q : Posting) → length (lettersOf n q) ≤ suc n
+unfolding lettersOf
+few-posted n Nothing = omega arith
+few-posted n (Letter a) = omega arith
+few-posted n (Adverts c d) =
+    let f : ℕ → List Message = λ k. pick (eqb (suc k) (d .0)) [] (Advert c (processorId (suc k)) d ∷ []) in
+    let e = length-joined n f in
+    let q = sum-at-most 1 n (λ k. length (f k)) (λ k l. pick-either (λ ls. length ls ≤ 1) (eqb (suc k) (d .0)) [] (Advert c (processorId (suc k)) d ∷ []) (omega arith) (omega arith)) in
+    omega (arith, e, q)
+
+module _ (r : System) (shaped : Shaped r) (ok : systemOk r ≡ true) (quiet : quiescent r ≡ true) where
+  pub quiet-letters : reading r .letters ≡ []
+  unfolding reading letters
+  quiet-letters = rw (no-letters r ok quiet) refl
+
+  -- with an empty mail a ready task is kept from running by its finish alone
+  pub quiet-ready : (t : TaskId) → within 1 (r .plan .tasks) (t .0) ≡ true → isIn Ready (taskAt r t) ≡ true
+      → (isFinish (nextOf r t) ≡ true) × (isChildless (taskAt r t) ≡ false)
+  unfolding stepAnswer ruledAnswer wellFormed kindAnswer runAnswer fits
+  quiet-ready t is ready =
+      let few = sound r shaped ok .frame .few in
+      let posted = few-posted (r .processors) (ran r t .posting) in
+      let fit : leb (r .network .used + length (lettersOf (r .processors) (ran r t .posting))) 256 ≡ true =
+      le-leb (r .network .used + length (lettersOf (r .processors) (ran r t .posting))) 256 (let none = no-letters r ok quiet in omega arith) in
+      let early : finishesEarly r t ≡ true =
+      is-true (finishesEarly r t) (λ late.
+      let yet : stepAnswer r (runStep (t .0)) ≡ Accepted = rw (ok, is, ready, late, fit) refl in
+      tests-differ (ap isAccepted yet) (no-run r ok quiet (t .0) (within-low 1 (r .plan .tasks) (t .0) is) (within-high 1 (r .plan .tasks) (t .0) is))) in
+      (and-left (isFinish (nextOf r t)) _ early, not-passed _ (and-right (isFinish (nextOf r t)) _ early))

@@ -1,7 +1,7 @@
 -- What an accepted run step says of the task that runs; and a step that posts nothing.
 use mathlib.Core.Path.{_≡_, refl}
 use mathlib.Core.Bool.{true}
-use Prim.Native.Nat.{_+_, _-_, _≤_}
+use Prim.Native.Nat.{_+_, _-_, _≤_, _<_}
 use native.Mathlib.Omega.{arith}
 use lib.ListN.{length}
 use borrow.Author.Tests.{leb-true}
@@ -10,8 +10,10 @@ use Rattle.base.proofs.Tests.{within-low, within-high}
 use Rattle.plan.specs.declared.TaskId.{TaskId}
 use Rattle.plan.specs.Programs.{programs}
 use Rattle.plan.specs.Refusals.{instructionOk}
+use Rattle.plan.specs.Users.{parentOf}
 use Rattle.plan.proofs.Parts.{tasks-of}
 use Rattle.plan_laws.proofs.Programs.{instruction-fine}
+use Rattle.plan_laws.proofs.Parents.{has-parent}
 use Rattle.rules.specs.declared.step.StepAnswer.the-variants.{Accepted}
 use Rattle.rules.specs.declared.task.TaskState.the-variants.{Ready}
 use Rattle.rules.specs.declared.system.System.{System}
@@ -52,6 +54,16 @@ module _ (r : System) (shaped : Shaped r) (ok : systemOk r ≡ true) where
         high = omega (arith, within-high 1 (r .plan .tasks) (t .0) w, tasks-few _ (r .plan) (is-sound .frame));
       }
 
+  -- the parent of a task 2 .. T: a task of the plan, of a lower number
+  pub parent-is-task : (t : TaskId) → within 2 (length (meaning r)) (t .0) ≡ true
+      → IsTask (parentOf (meaning r) t) × (parentOf (meaning r) t .0 < t .0)
+  parent-is-task t w =
+      let low = within-low 2 (length (meaning r)) (t .0) w in
+      let high = within-high 2 (length (meaning r)) (t .0) w in
+      let (some, lower) = has-parent (meaning r) (is-sound .frame .plan) (t .0) low high in
+      let few = tasks-few _ (r .plan) (is-sound .frame) in
+      (record { low = some; high = omega (arith, tasks-of (r .plan)) }, lower)
+
   module _ (t : TaskId) (a : runAnswer r t ≡ Accepted) where
     pub run-is-task : IsTask t
     run-is-task = is-task t (run-passed r t a .task)
@@ -69,7 +81,8 @@ module _ (r : System) (shaped : Shaped r) (ok : systemOk r ≡ true) where
         let low = run-settled .place in
         let few = run-settled .place-few in
         let s = is-sound .frame in
-        rw (tasks-of (r .plan)) at (instruction-fine (programs (r .plan)) (s .plan) (t .0 - 1) (in-plan _ _ s t (run-is-task .low) high) (taskAt r t .pc - 1) (omega arith))
+        let there = in-plan _ _ s t (run-is-task .low) high in
+        rw (tasks-of (r .plan)) at (instruction-fine (programs (r .plan)) (s .plan) (t .0 - 1) there (taskAt r t .pc - 1) (omega arith))
 
     -- what it posts fits in the mail
     pub run-fits : r .network .used + length (lettersOf (r .processors) (ran r t .posting)) ≤ 256

@@ -24,7 +24,7 @@ use Rattle.rules.specs.declared.message.Message.the-variants.{Empty, Offered, A
 use Rattle.channel.specs.Bags.{one, without, total}
 use Rattle.channel.specs.Letters.{Letter, offer, advert, call, word}
 use Rattle.channel.proofs.Bags.{total-post, total-without}
-use Rattle.claim.specs.Letters.{flat, letterOn, lettersOn, endedTo, moverTo, endedOf, moversOf}
+use Rattle.claim.specs.Letters.{flat, letterOn, lettersOn, endedTo, moverTo}
 use Rattle.claim.specs.Weights.{taskLetters}
 
 -- the length of what is sorted out
@@ -127,13 +127,19 @@ module _ (n : ℕ) where
   once (ReadyToReceive e d h) = of-channel e (call (d .0) (h .processor .0) (h .moves))
   once (Data e d w) = of-channel e (word (d .0) w)
   once (Terminated d t) =
-      omega
-      (arith, no-channel, few-of (t .0) n (λ k. length (pick (eqb (t .0) (suc k)) (one (d .0)) []) + 0)
-      (λ k. let e = length-pick (eqb (t .0) (suc k)) (d .0) in omega (arith, e)))
+      omega (
+        arith,
+        no-channel,
+        few-of (t .0) n (λ k. length (pick (eqb (t .0) (suc k)) (one (d .0)) []) + 0)
+            (λ k. let e = length-pick (eqb (t .0) (suc k)) (d .0) in omega (arith, e)),
+      )
   once (Migration d t) =
-      omega
-      (arith, no-channel, few-of (t .0) n (λ k. 0 + length (pick (eqb (t .0) (suc k)) (one (d .0)) []))
-      (λ k. let e = length-pick (eqb (t .0) (suc k)) (d .0) in omega (arith, e)))
+      omega (
+        arith,
+        no-channel,
+        few-of (t .0) n (λ k. 0 + length (pick (eqb (t .0) (suc k)) (one (d .0)) []))
+            (λ k. let e = length-pick (eqb (t .0) (suc k)) (d .0) in omega (arith, e)),
+      )
 
   -- so that those of all channels and about all tasks are not more than the letters
   pub few-letters : (ms : List Message)
@@ -142,12 +148,18 @@ module _ (n : ℕ) where
   few-letters [] = omega (arith, no-channel, no-task)
   few-letters (m ∷ ms) =
       let c =
-          fold-same _+_ 0 128 (λ k. length (lettersOn (channelId (suc k)) (m ∷ ms)))
-          (λ k. length (letterOn (channelId (suc k)) m) + length (lettersOn (channelId (suc k)) ms))
-          (λ k l. length-append (letterOn (channelId (suc k)) m) (lettersOn (channelId (suc k)) ms)) in
+      fold-same _+_ 0 128 (λ k. length (lettersOn (channelId (suc k)) (m ∷ ms)))
+      (λ k. length (letterOn (channelId (suc k)) m) + length (lettersOn (channelId (suc k)) ms))
+      (λ k l. length-append (letterOn (channelId (suc k)) m) (lettersOn (channelId (suc k)) ms)) in
       let t =
-          fold-same _+_ 0 n (λ k. taskLetters (m ∷ ms) (taskId (suc k))) (λ k. aboutTask (taskId (suc k)) m + taskLetters ms (taskId (suc k)))
-          (λ k l. let u = taskId (suc k) in omega (arith, counted (m ∷ ms) u, counted ms u, total-cons u m ms)) in
-      omega
-      (arith, c, t, once m, few-letters ms, sum-both 128 (λ k. length (letterOn (channelId (suc k)) m)) (λ k. length (lettersOn (channelId (suc k)) ms)),
-      sum-both n (λ k. aboutTask (taskId (suc k)) m) (λ k. taskLetters ms (taskId (suc k))))
+      fold-same _+_ 0 n (λ k. taskLetters (m ∷ ms) (taskId (suc k))) (λ k. aboutTask (taskId (suc k)) m + taskLetters ms (taskId (suc k)))
+      (λ k l. let u = taskId (suc k) in omega (arith, counted (m ∷ ms) u, counted ms u, total-cons u m ms)) in
+      omega (
+        arith,
+        c,
+        t,
+        once m,
+        few-letters ms,
+        sum-both 128 (λ k. length (letterOn (channelId (suc k)) m)) (λ k. length (lettersOn (channelId (suc k)) ms)),
+        sum-both n (λ k. aboutTask (taskId (suc k)) m) (λ k. taskLetters ms (taskId (suc k))),
+      )

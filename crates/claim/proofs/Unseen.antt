@@ -8,7 +8,6 @@ use native.Mathlib.Omega.{arith}
 use lib.Dec.{eqb, ltb}
 use borrow.Author.Tests.{eqb-true, ltb-true}
 use Rattle.base.specs.Choice.{pick}
-use Rattle.base.specs.Range.{fold}
 use Rattle.base.specs.Sets.{removed}
 use Rattle.base.proofs.Choices.{pick-cases}
 use Rattle.base.proofs.Tests.{and-left, or-neither}
@@ -32,9 +31,10 @@ use Rattle.claim.specs.Progress.{programOf, completedBy, useNumber}
 use Rattle.claim.specs.Letters.{lettersOn}
 use Rattle.claim.specs.Views.{Histories, senderView, receiverView, viewOf}
 use Rattle.claim.specs.Acts.{Unseen, finished}
+use Rattle.claim.proofs.Turns.{use-more, completed-ready, next-completed}
 
 -- two records of a task with program g that no channel tells apart
-pub record Alike (g : Program) (x y : Task) : Type 0 where
+pub record SeenAlike (g : Program) (x y : Task) : Type 0 where
   pub sender : (c : ChannelId) → senderView g c y ≡ senderView g c x
   pub receiver : (c : ChannelId) (history : ℕ → ℕ) → receiverView g c history y ≡ receiverView g c history x
 
@@ -49,24 +49,19 @@ idle-ready x e = let s = eqb-true (stateNumber (x .state)) 1 e in record { sends
 idle-waiting : (x : Task) → isIn Waiting x ≡ true → Idle x
 idle-waiting x e = let s = eqb-true (stateNumber (x .state)) 2 e in record { sends = rw s refl; receives = rw s refl }
 
-completed-ready : (x : Task) → isIn Ready x ≡ true → completedBy x ≡ x .pc - 1
-unfolding completedBy
-completed-ready x e = rw (eqb-true (stateNumber (x .state)) 1 e) refl
-
 completed-waiting : (x : Task) → isIn Waiting x ≡ true → completedBy x ≡ x .pc - 2
 unfolding completedBy
 completed-waiting x e = rw (eqb-true (stateNumber (x .state)) 2 e) refl
 
 module _ (g : Program) where
-  -- an instruction that is neither send nor receive is no use of a channel
-  use-more : (k : ℕ) (c : ChannelId) (n : ℕ) → eqb (instructionAt g n .opcode) k ≡ false → useNumber k g c (suc n) ≡ useNumber k g c n
-  unfolding useNumber fold
-  use-more k c n e = rw e (omega arith)
+  -- an instruction of another kind is no use of a channel
+  no-use : (k : ℕ) (c : ChannelId) (n : ℕ) → eqb (instructionAt g n .opcode) k ≡ false → useNumber k g c (suc n) ≡ useNumber k g c n
+  no-use k c n e = rw (use-more k g c n, e) (omega arith)
 
-  pub alike-same : (x : Task) → Alike g x x
+  pub alike-same : (x : Task) → SeenAlike g x x
   alike-same x = record { sender = λ c. refl; receiver = λ c history. refl }
 
-  pub alike-then : (x y z : Task) → Alike g x y → Alike g y z → Alike g x z
+  pub alike-then : (x y z : Task) → SeenAlike g x y → SeenAlike g y z → SeenAlike g x z
   alike-then x y z p q = record { sender = λ c. q .sender c ∙ p .sender c; receiver = λ c history. q .receiver c history ∙ p .receiver c history }
 
   off : (s : TaskState) (x : Task) → isIn s x ≡ false → (c : ChannelId) → isOn s g c x ≡ false
@@ -78,7 +73,7 @@ module _ (g : Program) where
     -- it has completed as many sends and receives
     alike : ((c : ChannelId) → useNumber opSend g c (completedBy y) ≡ useNumber opSend g c (completedBy x))
         → ((c : ChannelId) → useNumber opReceive g c (completedBy y) ≡ useNumber opReceive g c (completedBy x))
-        → Alike g x y
+        → SeenAlike g x y
     unfolding senderView receiverView
     alike sent received =
         record {
@@ -87,15 +82,15 @@ module _ (g : Program) where
         }
 
     -- it has completed nothing
-    alike-level : completedBy y ≡ completedBy x → Alike g x y
+    alike-level : completedBy y ≡ completedBy x → SeenAlike g x y
     alike-level e = alike (λ c. rw e refl) (λ c. rw e refl)
 
     -- it has completed one instruction that is neither send nor receive
-    alike-further : completedBy y ≡ suc (completedBy x) → isTransfer (instructionAt g (completedBy x)) ≡ false → Alike g x y
+    alike-further : completedBy y ≡ suc (completedBy x) → isTransfer (instructionAt g (completedBy x)) ≡ false → SeenAlike g x y
     alike-further e i =
         let k = instructionAt g (completedBy x) .opcode in
         let (no-send, no-receive) = or-neither (eqb k opSend) (eqb k opReceive) i in
-        alike (λ c. rw (e, use-more opSend c (completedBy x) no-send) refl) (λ c. rw (e, use-more opReceive c (completedBy x) no-receive) refl)
+        alike (λ c. rw (e, no-use opSend c (completedBy x) no-send) refl) (λ c. rw (e, no-use opReceive c (completedBy x) no-receive) refl)
 
   -- a ready task at an instruction that is neither send nor receive
   module _ (x : Task) (ready : isIn Ready x ≡ true) (low : 1 ≤ x .pc) where
@@ -103,20 +98,19 @@ module _ (g : Program) where
     one-more = rw (completed-ready x ready) (omega arith)
 
     here : isTransfer (nextIn g x) ≡ false → isTransfer (instructionAt g (completedBy x)) ≡ false
-    unfolding nextIn
-    here i = rw (completed-ready x ready) i
+    here i = rw (← next-completed g x ready) i
 
     -- goes on, is done, or waits
-    pub alike-on : isTransfer (nextIn g x) ≡ false → (w : Word) → Alike g x (advanced (withWord x w))
+    pub alike-on : isTransfer (nextIn g x) ≡ false → (w : Word) → SeenAlike g x (advanced (withWord x w))
     alike-on i w =
         let y = advanced (withWord x w) in
         alike-further x y refl refl (idle-ready x ready) (idle-ready y ready) (completed-ready y ready ∙ one-more) (here i)
 
-    pub alike-done : isTransfer (nextIn g x) ≡ false → Alike g x (finished x)
+    pub alike-done : isTransfer (nextIn g x) ≡ false → SeenAlike g x (finished x)
     unfolding completedBy
     alike-done i = alike-further x (finished x) refl refl (idle-ready x ready) (record { sends = refl; receives = refl }) one-more (here i)
 
-    pub alike-waits : Alike g x (advanced (withState x Waiting))
+    pub alike-waits : SeenAlike g x (advanced (withState x Waiting))
     alike-waits =
         let y = advanced (withState x Waiting) in
         let e : x .pc + 1 - 2 ≡ x .pc - 1 = omega arith in
@@ -133,7 +127,7 @@ module _ (g : Program) where
         go true e h = (ltb-true 1 (x .pc) e, h)
         go false e h = absurd (omega arith)
 
-    alike-ready : Alike g x (readied x)
+    alike-ready : SeenAlike g x (readied x)
     alike-ready =
         let (low, kind) = waits-at in
         let y = readied x in
@@ -143,16 +137,16 @@ module _ (g : Program) where
 
   -- a task loses a child
   module _ (x : Task) (sync : isIn Waiting x ≡ true → lastIn g x .opcode ≡ opSync) where
-    other-children : (n : ℕ) → Alike g x (withChildren x n)
+    other-children : (n : ℕ) → SeenAlike g x (withChildren x n)
     unfolding senderView receiverView isOn lastIn completedBy
     other-children n = record { sender = λ c. refl; receiver = λ c history. refl }
 
-    pub alike-without : (t : TaskId) → Alike g x (withoutChild x t)
+    pub alike-without : (t : TaskId) → SeenAlike g x (withoutChild x t)
     unfolding woken lastIn
     alike-without t =
         let z = withChildren x (removed (t .0) (x .children)) in
         let fewer = other-children (removed (t .0) (x .children)) in
-        pick-cases (Alike g x) (isIn Waiting z && isChildless z) (readied z) z
+        pick-cases (SeenAlike g x) (isIn Waiting z && isChildless z) (readied z) z
         (λ e.
         let w = and-left (isIn Waiting z) (isChildless z) e in
         alike-then x z (readied z) fewer (alike-ready z w (sync w)))
@@ -160,7 +154,7 @@ module _ (g : Program) where
 
 -- a task changes
 module _ (m : Programs) (tasks : TaskId → Task) where
-  pub alike-at : (t : TaskId) (y : Task) → Alike (programOf m t) (tasks t) y → (u : TaskId) → Alike (programOf m u) (tasks u) (atTask tasks t y u)
+  pub alike-at : (t : TaskId) (y : Task) → SeenAlike (programOf m t) (tasks t) y → (u : TaskId) → SeenAlike (programOf m u) (tasks u) (atTask tasks t y u)
   alike-at t y p u =
       by-cases (ℕ-discrete (u .0) (t .0))
       (λ (e : u .0 ≡ t .0). let q : u ≡ t = ap taskId e in rw (q, updated-same (λ (k : TaskId). k .0) tasks t y) p)
@@ -170,11 +164,15 @@ module _ (m : Programs) (tasks : TaskId → Task) where
 module _ (m : Programs) (h : Histories) where
   pub unseen-of : (x y : Reading) → y .processors ≡ x .processors → y .entries ≡ x .entries → y .channels ≡ x .channels
       → ((c : ChannelId) → lettersOn c (y .letters) ≡ lettersOn c (x .letters))
-      → ((t : TaskId) → Alike (programOf m t) (x .tasks t) (y .tasks t))
+      → ((t : TaskId) → SeenAlike (programOf m t) (x .tasks t) (y .tasks t))
       → Unseen m h x y
   unfolding viewOf
   unseen-of x y desks entries channels letters tasks =
       record {
         processors = desks;
-        views = λ c low high. rw (desks, entries, channels, letters c, tasks (senderOf m c) .sender c, tasks (receiverOf m c) .receiver c (h (receiverOf m c))) refl;
+        views =
+            λ c low high.
+            let sender = tasks (senderOf m c) .sender c in
+            let receiver = tasks (receiverOf m c) .receiver c (h (receiverOf m c)) in
+            rw (desks, entries, channels, letters c, sender, receiver) refl;
       }

@@ -1,15 +1,14 @@
 -- Every act keeps the invariant of every channel: each view changes by one event or not at all. And task 1 gets no ended letter.
-use mathlib.Core.Path.{_≡_, refl, sym, ap, _∙_}
-use mathlib.Core.Logic.{_≢_, by-cases}
+use mathlib.Core.Path.{_≡_, refl, ap, _∙_}
+use mathlib.Core.Logic.{by-cases}
 use mathlib.Core.List.{List, []}
-use Prim.Native.Nat.{ℕ, _≤_}
+use Prim.Native.Nat.{_≤_}
 use native.Mathlib.Decide.{ℕ-discrete}
 use native.Mathlib.Omega.{arith}
 use borrow.Author.Tests.{ne-eqb}
 use lib.ListN.{length}
 use Rattle.base.proofs.Tests.{within-low}
 use Rattle.plan.specs.declared.TaskId.{TaskId}
-use Rattle.plan.specs.declared.ProcessorId.{ProcessorId}
 use Rattle.plan.specs.declared.ChannelId.{ChannelId}
 use Rattle.plan.specs.declared.Word.{Word}
 use Rattle.plan.specs.Numbers.{taskId, channelId}
@@ -18,14 +17,14 @@ use Rattle.rules.specs.declared.message.Message.the-variants.{Terminated, Migra
 use Rattle.rules.specs.declared.rule.Received.{Received}
 use Rattle.net.specs.States.{Net}
 use Rattle.channel.specs.Views.{View}
-use Rattle.channel.specs.Events.{Event, Change, none, event, guard, after, place, placed, transfer, delivery, sender-born, receiver-born, sender-arrives, receiver-arrives, sender-departs, receiver-departs}
+use Rattle.channel.specs.Events.{Event, Change, none, event, guard, after, place, sender-born, receiver-born, sender-arrives, receiver-arrives, sender-departs, receiver-departs}
 use Rattle.channel.specs.Invariant.{Invariant}
 use Rattle.channel.proofs.Keep.{change-keeps}
 use Rattle.claim.specs.Readings.{Reading}
 use Rattle.claim.specs.Letters.{endedTo, endedOf}
 use Rattle.claim.specs.Views.{Histories, viewOf}
 use Rattle.claim.specs.Acts as Acts
-use Rattle.claim.specs.Acts.{ChannelAct, Unseen, Placing, sender-birth, receiver-birth, sender-arrival, receiver-arrival, Departing, sender-departure, receiver-departure, Finishing, alone, near, away, FinishAct, MoveAct, RunAct, transfers, owns, creates, finishes, DeliverAct, delivers, ends, arrives}
+use Rattle.claim.specs.Acts.{ChannelAct, Unseen, Placing, sender-birth, receiver-birth, sender-arrival, receiver-arrival, Departing, sender-departure, receiver-departure, Finishing, alone, near, away, MoveAct, RunAct, transfers, owns, creates, finishes, DeliverAct, delivers, ends, arrives}
 use Rattle.claim.specs.Agreement.{Running}
 use Rattle.claim.proofs.Flats.{flat-post-nothing, flat-without}
 

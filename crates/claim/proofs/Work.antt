@@ -47,8 +47,8 @@ module _ (m : Programs) (x y : TaskId → Task) where
       let high = within-high 1 (length m) (t .0) is in
       let here : taskId (suc (t .0 - 1)) ≡ t = counted t low in
       let q =
-          sum-change (length m) (λ k. unexecutedOf m x (taskId (suc k))) (λ k. unexecutedOf m y (taskId (suc k))) (t .0 - 1) (omega arith)
-          (λ k l d. rw (same (taskId (suc k)) (within-both 1 (length m) (suc k) (omega arith) (omega arith)) (omega arith)) refl) in
+      sum-change (length m) (λ k. unexecutedOf m x (taskId (suc k))) (λ k. unexecutedOf m y (taskId (suc k))) (t .0 - 1) (omega arith)
+      (λ k l d. rw (same (taskId (suc k)) (within-both 1 (length m) (suc k) (omega arith) (omega arith)) (omega arith)) refl) in
       let fx : unexecutedOf m x (taskId (suc (t .0 - 1))) ≡ unexecutedOf m x t = ap (unexecutedOf m x) here in
       let fy : unexecutedOf m y (taskId (suc (t .0 - 1))) ≡ unexecutedOf m y t = ap (unexecutedOf m y) here in
       let less : unexecutedOf m x t ≡ suc (unexecutedOf m y t) = rw goes (omega arith) in

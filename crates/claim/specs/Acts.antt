@@ -15,15 +15,14 @@ use Rattle.plan.specs.declared.ChannelId.{ChannelId}
 use Rattle.plan.specs.declared.Instruction.{Instruction}
 use Rattle.plan.specs.declared.Word.{Word}
 use Rattle.plan.specs.Numbers.{taskId}
-use Rattle.plan.specs.Kinds.{opCreate, opSync, opFinish, opSend, opReceive, isUse, isFinish}
-use Rattle.plan.specs.Programs.{Program, Programs}
+use Rattle.plan.specs.Kinds.{opCreate, opSync, opSend, opReceive, isUse, isFinish}
+use Rattle.plan.specs.Programs.{Programs}
 use Rattle.plan.specs.Users.{senderOf, receiverOf, parentOf}
 use Rattle.rules.specs.declared.task.TaskState.the-variants.{Unborn, Ready, Waiting, Sending, Receiving, Moving, Done}
 use Rattle.rules.specs.declared.task.Task.{Task}
-use Rattle.rules.specs.declared.message.Message.{Message}
 use Rattle.rules.specs.declared.message.Message.the-variants.{Terminated, Migration}
 use Rattle.rules.specs.declared.rule.Received.{Received}
-use Rattle.rules.specs.declared.rule.Received.the-variants.{Nothing} 
+use Rattle.rules.specs.declared.rule.Received.the-variants.{Nothing}
 use Rattle.rules.specs.declared.rule.Received.the-variants.{Word as GotWord}
 use Rattle.rules.specs.Tasks.{isIn, isAt, isChildless, withState, withWord, advanced, born, departed, arrived, withoutChild}
 use Rattle.rules.specs.Places.{nextIn}
@@ -34,7 +33,7 @@ use Rattle.net.specs.Effects.{wordAfter}
 use Rattle.channel.specs.Updates.{atNumber}
 use Rattle.channel.specs.Bags.{one, without}
 use Rattle.channel.specs.Views.{View}
-use Rattle.channel.specs.Events.{Event, Place, Transfer, Delivery, place, transfer, delivery, guard, after, sender-born, sender-arrives, receiver-born, receiver-arrives, sender-departs, receiver-departs, placeGuard, placed}
+use Rattle.channel.specs.Events.{Event, Transfer, Delivery, transfer, delivery, guard, after, sender-born, sender-arrives, receiver-born, receiver-arrives, sender-departs, receiver-departs, placeGuard, placed}
 use Rattle.claim.specs.Readings.{Reading}
 use Rattle.claim.specs.Progress.{programOf}
 use Rattle.claim.specs.Letters.{lettersOn, wordsIn, endedOf, moversOf}

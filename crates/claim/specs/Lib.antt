@@ -9,3 +9,4 @@ pub mod Family
 pub mod Agreement
 pub mod Weights
 pub mod Statement
+pub mod Example

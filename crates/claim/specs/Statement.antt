@@ -11,7 +11,6 @@ use Rattle.base.specs.Beginnings.{Beginning}
 use Rattle.plan.specs.declared.Plan.{Plan}
 use Rattle.plan.specs.declared.TaskId.{TaskId}
 use Rattle.plan.specs.declared.ChannelId.{ChannelId}
-use Rattle.plan.specs.declared.Word.{Word}
 use Rattle.plan.specs.Programs.{programs}
 use Rattle.plan.specs.Users.{senderOf, receiverOf, parentOf}
 use Rattle.plan.specs.Layout.{totalOf}

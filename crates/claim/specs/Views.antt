@@ -1,5 +1,4 @@
 -- The view of one channel in a rig that is read; `histories` says where each task was sent with each move count.
-use mathlib.Core.List.{List}
 use Prim.Native.Nat.{ℕ}
 use Rattle.plan.specs.declared.TaskId.{TaskId}
 use Rattle.plan.specs.declared.ChannelId.{ChannelId}
