@@ -44,3 +44,4 @@ pub mod Finds
 pub mod Whole
 pub mod Demand3
 pub mod Example
+pub mod Corollaries

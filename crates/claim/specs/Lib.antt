@@ -10,3 +10,4 @@ pub mod Agreement
 pub mod Weights
 pub mod Statement
 pub mod Example
+pub mod Corollaries
