@@ -1,84 +1,53 @@
 -- Every step keeps every child with its parent.
 use mathlib.Core.Path.{_≡_, refl, sym, ap, _∙_}
 use mathlib.Core.Bool.{true, false}
-use mathlib.Core.Logic.{_≢_, by-cases}
-use mathlib.Core.List.{List, []}
-use Prim.Native.Nat.{ℕ, _-_, _^_, _≤_}
+use mathlib.Core.Logic.{_≢_}
+use mathlib.Core.List.{List}
+use Prim.Native.Nat.{_-_, _≤_}
 use native.Mathlib.Omega.{arith}
-use native.Mathlib.Decide.{ℕ-discrete}
-use lib.Dec.{ltb}
 use lib.ListN.{length}
-use borrow.Author.Tests.{eqb-true, eq-eqb, ne-eqb}
-use Rattle.base.specs.Choice.{pick, within}
+use borrow.Author.Tests.{eqb-true}
+use Rattle.base.specs.Choice.{within}
 use Rattle.base.specs.Sets.{member}
-use Rattle.base.proofs.Tests.{and-left, and-right, within-low, within-high, within-both, tests-differ, is-false, is-true}
+use Rattle.base.proofs.Tests.{within-low, within-high, tests-differ, is-false}
 use Rattle.base.proofs.Sets.{other-inserted, none-member}
 use Rattle.plan.specs.declared.PlanAnswer.the-variants.{Accepted}
 use Rattle.plan.specs.declared.TaskId.{TaskId}
-use Rattle.plan.specs.declared.ProcessorId.{ProcessorId}
 use Rattle.plan.specs.declared.ChannelId.{ChannelId}
 use Rattle.plan.specs.declared.Word.{Word}
 use Rattle.plan.specs.Numbers.{taskId}
 use Rattle.plan.specs.Kinds.{opCreate, isUse}
-use Rattle.plan.specs.Programs.{Program, Programs}
+use Rattle.plan.specs.Programs.{Programs}
 use Rattle.plan.specs.Users.{senderOf, receiverOf, parentOf}
 use Rattle.plan.specs.Refusals.{planAnswer}
-use Rattle.plan_laws.proofs.Parents.{created-by, has-parent, no-parent}
+use Rattle.plan_laws.proofs.Parents.{created-by}
 use Rattle.rules.specs.declared.task.TaskState.the-variants.{Unborn, Ready}
 use Rattle.rules.specs.declared.task.Task.{Task}
 use Rattle.rules.specs.declared.message.Message.the-variants.{Terminated, Migration}
 use Rattle.rules.specs.declared.rule.Received.{Received}
 use Rattle.rules.specs.Tasks.{isIn, born, departed, arrived, withoutChild}
-use Rattle.rules.specs.Numbers.{isNone}
 use Rattle.rules.specs.Places.{nextIn}
 use Rattle.rules.specs.Local.{createRule}
-use Rattle.rules.specs.Sound.{unbornOk, bornOk, taskOk}
 use Rattle.rules_sound.proofs.Born.{born-passed}
 use Rattle.net.specs.States.{Net, atTask}
+use Rattle.net.proofs.Children.{child-within}
 use Rattle.channel.specs.Bags.{one}
 use Rattle.channel.specs.Events.{Event}
-use Rattle.claim.specs.Readings.{Reading}
-use Rattle.claim.specs.Progress.{programOf}
-use Rattle.claim.specs.Letters.{endedTo, endedOf}
-use Rattle.claim.specs.Views.{Histories}
-use Rattle.claim.specs.Family.{Child}
-use Rattle.claim.specs.Acts.{ChannelAct, OwnAct, CreateAct, FinishAct, Finishing, alone, near, away, EndedAct, ArrivalAct, MoveAct, finished}
-use Rattle.claim.specs.Agreement.{Running}
-use Rattle.claim.proofs.Flats.{flat-post, flat-post-nothing, flat-without, flat-place}
-use Rattle.claim.proofs.Turns.{sends, receives}
-use Rattle.claim.proofs.FamilyParts.{at-task, at-other, Kindred, SameLife, SameFamily, same-child, steady-life, steady-family, unchanged, kept-one, kept-two, state-is, turn-steady, own-steady, lost-life, lost-family, departed-life, arrived-life, childless, created-child, near-child, away-child, ended-child, nowhere-childless}
-
--- ended letters: a mover letter is none, and an ended letter is one of its own task
-no-ended : (t u : TaskId) (d : ProcessorId) → endedTo t (Migration d u) ≡ []
-unfolding endedTo
-no-ended t u d = refl
-
-own-ended : (t : TaskId) (d : ProcessorId) → endedTo t (Terminated d t) ≡ one (d .0)
-unfolding endedTo
-own-ended t d = rw (eq-eqb (t .0) (t .0) refl) refl
-
-other-ended : (t u : TaskId) (d : ProcessorId) → u .0 ≢ t .0 → endedTo t (Terminated d u) ≡ []
-unfolding endedTo
-other-ended t u d ne = rw (ne-eqb (u .0) (t .0) ne) refl
-
--- a child is one of 2 .. T, and its parent is another task
-module _ (m : Programs) (a : planAnswer m ≡ Accepted) where
-  pub child-within : (p u : TaskId) → 1 ≤ p .0 → parentOf m u ≡ p → within 2 (length m) (u .0) ≡ true
-  child-within p u l e =
-      is-true (within 2 (length m) (u .0))
-      (λ w. let z : taskId 0 ≡ p = sym (no-parent m a (u .0) w) ∙ e in omega (arith, ap (λ (t : TaskId). t .0) z))
-
-  parent-other : (u : TaskId) → within 2 (length m) (u .0) ≡ true → parentOf m u .0 ≢ u .0
-  parent-other u i e =
-      let (l, k) = has-parent m a (u .0) (within-low 2 (length m) (u .0) i) (within-high 2 (length m) (u .0) i) in
-      omega arith
-
--- an unborn task is nowhere
-unborn-nowhere : (n k : ℕ) (g : Program) (x : Task) → taskOk n k g x ≡ true → isIn Unborn x ≡ true → x .processor .0 ≡ 0
-unfolding taskOk unbornOk
-unborn-nowhere n k g x h u =
-    let ok : unbornOk x ≡ true = rw u at (and-right (ltb (x .children) (2 ^ k)) (pick (isIn Unborn x) (unbornOk x) (bornOk n g x)) h) in
-    eqb-true (x .processor .0) 0 (and-left (isNone (x .processor)) _ ok)
+use Rattle.acts.specs.Readings.{Reading}
+use Rattle.acts.specs.Progress.{programOf}
+use Rattle.acts.specs.Letters.{endedTo, endedOf}
+use Rattle.acts.specs.Views.{Histories}
+use Rattle.acts.specs.Acts.{ChannelAct, OwnAct, CreateAct, FinishAct, Finishing, alone, near, away, EndedAct, ArrivalAct, MoveAct, finished}
+use Rattle.acts.specs.Family.{Child}
+use Rattle.acts.specs.Agreement.{Running}
+use Rattle.acts.proofs.Updates.{at-task, at-other, task-cases}
+use Rattle.acts.proofs.Flats.{flat-post, flat-post-nothing, flat-without, flat-place, own-ended, other-ended, no-ended}
+use Rattle.acts.proofs.Parents.{child-number, task-number, parent-other}
+use Rattle.acts.proofs.Tasks.{sends, receives, unchanged, unborn-is, unborn-apart}
+use Rattle.acts.proofs.Turns.{turn-steady}
+use Rattle.claim.proofs.FamilyParts.{Kindred, SameLife, SameFamily, same-child, steady-life, steady-family, kept-one, kept-two, own-steady}
+use Rattle.claim.proofs.FamilyParts.{lost-life, lost-family, departed-life, arrived-life, childless, created-child, near-child, away-child}
+use Rattle.claim.proofs.FamilyParts.{ended-child, nowhere-childless}
 
 module _ (m : Programs) (a : planAnswer m ≡ Accepted) {h : Histories} {s : Net} {x : Reading} {w : ChannelId → List Word}
     (r : Running m h s x w) where
@@ -92,11 +61,9 @@ module _ (m : Programs) (a : planAnswer m ≡ Accepted) {h : Histories} {s : Net
   one-child y t k l f e = record { children = children; kin = kin }
     where
       children : (u : TaskId) → within 2 (length m) (u .0) ≡ true → Child u (y .tasks (parentOf m u)) (y .tasks u) (endedOf u (y .letters))
-      children u i =
-          by-cases
-          (ℕ-discrete (u .0) (t .0))
-          (λ (q : u .0 ≡ t .0). let j : u ≡ t = ap taskId q in rw j (k (rw j at i)))
-          (λ ne.
+      children =
+          task-cases (λ u. within 2 (length m) (u .0) ≡ true → Child u (y .tasks (parentOf m u)) (y .tasks u) (endedOf u (y .letters))) t k
+          (λ u ne i.
           let low = within-low 2 (length m) (u .0) i in
           rw (e u ne) (same-child (f u (parentOf m u) (omega arith) (λ q. absurd (ne q))) (l u ne) (r .children u i)))
 
@@ -104,15 +71,12 @@ module _ (m : Programs) (a : planAnswer m ≡ Accepted) {h : Histories} {s : Net
       was p u i j ne = r .kin p u i (sym (f u p i ne .members) ∙ j)
 
       kin : (p u : TaskId) → 1 ≤ u .0 → member (u .0) (y .tasks p .children) ≡ true → parentOf m u ≡ p
-      kin p u i j =
-          by-cases
-          (ℕ-discrete (p .0) (parentOf m t .0))
-          (λ (q : p .0 ≡ parentOf m t .0).
-          by-cases
-          (ℕ-discrete (u .0) (t .0))
-          (λ (o : u .0 ≡ t .0). let v : u ≡ t = ap taskId o in let z : p ≡ parentOf m t = ap taskId q in rw v (sym z))
-          (λ ne. was p u i j (λ o. absurd (ne o))))
-          (λ ne. was p u i j (λ o. ne))
+      kin =
+          task-cases (λ p. (u : TaskId) → 1 ≤ u .0 → member (u .0) (y .tasks p .children) ≡ true → parentOf m u ≡ p) (parentOf m t)
+          (task-cases (λ u. 1 ≤ u .0 → member (u .0) (y .tasks (parentOf m t) .children) ≡ true → parentOf m u ≡ parentOf m t) t
+          (λ i j. refl)
+          (λ u ne i j. was (parentOf m t) u i j (λ o. absurd (ne o))))
+          (λ p ne u i j. was p u i j (λ o. ne))
 
   -- no family changes
   same-kindred : (y : Reading) → ((u : TaskId) → SameLife (x .tasks u) (y .tasks u))
@@ -128,6 +92,7 @@ module _ (m : Programs) (a : planAnswer m ≡ Accepted) {h : Histories} {s : Net
   family : (u : TaskId) (z : Task) → SameFamily u z z
   family u z = steady-family (unchanged z) u
 
+  -- by each act
   pub kindred-channel : {y : Reading} {e : Event} {got : Received} → ChannelAct m h x y e got → Kindred m y
   kindred-channel {y} act =
       let c = act .channel in
@@ -160,7 +125,7 @@ module _ (m : Programs) (a : planAnswer m ≡ Accepted) {h : Histories} {s : Net
       same-kindred y
       (λ u. rw (act .tasks) (kept-one SameLife life (x .tasks) t z u (λ e. departed-life (x .tasks t) (act .ready))))
       (λ u p. rw (act .tasks) (kept-one (SameFamily u) (family u) (x .tasks) t z p (λ e. childless u (x .tasks t) z none refl)))
-      (λ u. rw (act .letters) (flat-post-nothing (endedTo u) (x .letters) (Migration (act .to) t) (no-ended u t (act .to))))
+      (λ u. rw (act .letters) (flat-post-nothing (endedTo u) (x .letters) (Migration (act .to) t) (no-ended u (act .to) t)))
 
   pub kindred-arrival : {y : Reading} → ArrivalAct m h x y → Kindred m y
   kindred-arrival {y} act =
@@ -170,7 +135,7 @@ module _ (m : Programs) (a : planAnswer m ≡ Accepted) {h : Histories} {s : Net
       same-kindred y
       (λ u. rw (act .tasks) (kept-one SameLife life (x .tasks) t z u (λ e. arrived-life (x .tasks t) (act .at) (act .moving))))
       (λ u p. rw (act .tasks) (kept-one (SameFamily u) (family u) (x .tasks) t z p (λ e. childless u (x .tasks t) z none refl)))
-      (λ u. rw (act .letters) (flat-without (endedTo u) (x .letters) (act .p) (act .letter) (no-ended u t (act .at))))
+      (λ u. rw (act .letters) (flat-without (endedTo u) (x .letters) (act .p) (act .letter) (no-ended u (act .at) t)))
 
   pub kindred-ended : {y : Reading} → EndedAct m h x y → Kindred m y
   kindred-ended {y} act =
@@ -189,7 +154,7 @@ module _ (m : Programs) (a : planAnswer m ≡ Accepted) {h : Histories} {s : Net
       (kept-one (SameFamily u) (family u) (x .tasks) p z v (λ e. lost-family (x .tasks p) t u (omega arith) i (λ o. q (sym o) e))))
       (λ u ne.
       rw (act .letters)
-      (flat-without (endedTo u) (x .letters) (act .p) (act .letter) (other-ended u t (act .at) (λ o. ne (sym o)))))
+      (flat-without (endedTo u) (x .letters) (act .p) (act .letter) (other-ended u (act .at) t (λ o. ne (sym o)))))
 
   module _ (y : Reading) (t : TaskId) (number : within 1 (length m) (t .0) ≡ true) (ready : isIn Ready (x .tasks t) ≡ true) where
     -- a task that finishes keeps its set
@@ -198,8 +163,7 @@ module _ (m : Programs) (a : planAnswer m ≡ Accepted) {h : Histories} {s : Net
 
     apart : t .0 ≢ 1 → parentOf m t .0 ≢ t .0
     apart first =
-        parent-other m a t
-        (within-both 2 (length m) (t .0) (omega (arith, within-low 1 (length m) (t .0) number)) (within-high 1 (length m) (t .0) number))
+        parent-other m a t (child-number (length m) (t .0) number first)
 
     finishing : Finishing m x y t → Kindred m y
     finishing (alone e f l) =
@@ -236,7 +200,7 @@ module _ (m : Programs) (a : planAnswer m ≡ Accepted) {h : Histories} {s : Net
         rw (parent, child, l, flat-post (endedTo t) (x .letters) (Terminated d t) (one (d .0)) (own-ended t d)) (away-child (r .children t j) ready))
         (λ u ne. rw (f, at-other (x .tasks) t u z ne) (life (x .tasks u)))
         (λ u v j q. rw f (kept-one (SameFamily u) (family u) (x .tasks) t z v (λ o. finishes u)))
-        (λ u ne. rw l (flat-post-nothing (endedTo u) (x .letters) (Terminated d t) (other-ended u t d (λ o. ne (sym o)))))
+        (λ u ne. rw l (flat-post-nothing (endedTo u) (x .letters) (Terminated d t) (other-ended u d t (λ o. ne (sym o)))))
 
   pub kindred-finish : {y : Reading} → FinishAct m h x y → Kindred m y
   kindred-finish {y} act = finishing y (act .task) (act .runs .number) (act .runs .ready) (act .finishing)
@@ -249,15 +213,15 @@ module _ (m : Programs) (a : planAnswer m ≡ Accepted) {h : Histories} {s : Net
       let n = x .processors in
       let parent = r .kin c u j e in
       let two = child-within m a c u (within-low 1 (length m) (c .0) i) parent in
-      let one = within-both 1 (length m) (u .0) j (within-high 2 (length m) (u .0) two) in
+      let one = task-number (length m) (u .0) two in
       let k = rw parent at (r .children u two) in
       tests-differ e
-      (nowhere-childless k (unborn-nowhere n (length m) (programOf m c) (x .tasks c) (r .tasks c i) b)
+      (nowhere-childless k (unborn-is n (length m) (programOf m c) (x .tasks c) (r .tasks c i) b .nowhere)
       (λ f. within-low 1 n (x .tasks u .home .0) (born-passed n (length m) (programOf m u) (x .tasks u) (r .tasks u one) f .home))))
 
   module _ {h' : Histories} {y : Reading} (act : CreateAct m h h' x y) where
     -- who creates is the parent, and another task
-    pub create-parent : parentOf m (act .child) ≡ act .task
+    create-parent : parentOf m (act .child) ≡ act .task
     unfolding nextIn
     create-parent =
         let t = act .task in
@@ -268,11 +232,9 @@ module _ (m : Programs) (a : planAnswer m ≡ Accepted) {h : Histories} {s : Net
         created-by m a (act .child .0) (t .0 - 1) (x .tasks t .pc - 1) (omega arith) (omega arith) next ∙ ap taskId (omega arith)
 
     create-apart : act .task .0 ≢ act .child .0
-    create-apart e =
-        let i : act .task ≡ act .child = ap taskId e in
-        tests-differ (rw i at (act .runs .ready)) (state-is Unborn Ready (x .tasks (act .child)) (act .unborn))
+    create-apart e = unborn-apart (x .tasks) (act .task) (act .child) (act .runs .ready) (act .unborn) (sym e)
 
-    pub create-within : within 2 (length m) (act .child .0) ≡ true
+    create-within : within 2 (length m) (act .child .0) ≡ true
     create-within = child-within m a (act .task) (act .child) (within-low 1 (length m) (act .task .0) (act .runs .number)) create-parent
 
     pub kindred-create : Kindred m y
@@ -283,7 +245,7 @@ module _ (m : Programs) (a : planAnswer m ≡ Accepted) {h : Histories} {s : Net
         let z = createRule (x .tasks t) c in
         let made = atTask (x .tasks) t z in
         let low = within-low 2 (length m) (c .0) create-within in
-        let one = within-both 1 (length m) (c .0) (omega arith) (within-high 2 (length m) (c .0) create-within) in
+        let one = task-number (length m) (c .0) create-within in
         let none = no-child-yet c one (act .unborn) in
         let creator : y .tasks t ≡ z = rw (act .tasks) (at-other made c t (born d) create-apart ∙ at-task (x .tasks) t z) in
         let child : y .tasks c ≡ born d = rw (act .tasks) (at-task made c (born d)) in

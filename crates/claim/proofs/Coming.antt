@@ -1,96 +1,33 @@
--- The words on their way to a task, how many instructions it has completed, and what it has executed last; and with these, where it agrees
--- with the net.
+-- The words on their way to a task, and where with these it agrees with the net.
 use mathlib.Core.Path.{_≡_, refl, sym, _∙_}
 use mathlib.Core.Bool.{Bool, true, false}
-use mathlib.Core.List.{List, [], _∷_}
-use Prim.Native.Nat.{ℕ, suc, _+_, _-_, _≤_, _<_}
+use mathlib.Core.List.{List, []}
+use Prim.Native.Nat.{suc, _+_, _-_}
 use native.Mathlib.Omega.{arith}
-use lib.Dec.{ltb}
 use lib.ListN.{length}
-use borrow.Author.Tests.{eqb-true, eq-eqb, ltb-true, lt-ltb, not-true}
+use borrow.Author.Tests.{eq-eqb, not-true}
 use Rattle.base.specs.Choice.{pick}
-use Rattle.base.proofs.Tests.{and-both, or-neither, tests-differ}
+use Rattle.base.proofs.Tests.{and-both, tests-differ}
+use Rattle.base.proofs.Choices.{pick-either}
 use Rattle.plan.specs.declared.TaskId.{TaskId}
 use Rattle.plan.specs.declared.ChannelId.{ChannelId}
 use Rattle.plan.specs.declared.Word.{Word}
 use Rattle.plan.specs.Numbers.{channelId}
-use Rattle.plan.specs.Kinds.{noInstruction}
-use Rattle.plan.specs.Programs.{Program, Programs, instructionAt}
-use Rattle.rules.specs.declared.task.TaskState.{TaskState}
-use Rattle.rules.specs.declared.task.TaskState.the-variants.{Unborn, Waiting, Sending, Receiving, Done}
+use Rattle.plan.specs.Programs.{Program, Programs}
+use Rattle.rules.specs.declared.task.TaskState.the-variants.{Unborn, Waiting, Receiving, Done}
 use Rattle.rules.specs.declared.task.Task.{Task}
 use Rattle.rules.specs.declared.message.Message.{Message}
-use Rattle.rules.specs.Tasks.{stateNumber, isIn, withState}
+use Rattle.rules.specs.Tasks.{isIn}
 use Rattle.rules.specs.Places.{lastIn, isOn}
 use Rattle.net.specs.States.{Net}
-use Rattle.channel.specs.Bags.{one, total}
-use Rattle.channel.specs.Letters.{Letter, offer, advert, call, word, isWord, words}
-use Rattle.claim.specs.Progress.{isBlocked, programOf, completedBy}
-use Rattle.claim.specs.Letters.{flat, wordIn, wordsIn, lettersOn}
-use Rattle.claim.specs.Agreement.{comingTo, wordWith, Agrees}
-use Rattle.claim.proofs.FamilyParts.{state-is}
-use Rattle.claim.proofs.Turns.{Side, sends, receives, on-in, on-operand}
-
--- the words among the letters of a channel, counted
-pub words-length : (ls : List Letter) → length (wordsIn ls) ≡ words ls
-unfolding flat wordIn total isWord
-words-length [] = refl
-words-length (offer to d w k ∷ ls) = omega (arith, words-length ls)
-words-length (advert to d ∷ ls) = omega (arith, words-length ls)
-words-length (call to d k ∷ ls) = omega (arith, words-length ls)
-words-length (word to x ∷ ls) = omega (arith, words-length ls)
-
-pub none-of : {A : Type 0} (xs : List A) → length xs ≡ 0 → xs ≡ []
-none-of [] e = refl
-none-of (x ∷ xs) e = absurd (omega arith)
-
-module _ (x : Task) where
-  -- a state says whether a task is blocked
-  pub blocked-in : (s : TaskState) → isIn s x ≡ true → isBlocked x ≡ isBlocked (withState x s)
-  blocked-in s e = rw (eqb-true (stateNumber (x .state)) (stateNumber s) e) refl
-
-  pub completed-free : isBlocked x ≡ false → completedBy x ≡ x .pc - 1
-  unfolding completedBy
-  completed-free e = rw e refl
-
-  pub completed-blocked : isBlocked x ≡ true → completedBy x ≡ x .pc - 2
-  unfolding completedBy
-  completed-blocked e = rw e refl
-
-  -- an unblocked task neither waits nor receives
-  pub not-waiting : isBlocked x ≡ false → isIn Waiting x ≡ false
-  not-waiting e = or-neither (isIn Waiting x) _ e .0
-
-  pub not-receiving : isBlocked x ≡ false → isIn Receiving x ≡ false
-  not-receiving e = or-neither (isIn Sending x) (isIn Receiving x) (or-neither (isIn Waiting x) _ e .1) .1
-
--- who sends or receives is born and blocked
-pub side-born : {k : ℕ} {s : TaskState} → Side k s → (x : Task) → isIn s x ≡ true → isIn Unborn x ≡ false
-side-born sends x e = state-is Sending Unborn x e
-side-born receives x e = state-is Receiving Unborn x e
-
-pub side-blocked : {k : ℕ} {s : TaskState} → Side k s → (x : Task) → isIn s x ≡ true → isBlocked x ≡ true
-side-blocked sends x e = blocked-in x Sending e
-side-blocked receives x e = blocked-in x Receiving e
-
-pub side-some : {k : ℕ} {s : TaskState} → Side k s → 1 ≤ k
-side-some sends = omega arith
-side-some receives = omega arith
+use Rattle.channel.specs.Bags.{one}
+use Rattle.channel.specs.Letters.{word}
+use Rattle.acts.specs.Progress.{isBlocked, programOf, completedBy}
+use Rattle.acts.specs.Letters.{wordsIn, lettersOn, flat}
+use Rattle.acts.specs.Agreement.{comingTo, wordWith, Agrees}
+use Rattle.acts.proofs.Tasks.{not-waiting, not-receiving, receives, on-in, on-operand}
 
 module _ (g : Program) (x : Task) where
-  -- the last executed instruction, where one is executed; one that has a kind is
-  pub last-is : 1 < x .pc → lastIn g x ≡ instructionAt g (x .pc - 2)
-  unfolding lastIn
-  last-is l = rw (lt-ltb 1 (x .pc) l) refl
-
-  pub last-some : 1 ≤ lastIn g x .opcode → 1 < x .pc
-  unfolding lastIn
-  last-some l = go (ltb 1 (x .pc)) refl l
-    where
-      go : (b : Bool) → ltb 1 (x .pc) ≡ b → 1 ≤ pick b (instructionAt g (x .pc - 2)) noInstruction .opcode → 1 < x .pc
-      go true e l = ltb-true 1 (x .pc) e
-      go false e l = absurd (omega arith)
-
   -- words come to whom receives, on its channel
   pub coming-none : (ms : List Message) → isIn Receiving x ≡ false → comingTo g ms x ≡ []
   unfolding comingTo
@@ -111,6 +48,11 @@ module _ (g : Program) (x : Task) where
       go : {us vs : List Word} (b : Bool) → (b ≡ true → vs ≡ us) → pick b vs [] ≡ pick b us []
       go true e = e refl
       go false e = refl
+
+-- nothing comes where there are no letters
+pub coming-empty : (g : Program) (ms : List Message) (z : Task) → ms ≡ [] → comingTo g ms z ≡ []
+unfolding comingTo flat
+coming-empty g ms z e = rw e (pick-either (λ l. l ≡ []) (isIn Receiving z) [] [] refl refl)
 
 module _ {m : Programs} {s : Net} {ms : List Message} {t : TaskId} {x : Task} (a : Agrees m s ms t x) where
   -- a task that is born, with nothing or with one word on its way to it
@@ -166,6 +108,7 @@ module _ {m : Programs} {s : Net} {ms : List Message} {t : TaskId} {x : Task} (b
   agrees-ahead b waits done e k w = agrees-by b waits done (rw e (omega arith)) (rw e w)
 
   -- a task that is neither blocked nor done
-  pub agrees-free : isIn Unborn x ≡ false → isBlocked x ≡ false → isIn Done x ≡ false → s .completed t ≡ completedBy x → s .word t ≡ x .word → Agrees m s ms t x
+  pub agrees-free : isIn Unborn x ≡ false → isBlocked x ≡ false → isIn Done x ≡ false → s .completed t ≡ completedBy x → s .word t ≡ x .word
+      → Agrees m s ms t x
   agrees-free b f d k w =
       agrees-quiet b (not-waiting x f) (λ e. absurd (tests-differ e d)) (coming-none (programOf m t) x ms (not-receiving x f)) k w

@@ -1,4 +1,4 @@
--- Demand 3.
+-- Demand 3 holds of every accepted plan, on 1 to 6 desks, with every list of steps.
 use mathlib.Core.Path.{_≡_, refl, sym, ap, subst, _∙_}
 use mathlib.Core.Logic.{_≢_}
 use mathlib.Core.Bool.{true, false, not}
@@ -13,6 +13,7 @@ use Rattle.base.specs.Lists.{every}
 use Rattle.base.specs.Beginnings.{Beginning}
 use Rattle.base.proofs.Tests.{and-both, is-false, tests-differ}
 use Rattle.base.proofs.Beginnings.{beginning-trans}
+use Rattle.machine.specs.Machines.{Normal}
 use Rattle.plan.specs.declared.PlanAnswer.the-variants.{Accepted as PlanAccepted}
 use Rattle.plan.specs.declared.Plan.{Plan}
 use Rattle.plan.specs.declared.TaskId.{TaskId}
@@ -25,7 +26,8 @@ use Rattle.plan.specs.Refusals.{planAnswer}
 use Rattle.plan.proofs.Parts.{tasks-of}
 use Rattle.plan_laws.proofs.Answers.{and-parts}
 use Rattle.rules.specs.declared.step.Step.{Step}
-use Rattle.rules.specs.declared.step.StepAnswer.the-variants.{Accepted, BadSystem, NoTask, NotReady, FinishWithChildren, NetworkFull, NoMessage, NoProcessor, AlreadyThere, MoveWithChildren, MovesSpent, BadStep}
+use Rattle.rules.specs.declared.step.StepAnswer.the-variants.{Accepted, BadSystem, NoTask, NotReady, FinishWithChildren, NetworkFull, NoMessage}
+use Rattle.rules.specs.declared.step.StepAnswer.the-variants.{NoProcessor, AlreadyThere, MoveWithChildren, MovesSpent, BadStep}
 use Rattle.rules.specs.declared.step.StepAnswer.{StepAnswer}
 use Rattle.rules.specs.declared.message.Message.{Message}
 use Rattle.rules.specs.declared.system.System.{System}
@@ -40,23 +42,23 @@ use Rattle.rules_laws.proofs.Steps.{accepted-is, step-answer, step-passed}
 use Rattle.rules_laws.proofs.StepKinds.{answer-deliver, deliver-passed}
 use Rattle.rules_laws.proofs.Sound.{letters-fit}
 use Rattle.rules_sound.proofs.Answers.{not-bad}
-use Rattle.machine.specs.Machines.{Normal}
 use Rattle.net.specs.States.{Net}
 use Rattle.net.specs.Nets.{net}
 use Rattle.net.proofs.Meaning.{passed-beginning, same-end}
-use Rattle.claim.specs.Readings.{reading}
-use Rattle.claim.specs.Progress.{programOf, unexecuted}
-use Rattle.claim.specs.Letters.{flat, lettersOn, wordsIn}
-use Rattle.claim.specs.Agreement.{Running}
+use Rattle.acts.specs.Readings.{reading}
+use Rattle.acts.specs.Progress.{programOf, unexecuted}
+use Rattle.acts.specs.Letters.{flat, lettersOn, wordsIn}
+use Rattle.acts.specs.Agreement.{Running}
 use Rattle.claim.specs.Weights.{weightOf}
-use Rattle.claim.specs.Statement.{wastes, noneWasted, acceptedOf, anyStep, from, answeredNine, notExecuted, underWay, ComesToRest, SameTask, Demand3}
+use Rattle.claim.specs.Statement.{wastes, noneWasted, acceptedOf, anyStep, from, answeredNine, notExecuted, underWay, ComesToRest, SameTask}
+use Rattle.claim.specs.Statement.{Demand3}
 use Rattle.claim.proofs.Falls.{few-left}
-use Rattle.claim.proofs.Quiet.{rest-refuses, refuses-rest, quiet-letters, quiet-ready}
 use Rattle.claim.proofs.Next.{Kept}
 use Rattle.claim.proofs.Lists.{kept-step, runs-counted, few-accepted}
+use Rattle.claim.proofs.Quiet.{rest-refuses, refuses-rest, quiet-letters, quiet-ready}
+use Rattle.claim.proofs.Whole.{start-kept, list-kept, start-work, comes-to-rest}
 use Rattle.claim.proofs.Rest.{Resting, rest-normal, at-rest-same}
 use Rattle.claim.proofs.Finds.{finds}
-use Rattle.claim.proofs.Whole.{start-kept, list-kept, start-work, comes-to-rest}
 
 module _ (p : Plan) (a : planAnswer (programs p) ≡ PlanAccepted) where
   abbrev m : Programs
@@ -66,6 +68,7 @@ module _ (p : Plan) (a : planAnswer (programs p) ≡ PlanAccepted) where
   not-nine : (n : ℕ) → n ≢ 9 → not (eqb n 9) ≡ true
   not-nine n ne = rw (ne-eqb n 9 ne) refl
 
+  -- the answer of number 9
   nine-is : (b : StepAnswer) → stepNumber b ≡ 9 → b ≡ BadSystem
   nine-is BadSystem e = refl
   nine-is Accepted e = absurd (omega arith)
@@ -95,7 +98,8 @@ module _ (p : Plan) (a : planAnswer (programs p) ≡ PlanAccepted) where
       is-false _ (λ e.
       let (deliver, rest) = and-parts (isDeliver s) _ e in
       let (accepted, lost) = and-parts (isAccepted (stepAnswer r s)) _ rest in
-      let (low, high) = deliver-passed r (s .number) (sym (answer-deliver r s deliver) ∙ step-passed r s (accepted-is (stepAnswer r s) accepted) .rule) in
+      let (low, high) =
+      deliver-passed r (s .number) (sym (answer-deliver r s deliver) ∙ step-passed r s (accepted-is (stepAnswer r s) accepted) .rule) in
       let run = subst (λ (z : Plan). Running (programs z) (k .histories) (k .state) (reading r) w) (sym (k .plan)) (k .running) in
       let here = finds r (k .shaped) (k .ok) (k .histories) run (s .number) low high in
       tests-differ lost (rw here refl))
@@ -110,15 +114,15 @@ module _ (p : Plan) (a : planAnswer (programs p) ≡ PlanAccepted) where
     no-letters : reading r .letters ≡ []
     no-letters = quiet-letters r (k .shaped) (k .ok) quiet
 
-    at-rest : Resting m (reading r)
+    resting : Resting m (reading r)
     unfolding reading
-    at-rest t is ready =
+    resting t is ready =
         let same : r .plan .tasks ≡ length m = ap (λ (z : Plan). z .tasks) (k .plan) ∙ sym (tasks-of p) in
         let q = quiet-ready r (k .shaped) (k .ok) quiet t (rw same is) ready in
         subst (λ (z : Plan). (isFinish (nextIn (programOf (programs z) t) (taskAt r t)) ≡ true) × (isChildless (taskAt r t) ≡ false)) (k .plan) q
 
     normal : Normal (net m) (k .state)
-    normal = rest-normal m a (k .reached) (k .running) no-letters at-rest
+    normal = rest-normal m a (k .reached) (k .running) no-letters resting
 
     -- all words that have passed are received
     all-received : (c : ChannelId) → k .state .passed c ≡ w c
@@ -133,7 +137,9 @@ module _ (p : Plan) (a : planAnswer (programs p) ≡ PlanAccepted) where
   module _ {r q : System} {w v : ChannelId → List Word} (k : Kept p r w) (l : Kept p q v) (rests : quiescent q ≡ true) where
     beginning : (c : ChannelId) → Beginning (w c) (v c)
     beginning c =
-        rw (all-received l rests c) at (beginning-trans (w c) (k .state .passed c) (l .state .passed c) (received-beginning k c) (passed-beginning m (k .reached) (l .reached) (normal l rests) c))
+        rw (all-received l rests c) at
+        (beginning-trans (w c) (k .state .passed c) (l .state .passed c) (received-beginning k c)
+        (passed-beginning m (k .reached) (l .reached) (normal l rests) c))
 
     -- both are at rest
     module _ (quiet : quiescent r ≡ true) where
@@ -147,7 +153,9 @@ module _ (p : Plan) (a : planAnswer (programs p) ≡ PlanAccepted) where
       unfolding reading
       same-task t is =
           let there = subst (λ (s : Net). Running m (k .histories) s (reading r) w) same-net (k .running) in
-          let e = at-rest-same m a (l .reached) there (l .running) (no-letters k quiet) (no-letters l rests) (at-rest k quiet) (at-rest l rests) t (rw (tasks-of p) is) in
+          let e =
+          at-rest-same m a (l .reached) there (l .running) (no-letters k quiet) (no-letters l rests) (resting k quiet) (resting l rests) t
+          (rw (tasks-of p) is) in
           record { state = e .state; place = e .pc; word = e .word }
 
 -- for every accepted plan, 1 to 6 desks and every list of steps
@@ -179,6 +187,7 @@ module _ (n : ℕ) (p : Plan) (ss : List Step) (some : 1 ≤ n) (few : n ≤ 6) 
   few-steps : (us : List Step) → acceptedOf isMove rig us ≡ 0 → acceptedOf anyStep rig us ≤ 10 * (notExecuted n p ss + underWay n p ss)
   few-steps us none = omega (arith, few-accepted p a here us none, few-left (programs p) (here .running), counted, letters-there)
 
+  -- the claim
   pub demand-3 : Demand3 n p ss
   demand-3 =
       record {

@@ -1,17 +1,17 @@
--- Every step keeps the tasks in their places and the children with their parents; and what a set of living children says.
+-- Every step keeps the tasks in their places and the children with their parents; and who has living children has a living child.
 use mathlib.Core.Path.{_≡_, refl, _∙_}
 use mathlib.Core.Bool.{true, false, not}
 use mathlib.Core.Logic.{_⊎_, inl, inr}
-use mathlib.Core.List.{List, [], _∷_}
+use mathlib.Core.List.{List, []}
 use Prim.Native.Nat.{ℕ, suc, _^_, _<_}
 use native.Mathlib.Omega.{arith}
 use lib.ListN.{length}
-use borrow.Author.Tests.{eqb-true, eqb-false, not-true, not-false}
+use borrow.Author.Tests.{eqb-false, not-true, not-false}
 use Rattle.base.specs.Choice.{within}
 use Rattle.base.specs.Range.{upTo}
 use Rattle.base.specs.Sets.{member}
-use Rattle.base.proofs.Tests.{is-false, is-true, within-low, within-both, up-to-at, below-cases}
-use Rattle.base.proofs.Sets.{none-member, no-member}
+use Rattle.base.proofs.Tests.{is-false, within-low, within-both, up-to-at, below-cases}
+use Rattle.base.proofs.Sets.{no-member}
 use Rattle.plan.specs.declared.PlanAnswer.the-variants.{Accepted}
 use Rattle.plan.specs.declared.TaskId.{TaskId}
 use Rattle.plan.specs.declared.ChannelId.{ChannelId}
@@ -25,16 +25,17 @@ use Rattle.rules.specs.declared.rule.Received.{Received}
 use Rattle.rules.specs.Tasks.{isIn, isChildless}
 use Rattle.rules_sound.proofs.Born.{children-few}
 use Rattle.net.specs.States.{Net}
-use Rattle.claim.specs.Readings.{Reading}
-use Rattle.claim.specs.Progress.{programOf}
-use Rattle.claim.specs.Letters.{flat, endedOf}
-use Rattle.claim.specs.Views.{Histories}
-use Rattle.claim.specs.Acts.{RunAct, transfers, owns, creates, finishes, DeliverAct, delivers, ends, arrives, MoveAct}
-use Rattle.claim.specs.Agreement.{TasksOk, Running}
-use Rattle.claim.proofs.FamilyParts.{AllPlaced, Kindred}
-pub use Rattle.claim.proofs.FamilyParts.{Families}
+use Rattle.net.proofs.Children.{child-within}
+use Rattle.acts.specs.Readings.{Reading}
+use Rattle.acts.specs.Progress.{programOf}
+use Rattle.acts.specs.Letters.{flat}
+use Rattle.acts.specs.Views.{Histories}
+use Rattle.acts.specs.Acts.{RunAct, transfers, owns, creates, finishes, DeliverAct, delivers, ends, arrives, MoveAct}
+use Rattle.acts.specs.Agreement.{Running}
+use Rattle.claim.proofs.FamilyParts.{AllPlaced, Kindred, Families}
 use Rattle.claim.proofs.PlacesKept.{places-channel, places-own, places-finish, places-ended, places-create, places-arrival, places-move}
-use Rattle.claim.proofs.ChildrenKept.{child-within, kindred-channel, kindred-own, kindred-finish, kindred-ended, kindred-create, kindred-arrival, kindred-move}
+use Rattle.claim.proofs.ChildrenKept.{kindred-channel, kindred-own, kindred-finish, kindred-ended, kindred-create, kindred-arrival}
+use Rattle.claim.proofs.ChildrenKept.{kindred-move}
 
 -- a child of task p that lives
 pub record Living (m : Programs) (x : Reading) (p : TaskId) : Type 0 where
@@ -45,24 +46,7 @@ pub record Living (m : Programs) (x : Reading) (p : TaskId) : Type 0 where
   pub born : isIn Unborn (x .tasks child) ≡ false
   pub not-done : x .letters ≡ [] → isIn Done (x .tasks child) ≡ false
 
--- a list of length 0
-empty : (xs : List ℕ) → length xs ≡ 0 → xs ≡ []
-empty [] e = refl
-empty (x ∷ xs) e = absurd (omega arith)
-
 module _ {m : Programs} {h : Histories} {s : Net} {x : Reading} {w : ChannelId → List Word} (r : Running m h s x w) where
-  -- the children of a task with an empty set have ended, and nothing is on its way about them
-  pub childless-done : (p : TaskId) → isChildless (x .tasks p) ≡ true → (u : TaskId) → within 2 (length m) (u .0) ≡ true → parentOf m u ≡ p
-      → isIn Unborn (x .tasks u) ≡ false → (isIn Done (x .tasks u) ≡ true) × (endedOf u (x .letters) ≡ [])
-  childless-done p c u i e b =
-      let none = eqb-true (x .tasks p .children) 0 c in
-      let out : member (u .0) (x .tasks p .children) ≡ false = rw none (none-member (u .0)) in
-      let k = rw e at (r .children u i) in
-      let l = rw (out, b) at (k .living) in
-      let done : isIn Done (x .tasks u) ≡ true = is-true (isIn Done (x .tasks u)) (λ d. let f = rw d at l in omega arith) in
-      let f = rw done at l in
-      (done, empty (endedOf u (x .letters)) (omega arith))
-
   -- nobody is moving where there is no letter
   pub no-moving : x .letters ≡ [] → (t : TaskId) → within 1 (length m) (t .0) ≡ true → isIn Moving (x .tasks t) ≡ false
   unfolding flat
@@ -106,6 +90,7 @@ module _ (m : Programs) (a : planAnswer m ≡ Accepted) {h : Histories} {s : Net
   both : {h' : Histories} {y : Reading} → AllPlaced m h' y → Kindred m y → Families m h' y
   both p k = record { places = p; children = k .children; kin = k .kin }
 
+  -- by each act
   pub families-run : {h' : Histories} {y : Reading} {got : Received} → RunAct m h x h' y got → Families m h' y
   families-run (transfers e act) = both (places-channel r act) (kindred-channel m a r act)
   families-run (owns act) = both (places-own r act) (kindred-own m a r act)

@@ -1,44 +1,38 @@
 -- When a task's place, its life and its family stay as they were, and what that keeps.
 use mathlib.Core.Path.{_≡_, refl, sym, ap, _∙_}
 use mathlib.Core.Bool.{Bool, true, false, _&&_}
-use mathlib.Core.Logic.{_≢_, by-cases, ⊎-elim}
-use mathlib.Core.List.{List, [], _∷_, _++_, List·Memᴰ·not-nil}
+use mathlib.Core.Logic.{_≢_, ⊎-elim}
+use mathlib.Core.List.{List, _++_, List·Memᴰ·not-nil}
 use mathlib.Core.Option.{some}
 use Prim.Native.Nat.{ℕ, _+_, _≤_}
 use native.Mathlib.Omega.{arith}
-use native.Mathlib.Decide.{ℕ-discrete}
-use lib.Dec.{eqb}
 use lib.ListN.{length, getElem?, length-append}
 use borrow.Author.Tests.{eqb-true}
 use Rattle.base.specs.Choice.{within}
 use Rattle.base.specs.Sets.{member, removed}
-use Rattle.base.proofs.Tests.{and-left, is-false, tests-differ}
+use Rattle.base.proofs.Tests.{and-left, is-false, tests-differ, is-true}
 use Rattle.base.proofs.Choices.{pick-cases}
 use Rattle.base.proofs.Sets.{member-inserted, member-removed, other-removed, removed-at-most, none-member}
-use Rattle.base.proofs.Updates.{updated-same, updated-other}
 use Rattle.plan.specs.declared.TaskId.{TaskId}
 use Rattle.plan.specs.declared.ProcessorId.{ProcessorId}
-use Rattle.plan.specs.declared.ChannelId.{ChannelId}
-use Rattle.plan.specs.declared.Word.{Word}
 use Rattle.plan.specs.declared.Instruction.{Instruction}
-use Rattle.plan.specs.Numbers.{taskId}
-use Rattle.plan.specs.Programs.{Program, Programs}
+use Rattle.plan.specs.Programs.{Programs}
 use Rattle.plan.specs.Users.{parentOf}
-use Rattle.rules.specs.declared.task.TaskState.{TaskState}
 use Rattle.rules.specs.declared.task.TaskState.the-variants.{Unborn, Ready, Waiting, Moving, Done}
 use Rattle.rules.specs.declared.task.Task.{Task}
-use Rattle.rules.specs.Tasks.{stateNumber, isIn, born, departed, arrived, readied, isChildless, withChildren, withoutChild, woken}
+use Rattle.rules.specs.Tasks.{isIn, born, departed, arrived, readied, isChildless, withChildren, withoutChild, woken}
 use Rattle.rules.specs.Local.{createRule}
 use Rattle.net.specs.States.{atTask}
 use Rattle.channel.specs.Bags.{In, one, without}
 use Rattle.channel.proofs.Bags.{in-post, in-without, length-without}
-use Rattle.claim.specs.Readings.{Reading}
-use Rattle.claim.specs.Letters.{endedOf, moversOf}
-use Rattle.claim.specs.Views.{Histories}
-use Rattle.claim.specs.Family.{Placed, Child, Kin}
-use Rattle.claim.specs.Turns.{Turn}
-use Rattle.claim.specs.Acts.{Own, goes-on, waits, finished}
-use Rattle.claim.proofs.Turns.{Side, turn-alike}
+use Rattle.acts.specs.Readings.{Reading}
+use Rattle.acts.specs.Letters.{endedOf, moversOf}
+use Rattle.acts.specs.Views.{Histories}
+use Rattle.acts.specs.Acts.{Own, goes-on, waits, finished}
+use Rattle.acts.specs.Family.{Placed, Child, Kin}
+use Rattle.acts.proofs.Updates.{at-elim}
+use Rattle.acts.proofs.Flats.{none-of}
+use Rattle.acts.proofs.Tasks.{state-is, Steady, unchanged, steady-change, ready-stands, waiting-stands}
 
 -- every task is in its place, and every child belongs to its parent
 abbrev pub AllPlaced : Programs → Histories → Reading → Type 0
@@ -59,12 +53,7 @@ pub record Families (m : Programs) (h : Histories) (x : Reading) : Type 0 where
 
 -- an empty list has nothing in it
 pub none-in : {C : Type 0} {A : Type 0} (xs : List A) {a : A} → length xs ≡ 0 → In a xs → C
-none-in [] e i = absurd (List·Memᴰ·not-nil i)
-none-in (x ∷ xs) e i = absurd (omega arith)
-
--- the state of a task says which other state it is in
-pub state-is : (s z : TaskState) (x : Task) → isIn s x ≡ true → isIn z x ≡ eqb (stateNumber s) (stateNumber z)
-state-is s z x e = rw (eqb-true (stateNumber (x .state)) (stateNumber s) e) refl
+none-in xs e i = absurd (List·Memᴰ·not-nil (rw (none-of xs e) at i))
 
 -- the task is where it was
 pub record SamePlace (x z : Task) : Type 0 where
@@ -106,16 +95,6 @@ same-child f l k =
       address = rw (l .home) (k .address);
     }
 
--- all three
-pub record Steady (x z : Task) : Type 0 where
-  pub processor : z .processor ≡ x .processor
-  pub home : z .home ≡ x .home
-  pub moves : z .moves ≡ x .moves
-  pub children : z .children ≡ x .children
-  pub unborn : isIn Unborn z ≡ isIn Unborn x
-  pub moving : isIn Moving z ≡ isIn Moving x
-  pub done : isIn Done z ≡ isIn Done x
-
 module _ {x z : Task} (e : Steady x z) where
   pub steady-place : SamePlace x z
   steady-place = record { processor = e .processor; moves = e .moves; unborn = e .unborn; moving = e .moving; alone = λ i c. e .children ∙ c }
@@ -126,62 +105,21 @@ module _ {x z : Task} (e : Steady x z) where
   pub steady-family : (u : TaskId) → SameFamily u x z
   steady-family u = record { members = ap (member (u .0)) (e .children); processor = λ i. e .processor }
 
-pub unchanged : (x : Task) → Steady x x
-unchanged x = record { processor = refl; home = refl; moves = refl; children = refl; unborn = refl; moving = refl; done = refl }
-
--- what is read of the one that changes, and of another
-pub at-task : {A : Type 0} (f : TaskId → A) (t : TaskId) (z : A) → atTask f t z t ≡ z
-at-task f t z = updated-same (λ (v : TaskId). v .0) f t z
-
-pub at-other : {A : Type 0} (f : TaskId → A) (t u : TaskId) (z : A) → u .0 ≢ t .0 → atTask f t z u ≡ f u
-at-other f t u z ne = updated-other (λ (v : TaskId). v .0) f t u z ne
-
 -- what is kept of task u where it is kept of the one that changes, or of the two
 module _ (P : Task → Task → Type 0) (same : (x : Task) → P x x) (f : TaskId → Task) where
   pub kept-one : (t : TaskId) (z : Task) (u : TaskId) → (u .0 ≡ t .0 → P (f t) z) → P (f u) (atTask f t z u)
-  kept-one t z u p =
-      by-cases
-      (ℕ-discrete (u .0) (t .0))
-      (λ (e : u .0 ≡ t .0). let i : u ≡ t = ap taskId e in rw (i, at-task f t z) (p e))
-      (λ ne. rw (at-other f t u z ne) (same (f u)))
+  kept-one t z u p = at-elim (λ v a. v .0 ≡ u .0 → P (f v) a) f t z (λ e. p (sym e)) (λ v ne e. same (f v)) u refl
 
   pub kept-two : (s t : TaskId) (y z : Task) (u : TaskId) → (u .0 ≡ s .0 → P (f s) y) → (u .0 ≡ t .0 → P (f t) z)
       → P (f u) (atTask (atTask f s y) t z u)
   kept-two s t y z u p q =
-      by-cases
-      (ℕ-discrete (u .0) (t .0))
-      (λ (e : u .0 ≡ t .0). let i : u ≡ t = ap taskId e in rw (i, at-task (atTask f s y) t z) (q e))
-      (λ ne. rw (at-other (atTask f s y) t u z ne) (kept-one s y u p))
-
--- a transfer
-pub turn-steady : {k : ℕ} {s : TaskState} → Side k s → {g : Program} {c : ChannelId} {x : Task} {n : ℕ} {w : Word} {z : Task}
-    → Turn g k s c x n w z → Steady x z
-turn-steady side t =
-    let e = turn-alike side t in
-    record {
-      processor = e .processor;
-      home = e .home;
-      moves = e .moves;
-      children = e .children;
-      unborn = e .unborn;
-      moving = e .moving;
-      done = e .done;
-    }
+      at-elim (λ v a. v .0 ≡ u .0 → P (f v) a) (atTask f s y) t z (λ e. q (sym e)) (λ v ne e. kept-one s y v (λ o. p (sym e ∙ o))) u refl
 
 -- an instruction of its own
 pub own-steady : {i : Instruction} {x z : Task} → isIn Ready x ≡ true → Own i x z → Steady x z
-own-steady r (goes-on t j) =
+own-steady {x = x} r (goes-on t j) =
     record { processor = refl; home = refl; moves = refl; children = refl; unborn = refl; moving = refl; done = refl }
-own-steady {x = x} r (waits o c) =
-    record {
-      processor = refl;
-      home = refl;
-      moves = refl;
-      children = refl;
-      unborn = sym (state-is Ready Unborn x r);
-      moving = sym (state-is Ready Moving x r);
-      done = sym (state-is Ready Done x r);
-    }
+own-steady {x = x} r (waits o c) = steady-change ready-stands waiting-stands x r (x .pc + 1) (x .word)
 
 -- a task that creates u, and one that finishes
 module _ (x : Task) (ready : isIn Ready x ≡ true) where
@@ -205,24 +143,12 @@ module _ (x : Task) (ready : isIn Ready x ≡ true) where
         alone = λ i c. c;
       }
 
--- a task that no longer waits
-readied-steady : (x : Task) → isIn Waiting x ≡ true → Steady x (readied x)
-readied-steady x e =
-    record {
-      processor = refl;
-      home = refl;
-      moves = refl;
-      children = refl;
-      unborn = sym (state-is Waiting Unborn x e);
-      moving = sym (state-is Waiting Moving x e);
-      done = sym (state-is Waiting Done x e);
-    }
-
+-- a task that may no longer wait
 woken-steady : (x : Task) → Steady x (woken x)
 unfolding woken
 woken-steady x =
     pick-cases (Steady x) (isIn Waiting x && isChildless x) (readied x) x
-    (λ e. readied-steady x (and-left (isIn Waiting x) (isChildless x) e))
+    (λ e. steady-change waiting-stands ready-stands x (and-left (isIn Waiting x) (isChildless x) e) (x .pc) (x .word))
     (λ e. unchanged x)
 
 -- a task that loses child t
@@ -309,6 +235,12 @@ module _ {u : TaskId} {parent child : Task} {ended : List ℕ} (k : Child u pare
         home = λ i. absurd (tests-differ i out);
         address = λ d i. k .address d (in-without ended p i);
       }
+
+  -- a born child of a task with no living children is done
+  pub childless-done : isChildless parent ≡ true → isIn Unborn child ≡ false → isIn Done child ≡ true
+  childless-done e b =
+      let out : member (u .0) (parent .children) ≡ false = rw (eqb-true (parent .children) 0 e) (none-member (u .0)) in
+      is-true (isIn Done child) (λ d. let l = rw (out, b, d) at (k .living) in omega arith)
 
   -- a parent that is nowhere has no child
   pub nowhere-childless : parent .processor .0 ≡ 0 → (isIn Unborn child ≡ false → 1 ≤ child .home .0) → member (u .0) (parent .children) ≡ false

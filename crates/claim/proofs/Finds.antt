@@ -18,21 +18,31 @@ use Rattle.rules.specs.Numbers.{processorOk}
 use Rattle.rules.specs.Networks.{letterAt}
 use Rattle.rules.specs.Systems.{meaning}
 use Rattle.rules.specs.Sound.{messageOk, systemOk}
+use Rattle.rules.specs.declared.channel.Hint.{Hint}
 use Rattle.rules_laws.specs.Shapes.{Shaped}
-use Rattle.rules_sound.proofs.Sound.{sound}
 use Rattle.net.specs.States.{Net}
-use Rattle.claim.specs.Readings.{reading}
-use Rattle.claim.specs.Views.{Histories}
-use Rattle.claim.specs.Agreement.{Running}
+use Rattle.acts.specs.Readings.{reading}
+use Rattle.acts.specs.Views.{Histories}
+use Rattle.acts.specs.Agreement.{Running}
+use Rattle.acts.proofs.Rigs.{letter-ok, letter-at, plan-accepted}
+use Rattle.acts.proofs.EndedActs.{living, at-parent}
+use Rattle.acts.proofs.ArrivalActs.{arriving}
+use Rattle.acts.proofs.CallActs.{call-found, word-found}
 use Rattle.claim.specs.Statement.{findsIts}
-use Rattle.claim.proofs.LetterActs.{letter-ok, letter-at}
-use Rattle.claim.proofs.CallActs.{call-found, data-found}
-use Rattle.claim.proofs.EndedActs.{living, at-parent}
-use Rattle.claim.proofs.ArrivalActs.{arriving}
 
 module _ (r : System) (shaped : Shaped r) (ok : systemOk r ≡ true) (h : Histories) {s : Net} {w : ChannelId → List Word}
     (run : Running (meaning r) h s (reading r) w) (p : ℕ) (low : 1 ≤ p) (high : p ≤ r .network .used) where
-  -- an ended letter, and a mover
+  -- a call, a word, an ended letter and a mover
+  finds-call : (c : ChannelId) (d : ProcessorId) (hint : Hint) → letterAt (r .network) p ≡ ReadyToReceive c d hint
+      → findsIts r (ReadyToReceive c d hint) ≡ true
+  unfolding findsIts reading
+  finds-call c d hint e = let (sending, here) = call-found r shaped ok h run p low high c d hint e in and-both _ _ sending here
+
+  finds-word : (c : ChannelId) (d : ProcessorId) (value : Word) → letterAt (r .network) p ≡ Data c d value → findsIts r (Data c d value) ≡ true
+  unfolding findsIts reading
+  finds-word c d value e =
+      let (here, receiving, called) = word-found r shaped ok h run p low high c d value e in and-both _ _ here (and-both _ _ receiving called)
+
   finds-ended : (d : ProcessorId) (t : TaskId) → letterAt (r .network) p ≡ Terminated d t → findsIts r (Terminated d t) ≡ true
   unfolding findsIts
   finds-ended d t e = and-both _ _ (at-parent r shaped ok h run p low high d t e) (living r shaped ok h run p low high d t e)
@@ -42,7 +52,8 @@ module _ (r : System) (shaped : Shaped r) (ok : systemOk r ≡ true) (h : Histor
   finds-mover d t e =
       let ok-letter = letter-ok r shaped ok p low high (Migration d t) e in
       let number : within 1 (length (meaning r)) (t .0) ≡ true = rw (tasks-of (r .plan)) (and-right (processorOk (r .processors) d) _ ok-letter) in
-      arriving (meaning r) (sound r shaped ok .frame .plan) h (reading r) (p - 1) d t (letter-at r shaped ok p low high (Migration d t) e) number (run .tasks t number)
+      arriving (meaning r) (plan-accepted r shaped ok) h (reading r) (p - 1) d t (letter-at r shaped ok p low high (Migration d t) e) number
+      (run .tasks t number)
       (run .places t number) .moving
 
   pub finds : findsIts r (letterAt (r .network) p) ≡ true
@@ -53,7 +64,7 @@ module _ (r : System) (shaped : Shaped r) (ok : systemOk r ≡ true) (h : Histor
       go Empty e = absurd (tests-differ (letter-ok r shaped ok p low high Empty e) refl)
       go (Offered c o hint) e = rw e refl
       go (Advert c d from) e = rw e refl
-      go (ReadyToReceive c d hint) e = rw e (call-found r shaped ok h run p low high c d hint e)
-      go (Data c d x) e = rw e (data-found r shaped ok h run p low high c d x e)
+      go (ReadyToReceive c d hint) e = rw e (finds-call c d hint e)
+      go (Data c d x) e = rw e (finds-word c d x e)
       go (Terminated d t) e = rw e (finds-ended d t e)
       go (Migration d t) e = rw e (finds-mover d t e)

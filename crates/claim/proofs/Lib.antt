@@ -1,47 +1,36 @@
--- Demand 3.
-pub mod Flats
-pub mod Frames
-pub mod Turns
-pub mod Unseen
-pub mod Outcomes
-pub mod Runs
-pub mod FamilyParts
-pub mod Coming
-pub mod NetSteps
-pub mod OwnActs
-pub mod FinishActs
-pub mod EndedActs
-pub mod PlaceViews
-pub mod CreateActs
-pub mod MoveActs
-pub mod ArrivalActs
-pub mod LetterActs
-pub mod OfferActs
-pub mod AdvertActs
-pub mod CallActs
-pub mod Transfers
-pub mod SendActs
-pub mod ReceiveActs
-pub mod Dispatch
-pub mod StartViews
-pub mod Starts
+-- Demand 3, proved.
+-- the measure falls
 pub mod Work
 pub mod TaskLetters
+pub mod ChannelFalls
+pub mod TaskFalls
 pub mod Falls
+-- what holds of channels and of families is kept
 pub mod ViewsKept
+pub mod FamilyParts
 pub mod PlacesKept
 pub mod ChildrenKept
 pub mod Families
+-- the net runs beside the rig
+pub mod Coming
+pub mod NetSteps
 pub mod NetChannel
-pub mod NetEnds
 pub mod NetTasks
+pub mod NetEnds
 pub mod Simulation
+-- the start, each step, and lists of steps
+pub mod StartViews
+pub mod Starts
 pub mod Next
 pub mod Lists
 pub mod Quiet
+pub mod Whole
+-- a rig at rest, and letters that find what they suppose
 pub mod Rest
 pub mod Finds
-pub mod Whole
+-- the claim
 pub mod Demand3
-pub mod Example
 pub mod Corollaries
+-- what it says of one run, and that its tests tell rigs apart
+pub mod Example
+pub mod Suppositions

@@ -1,10 +1,10 @@
 -- A list of steps: what holds is kept, each run executes one instruction, and without moves only so many steps are accepted.
 use mathlib.Core.Path.{_≡_, refl, sym, ap, subst, fun-ext, _∙_}
-use mathlib.Core.Bool.{Bool, true, false, _&&_}
-use mathlib.Core.List.{List, [], _∷_, _++_, append-nil, append-assoc}
+use mathlib.Core.Bool.{Bool, true, false}
+use mathlib.Core.List.{List, [], _∷_, _++_, append-assoc}
 use Prim.Native.Nat.{_+_, _≤_}
 use native.Mathlib.Omega.{arith}
-use Rattle.base.proofs.Tests.{is-false}
+use Rattle.base.proofs.Tests.{is-false, and-true, and-false}
 use Rattle.plan.specs.declared.PlanAnswer.the-variants.{Accepted as PlanAccepted}
 use Rattle.plan.specs.declared.Plan.{Plan}
 use Rattle.plan.specs.declared.ChannelId.{ChannelId}
@@ -18,27 +18,21 @@ use Rattle.rules.specs.declared.system.System.{System}
 use Rattle.rules.specs.Answers.{isAccepted}
 use Rattle.rules.specs.Steps.{isRun, isMove, stepAnswer, refused, step, stepsBy, steps, wordOn, receivedOn}
 use Rattle.rules_laws.proofs.Steps.{accepted-is, step-refused}
-use Rattle.claim.specs.Readings.{reading}
-use Rattle.claim.specs.Progress.{flag, unexecuted}
+use Rattle.acts.specs.Readings.{reading}
+use Rattle.acts.specs.Progress.{flag, unexecuted}
 use Rattle.claim.specs.Weights.{weightOf}
 use Rattle.claim.specs.Statement.{acceptedOf, anyStep}
-use Rattle.claim.proofs.Next.{Kept, next}
+use Rattle.claim.proofs.Next.{Kept, next, no-more}
 
-and-true : (b : Bool) → (b && true) ≡ b
-and-true true = refl
-and-true false = refl
-
-and-false : (b : Bool) → (b && false) ≡ false
-and-false true = refl
-and-false false = refl
+-- a test holds, or it fails
+pub either : {C : Type 0} (b : Bool) → (b ≡ true → C) → (b ≡ false → C) → C
+either true f g = f refl
+either false f g = g refl
 
 -- a step is refused, or accepted
 step-either : {C : Type 0} (r : System) (s : Step) → (isAccepted (stepAnswer r s) ≡ false → C) → (stepAnswer r s ≡ Accepted → C) → C
-step-either {C} r s refusal acceptance = go (isAccepted (stepAnswer r s)) refl
-  where
-    go : (b : Bool) → isAccepted (stepAnswer r s) ≡ b → C
-    go true e = acceptance (accepted-is (stepAnswer r s) e)
-    go false e = refusal e
+step-either r s refusal acceptance =
+    either (isAccepted (stepAnswer r s)) (λ e. acceptance (accepted-is (stepAnswer r s) e)) refusal
 
 -- a refused one leaves the rig, and counts for nothing; an accepted one counts if it passes the test
 module _ (r : System) (s : Step) where
@@ -58,15 +52,16 @@ module _ (r : System) (s : Step) where
     uncounted e = rw (e, and-false (test s), left e) (omega arith)
 
 module _ (p : Plan) (a : planAnswer (programs p) ≡ PlanAccepted) where
-  pub kept-step : {r : System} {w : ChannelId → List Word} → Kept p r w → (s : Step) → Kept p (step r s .system) (λ c. w c ++ wordOn c (step r s .report .received))
+  pub kept-step : {r : System} {w : ChannelId → List Word} → Kept p r w → (s : Step)
+      → Kept p (step r s .system) (λ c. w c ++ wordOn c (step r s .report .received))
   unfolding wordOn
   kept-step {r} {w} k s =
-      let same : _≡_ {A = ChannelId → List Word} (λ c. w c ++ []) w = fun-ext (λ c. append-nil (w c)) in
-      step-either r s (λ e. rw (stays r s e, same) k) (λ e. next p a k s e .kept)
+      step-either r s (λ e. rw (stays r s e, no-more w) k) (λ e. next p a k s e .kept)
 
-  pub kept-steps : {r : System} {w : ChannelId → List Word} → Kept p r w → (ss : List Step) → Kept p (steps r ss .system) (λ c. w c ++ receivedOn c (steps r ss .reports))
+  pub kept-steps : {r : System} {w : ChannelId → List Word} → Kept p r w → (ss : List Step)
+      → Kept p (steps r ss .system) (λ c. w c ++ receivedOn c (steps r ss .reports))
   unfolding stepsBy receivedOn
-  kept-steps {r} {w} k [] = let same : _≡_ {A = ChannelId → List Word} (λ c. w c ++ []) w = fun-ext (λ c. append-nil (w c)) in rw same k
+  kept-steps {r} {w} k [] = rw (no-more w) k
   kept-steps {r} {w} k (s ∷ ss) =
       subst (Kept p (steps (step r s .system) ss .system))
       (fun-ext (λ c. append-assoc (w c) (wordOn c (step r s .report .received)) (receivedOn c (steps (step r s .system) ss .reports))))

@@ -2,20 +2,17 @@
 use mathlib.Core.Path.{_≡_, refl, sym, ap, _∙_}
 use mathlib.Core.Bool.{true, false}
 use mathlib.Core.List.{List, [], _∷_, _++_, append-nil, append-assoc}
-use mathlib.Core.Logic.{_≢_, by-cases}
+use mathlib.Core.Logic.{_≢_}
 use Prim.Native.Nat.{ℕ, suc, _+_, _≤_}
-use native.Mathlib.Decide.{ℕ-discrete}
 use native.Mathlib.Omega.{arith}
 use lib.ListN.{length}
 use borrow.Author.Tests.{eq-eqb, ne-eqb}
 use Rattle.base.proofs.Tests.{and-both, tests-differ, is-true}
-use Rattle.base.proofs.Updates.{updated-same, updated-other}
 use Rattle.machine.specs.Machines.{stop, take}
 use Rattle.plan.specs.declared.PlanAnswer.the-variants.{Accepted}
 use Rattle.plan.specs.declared.TaskId.{TaskId}
 use Rattle.plan.specs.declared.ChannelId.{ChannelId}
 use Rattle.plan.specs.declared.Word.{Word}
-use Rattle.plan.specs.Numbers.{channelId}
 use Rattle.plan.specs.Kinds.{opSend, opReceive}
 use Rattle.plan.specs.Programs.{Program, Programs}
 use Rattle.plan.specs.Users.{senderOf, receiverOf}
@@ -25,8 +22,7 @@ use Rattle.rules.specs.declared.task.TaskState.the-variants.{Unborn, Ready, Wai
 use Rattle.rules.specs.declared.task.Task.{Task}
 use Rattle.rules.specs.declared.message.Message.{Message}
 use Rattle.rules.specs.declared.rule.Received.{Received}
-use Rattle.rules.specs.declared.rule.Received.the-variants.{Nothing}
-use Rattle.rules.specs.declared.rule.Received.the-variants.{Word as GotWord}
+use Rattle.rules.specs.declared.rule.Received.the-variants.{Nothing, Word as GotWord}
 use Rattle.rules.specs.Tasks.{isIn}
 use Rattle.rules.specs.Places.{isOn}
 use Rattle.rules.specs.Steps.{wordOn}
@@ -41,17 +37,20 @@ use Rattle.channel.specs.Bags.{one}
 use Rattle.channel.specs.Events.{Event}
 use Rattle.channel.specs.Invariant.{Invariant}
 use Rattle.channel.proofs.Keep.{keeps}
-use Rattle.claim.specs.Readings.{Reading}
-use Rattle.claim.specs.Progress.{flag, programOf, completedBy}
-use Rattle.claim.specs.Letters.{wordsIn, lettersOn}
-use Rattle.claim.specs.Views.{Histories, receiverView, viewOf}
-use Rattle.claim.specs.Turns.{Turn, stays, begins, passes, ends}
-use Rattle.claim.specs.Acts.{Passing, nothing, direct, called, taken, ChannelAct}
-use Rattle.claim.specs.Agreement.{comingTo, Agrees, PassedAlike, Running}
-use Rattle.claim.proofs.FamilyParts.{state-is}
-use Rattle.claim.proofs.Turns.{Side, sends, receives, on-in, begins-on, ready-off, turn-alike, turn-completed, turn-word}
-use Rattle.claim.proofs.Coming.{words-length, none-of, coming-none, coming-on, coming-alike, agrees-born, agrees-completed, agrees-word, ahead-completed, ahead-word, alike-agrees, agrees-quiet, agrees-ahead, agrees-free}
-use Rattle.claim.proofs.NetSteps.{Follows, at-elim, stands-use, stands-on, receives-there}
+use Rattle.acts.specs.Readings.{Reading}
+use Rattle.acts.specs.Progress.{flag, programOf, completedBy}
+use Rattle.acts.specs.Letters.{wordsIn, lettersOn}
+use Rattle.acts.specs.Views.{Histories, receiverView, viewOf}
+use Rattle.acts.specs.Turns.{Turn, stays, begins, passes, ends}
+use Rattle.acts.specs.Acts.{Passing, nothing, direct, called, taken, ChannelAct}
+use Rattle.acts.specs.Agreement.{comingTo, Agrees, PassedAlike, Running}
+use Rattle.acts.proofs.Updates.{at-task, at-other, at-elim, channel-cases, at-channel, at-other-channel}
+use Rattle.acts.proofs.Flats.{words-length, none-of}
+use Rattle.acts.proofs.Tasks.{state-is, Side, sends, receives, on-in, ready-off}
+use Rattle.acts.proofs.Turns.{begins-on, turn-completed, turn-word, turn-steady}
+use Rattle.claim.proofs.Coming.{coming-none, coming-on, coming-alike, agrees-born, agrees-completed, agrees-word, ahead-completed, ahead-word}
+use Rattle.claim.proofs.Coming.{alike-agrees, agrees-quiet, agrees-ahead, agrees-free}
+use Rattle.claim.proofs.NetSteps.{Follows, stands-use, stands-on, receives-there}
 
 -- a word is under way only to whom receives
 module _ (m : Programs) (h : Histories) (x : Reading) (c : ChannelId) (i : Invariant (viewOf m h x c)) where
@@ -59,10 +58,11 @@ module _ (m : Programs) (h : Histories) (x : Reading) (c : ChannelId) (i : Invar
   unfolding viewOf receiverView
   words-few = let k = i .counts in omega (arith, words-length (lettersOn c (x .letters)), k .marked, k .receives)
 
-  pub words-none : isOn Receiving (programOf m (receiverOf m c)) c (x .tasks (receiverOf m c)) ≡ false → wordsIn (lettersOn c (x .letters)) ≡ []
+  words-none : isOn Receiving (programOf m (receiverOf m c)) c (x .tasks (receiverOf m c)) ≡ false → wordsIn (lettersOn c (x .letters)) ≡ []
   words-none e = none-of (wordsIn (lettersOn c (x .letters))) (let l = rw e at words-few in omega arith)
 
-  pub words-received : (v : Word) → wordsIn (lettersOn c (x .letters)) ≡ one v → isOn Receiving (programOf m (receiverOf m c)) c (x .tasks (receiverOf m c)) ≡ true
+  words-received : (v : Word) → wordsIn (lettersOn c (x .letters)) ≡ one v
+      → isOn Receiving (programOf m (receiverOf m c)) c (x .tasks (receiverOf m c)) ≡ true
   words-received v e = is-true _ (λ f. let l : 1 ≤ 0 = rw (e, f) at words-few in omega arith)
 
 -- nothing is on its way to an end that completes its instruction
@@ -88,7 +88,8 @@ module _ {m : Programs} {s s' : Net} {ms ns : List Message} {t : TaskId} {x : Ta
       (omega (arith, agrees-completed a none, turn-completed sends low u))
       (w ∙ agrees-word a none ∙ sym (turn-word u ∙ e))
 
-  pub sender-agrees : {n : ℕ} {v : Word} {z : Task} → Turn (programOf m t) opSend Sending c x n v z → v ≡ x .word → s' .completed t ≡ s .completed t + n
+  sender-agrees : {n : ℕ} {v : Word} {z : Task} → Turn (programOf m t) opSend Sending c x n v z → v ≡ x .word
+      → s' .completed t ≡ s .completed t + n
       → s' .word t ≡ s .word t → comingTo (programOf m t) ns x ≡ comingTo (programOf m t) ms x → Agrees m s' ns t z
   sender-agrees stays e k w same = alike-agrees a born (omega arith) w same
   sender-agrees (begins u) e k w same =
@@ -100,7 +101,8 @@ module _ {m : Programs} {s s' : Net} {ms ns : List Message} {t : TaskId} {x : Ta
       sender-turned (ends v o) e k w (state-is Sending Unborn x q) (state-is Sending Receiving x q) refl refl refl refl
 
   -- the receiver, which completes nothing, while no word leaves
-  pub receiver-agrees : {v : Word} {z : Task} → Turn (programOf m t) opReceive Receiving c x 0 v z → s' .completed t ≡ s .completed t → s' .word t ≡ s .word t
+  receiver-agrees : {v : Word} {z : Task} → Turn (programOf m t) opReceive Receiving c x 0 v z → s' .completed t ≡ s .completed t
+      → s' .word t ≡ s .word t
       → comingTo (programOf m t) ns x ≡ comingTo (programOf m t) ms x → (isOn Receiving (programOf m t) c x ≡ false → wordsIn (lettersOn c ns) ≡ [])
       → Agrees m s' ns t z
   receiver-agrees stays k w same quiet = alike-agrees a born k w same
@@ -113,20 +115,22 @@ module _ {m : Programs} {s s' : Net} {ms ns : List Message} {t : TaskId} {x : Ta
       (w ∙ agrees-word a none)
 
   -- a word leaves, and the receiver receives
-  pub receiver-ahead : {v u : Word} {z : Task} → Turn (programOf m t) opReceive Receiving c x 0 v z → isOn Receiving (programOf m t) c z ≡ true
-      → comingTo (programOf m t) ms x ≡ [] → s' .completed t ≡ suc (s .completed t) → s' .word t ≡ u → wordsIn (lettersOn c ns) ≡ one u → Agrees m s' ns t z
+  receiver-ahead : {v u : Word} {z : Task} → Turn (programOf m t) opReceive Receiving c x 0 v z → isOn Receiving (programOf m t) c z ≡ true
+      → comingTo (programOf m t) ms x ≡ [] → s' .completed t ≡ suc (s .completed t) → s' .word t ≡ u → wordsIn (lettersOn c ns) ≡ one u
+      → Agrees m s' ns t z
   receiver-ahead {z = z} turn o none k w e =
       let g = programOf m t in
       let q = on-in receives g c z o in
       let b = state-is Receiving Unborn z q in
-      agrees-ahead (born ∙ agrees-born a (sym (turn-alike receives turn .unborn) ∙ b)) b (state-is Receiving Waiting z q)
+      agrees-ahead (born ∙ agrees-born a (sym (turn-steady receives turn .unborn) ∙ b)) b (state-is Receiving Waiting z q)
       (λ d. absurd (tests-differ d (state-is Receiving Done z q)))
       (coming-on g z c ns o ∙ e)
       (omega (arith, agrees-completed a none, turn-completed receives low turn))
       w
 
   -- .. which completes one instruction
-  pub receiver-passed : {v : Word} {z : Task} → Turn (programOf m t) opReceive Receiving c x 1 v z → s' .completed t ≡ suc (completedBy x) → s' .word t ≡ v → Agrees m s' ns t z
+  receiver-passed : {v : Word} {z : Task} → Turn (programOf m t) opReceive Receiving c x 1 v z → s' .completed t ≡ suc (completedBy x)
+      → s' .word t ≡ v → Agrees m s' ns t z
   receiver-passed (passes v u) k w =
       agrees-free (born ∙ agrees-born a (state-is Ready Unborn x (u .ready))) refl refl refl
       (omega (arith, turn-completed receives low (passes v u))) w
@@ -142,25 +146,26 @@ module _ (m : Programs) (s : Net) (c : ChannelId) where
 
   pass-sender-word : senderOf m c .0 ≢ receiverOf m c .0 → effect m s (pass c) .word (senderOf m c) ≡ s .word (senderOf m c)
   unfolding effect afterPass
-  pass-sender-word ne = updated-other (λ (u : TaskId). u .0) (s .word) (receiverOf m c) (senderOf m c) (s .word (senderOf m c)) ne
+  pass-sender-word ne = at-other (s .word) (receiverOf m c) (senderOf m c) (s .word (senderOf m c)) ne
 
   pass-receiver-word : effect m s (pass c) .word (receiverOf m c) ≡ s .word (senderOf m c)
   unfolding effect afterPass
-  pass-receiver-word = updated-same (λ (u : TaskId). u .0) (s .word) (receiverOf m c) (s .word (senderOf m c))
+  pass-receiver-word = at-task (s .word) (receiverOf m c) (s .word (senderOf m c))
 
   pass-here : effect m s (pass c) .passed c ≡ s .passed c ++ one (s .word (senderOf m c))
   unfolding effect afterPass
-  pass-here = updated-same (λ (d : ChannelId). d .0) (s .passed) c (s .passed c ++ one (s .word (senderOf m c)))
+  pass-here = at-channel (s .passed) c (s .passed c ++ one (s .word (senderOf m c)))
 
   pass-elsewhere : (d : ChannelId) → d .0 ≢ c .0 → effect m s (pass c) .passed d ≡ s .passed d
   unfolding effect afterPass
-  pass-elsewhere d ne = updated-other (λ (e : ChannelId). e .0) (s .passed) c d (s .passed c ++ one (s .word (senderOf m c))) ne
+  pass-elsewhere d ne = at-other-channel (s .passed) c d (s .passed c ++ one (s .word (senderOf m c))) ne
 
   pass-idle : (u : TaskId) → u .0 ≢ receiverOf m c .0 → u .0 ≢ senderOf m c .0 → takesPart m u (pass c) ≡ false
   unfolding takesPart
   pass-idle u r q = rw (ne-eqb (u .0) (senderOf m c .0) q) (ne-eqb (u .0) (receiverOf m c .0) r)
 
-pass-enabled : (m : Programs) (s : Net) (c : ChannelId) → standsAt m s (senderOf m c) opSend c ≡ true → standsAt m s (receiverOf m c) opReceive c ≡ true
+pass-enabled : (m : Programs) (s : Net) (c : ChannelId) → standsAt m s (senderOf m c) opSend c ≡ true
+    → standsAt m s (receiverOf m c) opReceive c ≡ true
     → enabled m s (pass c) ≡ true
 unfolding enabled
 pass-enabled m s c p q = and-both (standsAt m s (senderOf m c) opSend c) _ p q
@@ -169,41 +174,36 @@ word-elsewhere : (c : ChannelId) (v : Word) (d : ChannelId) → d .0 ≢ c .0 �
 unfolding wordOn
 word-elsewhere c v d ne = rw (ne-eqb (c .0) (d .0) (λ e. ne (sym e))) refl
 
-same-channel : (d c : ChannelId) → d .0 ≡ c .0 → d ≡ c
-same-channel d c e = ap channelId e
-
 module _ (m : Programs) (accepted : planAnswer m ≡ Accepted) (s : Net) (consistent : Consistent m s)
-    {h : Histories} {x : Reading} {w : ChannelId → List Word} (run : Running m h s x w) (y : Reading) (c : ChannelId) (low : 1 ≤ c .0) (high : c .0 ≤ 128)
+    {h : Histories} {x : Reading} {w : ChannelId → List Word} (run : Running m h s x w) (y : Reading) (c : ChannelId) (low : 1 ≤ c .0)
+    (high : c .0 ≤ 128)
     (other : (d : ChannelId) → d .0 ≢ c .0 → lettersOn d (y .letters) ≡ lettersOn d (x .letters)) where
   -- the words passed: what was under way and what leaves is what is received and then under way
   passed-alike : (s' : Net) (more : List Word) (got : Received) → s' .passed c ≡ s .passed c ++ more
       → ((d : ChannelId) → d .0 ≢ c .0 → s' .passed d ≡ s .passed d)
       → wordsIn (lettersOn c (x .letters)) ++ more ≡ wordOn c got ++ wordsIn (lettersOn c (y .letters))
       → ((d : ChannelId) → d .0 ≢ c .0 → wordOn d got ≡ []) → PassedAlike s' (λ d. w d ++ wordOn d got) (y .letters)
-  passed-alike s' more got here away words none d =
-      by-cases (ℕ-discrete (d .0) (c .0)) (λ q. rw (same-channel d c q) at-here)
-      (λ ne. away d ne ∙ run .passed d ∙ rw (none d ne, other d ne, append-nil (w d)) refl)
-    where
-      at-here : s' .passed c ≡ (w c ++ wordOn c got) ++ wordsIn (lettersOn c (y .letters))
-      at-here =
-          here ∙ ap (_++ more) (run .passed c) ∙ append-assoc (w c) (wordsIn (lettersOn c (x .letters))) more ∙ ap (w c ++_) words
-          ∙ sym (append-assoc (w c) (wordOn c got) (wordsIn (lettersOn c (y .letters))))
+  passed-alike s' more got here away words none =
+      channel-cases (λ d. s' .passed d ≡ (w d ++ wordOn d got) ++ wordsIn (lettersOn d (y .letters))) c
+      (here ∙ ap (_++ more) (run .passed c) ∙ append-assoc (w c) (wordsIn (lettersOn c (x .letters))) more ∙ ap (w c ++_) words
+      ∙ sym (append-assoc (w c) (wordOn c got) (wordsIn (lettersOn c (y .letters)))))
+      (λ d ne. away d ne ∙ run .passed d ∙ rw (none d ne, other d ne, append-nil (w d)) refl)
 
   -- nothing changes in what comes to another task
   coming-apart : (u : TaskId) → u .0 ≢ receiverOf m c .0
       → comingTo (programOf m u) (y .letters) (x .tasks u) ≡ comingTo (programOf m u) (x .letters) (x .tasks u)
   coming-apart u ne =
       coming-alike (programOf m u) (x .tasks u) (x .letters) (y .letters)
-      (λ d o.
-      by-cases (ℕ-discrete (d .0) (c .0))
-      (λ q. absurd (ne (ap (λ (v : TaskId). v .0) (sym (receives-there m accepted s consistent run u c (rw (same-channel d c q) at o))))))
-      (λ q. rw (other d q) refl))
+      (channel-cases
+      (λ d. isOn Receiving (programOf m u) d (x .tasks u) ≡ true → wordsIn (lettersOn d (y .letters)) ≡ wordsIn (lettersOn d (x .letters))) c
+      (λ o. absurd (ne (ap (λ (v : TaskId). v .0) (sym (receives-there m accepted s consistent run u c o)))))
+      (λ d q o. rw (other d q) refl))
 
   coming-kept : wordsIn (lettersOn c (y .letters)) ≡ wordsIn (lettersOn c (x .letters)) → (u : TaskId)
       → comingTo (programOf m u) (y .letters) (x .tasks u) ≡ comingTo (programOf m u) (x .letters) (x .tasks u)
   coming-kept e u =
       coming-alike (programOf m u) (x .tasks u) (x .letters) (y .letters)
-      (λ d o. by-cases (ℕ-discrete (d .0) (c .0)) (λ q. rw (same-channel d c q) e) (λ q. rw (other d q) refl))
+      (λ d o. channel-cases (λ d. wordsIn (lettersOn d (y .letters)) ≡ wordsIn (lettersOn d (x .letters))) c e (λ d q. rw (other d q) refl) d)
 
   -- what is said of the ends is said of all
   ends-agree : (s' : Net) (first second : Task) → y .tasks ≡ atTask (atTask (x .tasks) (senderOf m c) first) (receiverOf m c) second
@@ -213,7 +213,8 @@ module _ (m : Programs) (accepted : planAnswer m ≡ Accepted) (s : Net) (consis
   ends-agree s' first second e one two rest u =
       rw e
       (at-elim (λ v z. Agrees m s' (y .letters) v z) (atTask (x .tasks) (senderOf m c) first) (receiverOf m c) second two
-      (λ v ne. at-elim (λ v z. v .0 ≢ receiverOf m c .0 → Agrees m s' (y .letters) v z) (x .tasks) (senderOf m c) first one (λ v q r. rest v r q) v ne)
+      (λ v ne. at-elim (λ v z. v .0 ≢ receiverOf m c .0 → Agrees m s' (y .letters) v z) (x .tasks) (senderOf m c) first one
+      (λ v q r. rest v r q) v ne)
       u)
 
   -- an end that completes an instruction is at it in the net
@@ -237,10 +238,11 @@ module _ (m : Programs) (accepted : planAnswer m ≡ Accepted) (s : Net) (consis
 
   module _ (first second : Task) (tasks : y .tasks ≡ atTask (atTask (x .tasks) (senderOf m c) first) (receiverOf m c) second) where
     second-at : y .tasks (receiverOf m c) ≡ second
-    second-at = rw tasks (updated-same (λ (u : TaskId). u .0) (atTask (x .tasks) (senderOf m c) first) (receiverOf m c) second)
+    second-at = rw tasks (at-task (atTask (x .tasks) (senderOf m c) first) (receiverOf m c) second)
 
     -- no word leaves, and the net stays
-    still-follows : (got : Received) → Turn (programOf m (senderOf m c)) opSend Sending c (x .tasks (senderOf m c)) 0 (x .tasks (senderOf m c) .word) first
+    still-follows : (got : Received)
+        → Turn (programOf m (senderOf m c)) opSend Sending c (x .tasks (senderOf m c)) 0 (x .tasks (senderOf m c) .word) first
         → Agrees m s (y .letters) (receiverOf m c) second → wordsIn (lettersOn c (x .letters)) ≡ wordOn c got ++ wordsIn (lettersOn c (y .letters))
         → ((d : ChannelId) → d .0 ≢ c .0 → wordOn d got ≡ []) → Follows m s y (λ d. w d ++ wordOn d got)
     still-follows got turn two words none =
@@ -251,11 +253,13 @@ module _ (m : Programs) (accepted : planAnswer m ≡ Accepted) (s : Net) (consis
           agrees = ends-agree s first second tasks
               (λ ne. sender-agrees (run .agrees (senderOf m c)) refl c low turn refl (omega arith) refl (coming-apart (senderOf m c) ne))
               two (λ u r q. alike-agrees (run .agrees u) refl refl refl (coming-apart u r));
-          passed = passed-alike s [] got (sym (append-nil (s .passed c))) (λ d ne. refl) (append-nil (wordsIn (lettersOn c (x .letters))) ∙ words) none;
+          passed =
+              passed-alike s [] got (sym (append-nil (s .passed c))) (λ d ne. refl) (append-nil (wordsIn (lettersOn c (x .letters))) ∙ words) none;
         }
 
     -- a word leaves, and passes in the net
-    pass-follows : (got : Received) → Turn (programOf m (senderOf m c)) opSend Sending c (x .tasks (senderOf m c)) 1 (x .tasks (senderOf m c) .word) first
+    pass-follows : (got : Received)
+        → Turn (programOf m (senderOf m c)) opSend Sending c (x .tasks (senderOf m c)) 1 (x .tasks (senderOf m c) .word) first
         → standsAt m s (receiverOf m c) opReceive c ≡ true
         → (effect m s (pass c) .completed (receiverOf m c) ≡ suc (s .completed (receiverOf m c))
         → effect m s (pass c) .word (receiverOf m c) ≡ x .tasks (senderOf m c) .word
@@ -275,11 +279,13 @@ module _ (m : Programs) (accepted : planAnswer m ≡ Accepted) (s : Net) (consis
           agrees = ends-agree s' first second tasks
               (λ ne.
               sender-agrees a (pass-born m s c (senderOf m c)) c low turn refl
-              (omega (arith, completed-grows m s (pass c) (senderOf m c) may (sender-part m c))) (pass-sender-word m s c ne) (coming-apart (senderOf m c) ne))
+              (omega (arith, completed-grows m s (pass c) (senderOf m c) may (sender-part m c))) (pass-sender-word m s c ne)
+              (coming-apart (senderOf m c) ne))
               (two (completed-grows m s (pass c) (receiverOf m c) may (receiver-part m c)) (pass-receiver-word m s c ∙ value))
               (λ u r q.
               let idle = pass-idle m s c u r q in
-              alike-agrees (run .agrees u) (pass-born m s c u) (completed-stays m s (pass c) u idle) (word-stays m s (pass c) u idle) (coming-apart u r));
+              alike-agrees (run .agrees u) (pass-born m s c u) (completed-stays m s (pass c) u idle) (word-stays m s (pass c) u idle)
+              (coming-apart u r));
           passed = passed-alike s' (one (x .tasks (senderOf m c) .word)) got (pass-here m s c ∙ rw value refl) (pass-elsewhere m s c) words none;
         }
 
@@ -309,16 +315,20 @@ module _ (m : Programs) (accepted : planAnswer m ≡ Accepted) (s : Net) (consis
         (rw (none, e) refl) (λ d ne. refl)
     follows p q (taken v some) e i =
         let a = run .agrees (receiverOf m c) in
-        let coming = coming-on (programOf m (receiverOf m c)) (x .tasks (receiverOf m c)) c (x .letters) (words-received m h x c (run .views c low high) v some) ∙ some in
+        let coming =
+        coming-on (programOf m (receiverOf m c)) (x .tasks (receiverOf m c)) c (x .letters)
+        (words-received m h x c (run .views c low high) v some) ∙ some in
         still-follows (GotWord c v) p (receiver-passed a refl c low q (ahead-completed a coming) (ahead-word a coming))
         (rw (some, e, eq-eqb (c .0) (c .0) refl) refl) (word-elsewhere c v)
 
 -- each step about one channel
 pub channel-follows : (m : Programs) → planAnswer m ≡ Accepted → (s : Net) → Consistent m s
-    → {h : Histories} {x y : Reading} {w : ChannelId → List Word} {e : Event} {received : Received} → Running m h s x w → ChannelAct m h x y e received
+    → {h : Histories} {x y : Reading} {w : ChannelId → List Word} {e : Event} {received : Received} → Running m h s x w
+    → ChannelAct m h x y e received
     → Follows m s y (λ d. w d ++ wordOn d received)
 channel-follows m accepted s consistent {h} {x} {y} {e = e} run act =
     let c = act .channel in
     let i : Invariant (viewOf m h y c) = rw (act .view) (keeps e (viewOf m h x c) (run .views c (act .low) (act .high)) (act .allowed)) in
-    follows m accepted s consistent run y c (act .low) (act .high) (act .other-letters) (act .sender) (act .receiver) (act .tasks) (act .sender-turn) (act .receiver-turn)
+    follows m accepted s consistent run y c (act .low) (act .high) (act .other-letters) (act .sender) (act .receiver) (act .tasks) (act .sender-turn)
+    (act .receiver-turn)
     (act .passing) refl i

@@ -1,18 +1,16 @@
 -- A task that ends, in the net: its finish, and the sync of a parent that waited for it alone.
-use mathlib.Core.Path.{_≡_, refl, sym, ap, _∙_}
+use mathlib.Core.Path.{_≡_, refl, ap, _∙_}
 use mathlib.Core.Bool.{Bool, true, false, not, _&&_}
 use mathlib.Core.List.{List, [], _∷_, _++_}
-use mathlib.Core.Logic.{_≢_, by-cases}
-use Prim.Native.Nat.{ℕ, zero, suc, _+_, _-_, _≤_, _<_}
-use native.Mathlib.Decide.{ℕ-discrete}
-use native.Mathlib.Omega.{arith, by-contra}
+use mathlib.Core.Logic.{_≢_}
+use Prim.Native.Nat.{ℕ, zero, suc, _+_, _-_, _<_}
+use native.Mathlib.Omega.{arith}
 use lib.Dec.{eqb}
 use lib.ListN.{length}
 use borrow.Author.Tests.{eqb-true, ne-eqb}
 use Rattle.base.specs.Choice.{within}
 use Rattle.base.specs.Sets.{removed}
-use Rattle.base.proofs.Tests.{and-left, and-right, and-both, tests-differ, within-low, within-high, within-both, every-at, second-fails}
-use Rattle.base.proofs.Updates.{updated-same, updated-other}
+use Rattle.base.proofs.Tests.{and-left, and-right, and-both, tests-differ, within-low, within-high, every-at, second-fails}
 use Rattle.machine.specs.Machines.{Run, stop, take}
 use Rattle.machine.proofs.Runs.{run-append}
 use Rattle.plan.specs.declared.PlanAnswer.the-variants.{Accepted}
@@ -26,34 +24,35 @@ use Rattle.plan.specs.Programs.{Program, Programs, instructionAt}
 use Rattle.plan.specs.Users.{parentOf}
 use Rattle.plan.specs.Refusals.{finishOk, finishesOk, structureAnswer, planAnswer}
 use Rattle.plan_laws.proofs.Answers.{unless-accepted, plan-passed}
-use Rattle.plan_laws.proofs.Parents.{has-parent}
 use Rattle.rules.specs.declared.task.TaskState.the-variants.{Unborn, Waiting, Receiving}
 use Rattle.rules.specs.declared.task.Task.{Task}
 use Rattle.rules.specs.declared.message.Message.the-variants.{Terminated}
-use Rattle.rules.specs.Tasks.{isIn, isChildless, withChildren, readied, woken, withoutChild}
+use Rattle.rules.specs.Tasks.{isIn, withChildren, readied, woken, withoutChild}
 use Rattle.rules.specs.Places.{nextIn, lastIn}
 use Rattle.net.specs.States.{Net, atTask}
 use Rattle.net.specs.Labels.{Label, own, isCreate, takesPart}
-use Rattle.net.specs.Guards.{isActive, nextOf, childrenComplete, enabled}
+use Rattle.net.specs.Guards.{isActive, nextOf, enabled}
 use Rattle.net.specs.Effects.{effect}
 use Rattle.net.specs.Nets.{net}
 use Rattle.net.specs.Consistent.{Consistent}
-use Rattle.net.proofs.Parts.{same-task}
 use Rattle.net.proofs.Stays.{born-kept, complete-stays, next-stays}
 use Rattle.net.proofs.Consistent.{label-consistent}
-use Rattle.net.proofs.Children.{complete-children}
-use Rattle.claim.specs.Readings.{Reading}
-use Rattle.claim.specs.Progress.{programOf, completedBy}
-use Rattle.claim.specs.Letters.{letterOn, lettersOn}
-use Rattle.claim.specs.Views.{Histories}
-use Rattle.claim.specs.Acts.{finished, Finishing, alone, near, away, FinishAct, EndedAct}
-use Rattle.claim.specs.Agreement.{comingTo, Agrees, PassedAlike, Running}
-use Rattle.claim.proofs.Flats.{flat-post-nothing, flat-without}
-use Rattle.claim.proofs.FamilyParts.{AllChildren, state-is}
-use Rattle.claim.proofs.ChildrenKept.{child-within, kindred-finish, kindred-ended}
-use Rattle.claim.proofs.Coming.{blocked-in, completed-free, completed-blocked, last-some, coming-none, agrees-born, agrees-completed, agrees-word, alike-agrees, unborn-not, agrees-quiet, agrees-free}
-use Rattle.claim.proofs.NetSteps.{Follows, at-elim, AtNext, own-by, own-completed, own-word, own-passed, own-bears-none, own-other, done-complete, waiting-next}
-use Rattle.claim.proofs.NetTasks.{word-same, childless-ended, coming-same, passed-same, own-follows, runs-next, runs-own, ran-completed, ran-word, ran-born}
+use Rattle.acts.specs.Readings.{Reading}
+use Rattle.acts.specs.Progress.{programOf, completedBy}
+use Rattle.acts.specs.Letters.{letterOn, lettersOn}
+use Rattle.acts.specs.Views.{Histories}
+use Rattle.acts.specs.Acts.{finished, Finishing, alone, near, away, FinishAct, EndedAct}
+use Rattle.acts.specs.Agreement.{comingTo, Agrees, PassedAlike, Running}
+use Rattle.acts.proofs.Updates.{at-task, at-other, at-elim, task-cases}
+use Rattle.acts.proofs.Flats.{flat-post-nothing, flat-without}
+use Rattle.acts.proofs.Parents.{child-number, parent-number, parent-other}
+use Rattle.acts.proofs.Tasks.{state-is, blocked-in, completed-free, completed-blocked, last-some}
+use Rattle.claim.proofs.FamilyParts.{AllChildren}
+use Rattle.claim.proofs.ChildrenKept.{kindred-finish, kindred-ended}
+use Rattle.claim.proofs.Coming.{coming-none, agrees-born, agrees-completed, agrees-word, alike-agrees, agrees-quiet, agrees-free}
+use Rattle.claim.proofs.NetSteps.{Follows, AtNext, own-by, own-completed, own-word, own-passed, own-bears-none, own-other, waiting-next}
+use Rattle.claim.proofs.NetTasks.{word-same, coming-same, passed-same, own-follows, runs-next, runs-own, ran-completed, ran-word, ran-born}
+use Rattle.claim.proofs.NetTasks.{childless-complete}
 
 -- a finish is the last of its program
 last-finish : (g : Program) (i : ℕ) → finishOk g ≡ true → i < length g → isFinish (instructionAt g i) ≡ true → suc i ≡ length g
@@ -74,7 +73,8 @@ finish-place m accepted t i n l e =
     last-finish (programOf m t) i (every-at finishOk m (t .0 - 1) [] (omega arith) f) l e
 
 -- a task that takes no part stays at its instruction
-next-kept : (m : Programs) (s : Net) (l : Label) (t : TaskId) {i : Instruction} → takesPart m t l ≡ false → AtNext m s t i → AtNext m (effect m s l) t i
+next-kept : (m : Programs) (s : Net) (l : Label) (t : TaskId) {i : Instruction} → takesPart m t l ≡ false → AtNext m s t i
+    → AtNext m (effect m s l) t i
 unfolding isActive
 next-kept m s l t idle at =
     record {
@@ -83,36 +83,13 @@ next-kept m s l t idle at =
       next = next-stays m s l t idle ∙ at .next;
     }
 
--- a parent is another task
-module _ (m : Programs) (accepted : planAnswer m ≡ Accepted) (u : TaskId) (number : within 2 (length m) (u .0) ≡ true) where
-  parent-lower : (1 ≤ parentOf m u .0) × (parentOf m u .0 < u .0)
-  parent-lower = has-parent m accepted (u .0) (within-low 2 (length m) (u .0) number) (within-high 2 (length m) (u .0) number)
-
-  parent-number : within 1 (length m) (parentOf m u .0) ≡ true
-  parent-number =
-      let (low, less) = parent-lower in
-      let high = within-high 2 (length m) (u .0) number in
-      within-both 1 (length m) (parentOf m u .0) low (omega arith)
-
-  parent-other : parentOf m u .0 ≢ u .0
-  parent-other e = let (low, less) = parent-lower in omega arith
-
 -- a task p loses a child, in the net s', which the run `before` has reached and in which the other tasks agree with the rig y
-module _ (m : Programs) (accepted : planAnswer m ≡ Accepted) {s s' : Net} {ls : List Label} (before : Run (net m) s ls s') (consistent : Consistent m s')
-    (y : Reading) (w : ChannelId → List Word) (passed : PassedAlike s' w (y .letters)) (kindred : AllChildren m y)
+module _ (m : Programs) (accepted : planAnswer m ≡ Accepted) {s s' : Net} {ls : List Label} (before : Run (net m) s ls s')
+    (consistent : Consistent m s') (y : Reading) (w : ChannelId → List Word) (passed : PassedAlike s' w (y .letters)) (kindred : AllChildren m y)
     (p t : TaskId) (number : within 1 (length m) (p .0) ≡ true) (others : (u : TaskId) → u .0 ≢ p .0 → Agrees m s' (y .letters) u (y .tasks u)) where
-  emptied-complete : isChildless (y .tasks p) ≡ true → childrenComplete m s' p ≡ true
-  emptied-complete e =
-      let low = within-low 1 (length m) (p .0) number in
-      complete-children m accepted s' consistent p low (within-high 1 (length m) (p .0) number)
-      (λ u parent b.
-      let n = child-within m accepted p u low parent in
-      let a = others u (λ q. parent-other m accepted u n (ap (λ (v : TaskId). v .0) parent ∙ sym q)) in
-      done-complete m accepted s' consistent a (childless-ended (rw parent at (kindred u n)) e (unborn-not a b)))
-
   all-agree : (z : Net) → Agrees m z (y .letters) p (y .tasks p) → ((u : TaskId) → u .0 ≢ p .0 → Agrees m z (y .letters) u (y .tasks u))
       → (u : TaskId) → Agrees m z (y .letters) u (y .tasks u)
-  all-agree z one rest u = by-cases (ℕ-discrete (u .0) (p .0)) (λ e. rw (same-task u p e) one) (λ ne. rest u ne)
+  all-agree z one rest = task-cases (λ u. Agrees m z (y .letters) u (y .tasks u)) p one rest
 
   module _ (x : Task) (old : Agrees m s' (y .letters) p x) where
     -- it does not wait for this child alone
@@ -158,7 +135,9 @@ module _ (m : Programs) (accepted : planAnswer m ≡ Accepted) {s s' : Net} {ls 
             let q : y .tasks p ≡ readied (withChildren x k) = new ∙ rw e refl in
             let waiting = and-left (isIn Waiting x) (eqb k 0) e in
             let here = at waiting in
-            let may = own-by m s' p here (rw (old .sync waiting) refl) (λ j. emptied-complete (rw q (and-right (isIn Waiting x) (eqb k 0) e))) in
+            let may =
+            own-by m s' p here (rw (old .sync waiting) refl)
+            (λ j. childless-complete m accepted s' consistent y kindred p number others (rw q (and-right (isIn Waiting x) (eqb k 0) e))) in
             let none : isCreate (nextOf m s' p) ≡ false = rw (sync-next here waiting) refl in
             record {
               end = effect m s' (own p);
@@ -196,40 +175,43 @@ module _ (m : Programs) (accepted : planAnswer m ≡ Accepted) (s : Net) (consis
         (ran-word m accepted s consistent run t i r ∙ word-same i (x .tasks t .word) opFinish finish-kind refl refl)
 
     near-follows : act .task .0 ≢ 1
-        → y .tasks ≡ atTask (atTask (x .tasks) (parentOf m (act .task)) (withoutChild (x .tasks (parentOf m (act .task))) (act .task))) (act .task) (finished (x .tasks (act .task)))
+        → y .tasks ≡ atTask (atTask (x .tasks) (parentOf m (act .task)) (withoutChild (x .tasks (parentOf m (act .task))) (act .task))) (act .task)
+        (finished (x .tasks (act .task)))
         → y .letters ≡ x .letters → Follows m s y w
     unfolding takesPart
     near-follows one e l =
         let t = act .task in
         let p = parentOf m t in
         let lost = withoutChild (x .tasks p) t in
-        let key : TaskId → ℕ = λ v. v .0 in
         let low = within-low 1 (length m) (t .0) (act .runs .number) in
-        let number = within-both 2 (length m) (t .0) (by-contra 2 (t .0) (λ q. one (omega arith))) (within-high 1 (length m) (t .0) (act .runs .number)) in
+        let number = child-number (length m) (t .0) (act .runs .number) one in
         let other = parent-other m accepted t number in
         let same : (c : ChannelId) → lettersOn c (y .letters) ≡ lettersOn c (x .letters) = λ c. rw l refl in
         let s' = effect m s (own t) in
         let stay : (u : TaskId) → u .0 ≢ t .0 → Agrees m s' (y .letters) u (x .tasks u) =
-        λ u ne. own-other m s t ne (own-bears-none m s t bears-none u) (coming-same m accepted s consistent run y same u (x .tasks u)) (run .agrees u) in
+        λ u ne. own-other m s t ne (own-bears-none m s t bears-none u) (coming-same m accepted s consistent run y same u (x .tasks u))
+        (run .agrees u) in
         loses-follows m accepted (take (own t) may-finish stop) (label-consistent m accepted s consistent (own t) may-finish) y w
         (passed-same m accepted s consistent run y same s' (own-passed m s t)) (kindred-finish m accepted run act .children)
         p t (parent-number m accepted t number)
         (λ u ne.
         rw e
         (at-elim (λ v z. v .0 ≢ p .0 → Agrees m s' (y .letters) v z) (atTask (x .tasks) p lost) t (finished (x .tasks t)) (λ q. finished-agrees)
-        (λ v q r. rw (updated-other key (x .tasks) p v lost r) (stay v q)) u ne))
+        (λ v q r. rw (at-other (x .tasks) p v lost r) (stay v q)) u ne))
         (x .tasks p) (stay p other)
         (λ q. next-kept m s (own t) p (ne-eqb (p .0) (t .0) other) (waiting-next m accepted s consistent run p q))
-        (rw e (updated-other key (atTask (x .tasks) p lost) t p (finished (x .tasks t)) other ∙ updated-same key (x .tasks) p lost))
+        (rw e (at-other (atTask (x .tasks) p lost) t p (finished (x .tasks t)) other ∙ at-task (x .tasks) p lost))
 
     finishing-follows : Finishing m x y (act .task) → Follows m s y w
     unfolding letterOn
     finishing-follows (alone one e l) =
-        own-follows m accepted s consistent run y (λ c. rw l refl) (act .task) (finished (x .tasks (act .task))) may-finish bears-none e finished-agrees
+        own-follows m accepted s consistent run y (λ c. rw l refl) (act .task)
+        (finished (x .tasks (act .task))) may-finish bears-none e finished-agrees
     finishing-follows (away one far e l) =
         let t = act .task in
         own-follows m accepted s consistent run y
-        (λ c. rw l (flat-post-nothing (letterOn c) (x .letters) (Terminated (x .tasks t .home) t) refl)) t (finished (x .tasks t)) may-finish bears-none e finished-agrees
+        (λ c. rw l (flat-post-nothing (letterOn c) (x .letters) (Terminated (x .tasks t .home) t) refl)) t
+        (finished (x .tasks t)) may-finish bears-none e finished-agrees
     finishing-follows (near one here e l) = near-follows one e l
 
   pub finish-follows : {y : Reading} → FinishAct m h x y → Follows m s y w
@@ -244,8 +226,9 @@ module _ (m : Programs) (accepted : planAnswer m ≡ Accepted) (s : Net) (consis
       λ c. rw (act .letters) (flat-without (letterOn c) (x .letters) (act .p) (act .letter) refl) in
       let stay : (u : TaskId) → Agrees m s (y .letters) u (x .tasks u) =
       λ u. alike-agrees (run .agrees u) refl refl refl (coming-same m accepted s consistent run y same u (x .tasks u)) in
-      loses-follows m accepted stop consistent y w (passed-same m accepted s consistent run y same s refl) (kindred-ended m accepted run act .children)
+      loses-follows m accepted stop consistent y w (passed-same m accepted s consistent run y same s refl)
+      (kindred-ended m accepted run act .children)
       p t (parent-number m accepted t (act .number))
-      (λ u ne. rw (act .tasks, updated-other (λ (v : TaskId). v .0) (x .tasks) p u (withoutChild (x .tasks p) t) ne) (stay u))
+      (λ u ne. rw (act .tasks, at-other (x .tasks) p u (withoutChild (x .tasks p) t) ne) (stay u))
       (x .tasks p) (stay p) (waiting-next m accepted s consistent run p)
-      (rw (act .tasks) (updated-same (λ (v : TaskId). v .0) (x .tasks) p (withoutChild (x .tasks p) t)))
+      (rw (act .tasks) (at-task (x .tasks) p (withoutChild (x .tasks p) t)))

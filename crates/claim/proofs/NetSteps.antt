@@ -2,16 +2,13 @@
 use mathlib.Core.Path.{_≡_, refl, ap, _∙_}
 use mathlib.Core.Bool.{Bool, true, false, not, _||_, or-false}
 use mathlib.Core.List.{List, []}
-use mathlib.Core.Logic.{_≢_, by-cases}
+use mathlib.Core.Logic.{_≢_}
 use Prim.Native.Nat.{ℕ, suc, _-_, _≤_, _<_}
-use native.Mathlib.Decide.{ℕ-discrete}
 use native.Mathlib.Omega.{arith}
-use lib.Dec.{eqb}
 use lib.ListN.{length}
-use borrow.Author.Tests.{eq-eqb, ne-eqb, lt-ltb, le-ltb}
+use borrow.Author.Tests.{ne-eqb, lt-ltb, le-ltb}
 use Rattle.base.specs.Choice.{within}
 use Rattle.base.proofs.Tests.{and-both, tests-differ, is-true, within-low, within-high}
-use Rattle.base.proofs.Updates.{updated-same, updated-at, updated-other}
 use Rattle.machine.specs.Machines.{Run}
 use Rattle.plan.specs.declared.PlanAnswer.the-variants.{Accepted}
 use Rattle.plan.specs.declared.TaskId.{TaskId}
@@ -19,7 +16,7 @@ use Rattle.plan.specs.declared.ChannelId.{ChannelId}
 use Rattle.plan.specs.declared.Instruction.{Instruction}
 use Rattle.plan.specs.declared.Word.{Word}
 use Rattle.plan.specs.Numbers.{taskId}
-use Rattle.plan.specs.Kinds.{opCreate, opReceive, isUse}
+use Rattle.plan.specs.Kinds.{opCreate, isUse}
 use Rattle.plan.specs.Programs.{Programs, instructionAt}
 use Rattle.plan.specs.Users.{receiverOf}
 use Rattle.plan.specs.Refusals.{planAnswer}
@@ -31,23 +28,23 @@ use Rattle.rules.specs.declared.message.Message.{Message}
 use Rattle.rules.specs.Tasks.{isIn}
 use Rattle.rules.specs.Places.{nextIn, lastIn, isOn}
 use Rattle.rules_sound.proofs.Born.{place-few}
-use Rattle.net.specs.States.{Net, atTask}
+use Rattle.net.specs.States.{Net}
 use Rattle.net.specs.Labels.{Label, own, isCreate, isJoin, isTransfer, takesPart}
 use Rattle.net.specs.Guards.{isComplete, isActive, nextOf, standsAt, childrenComplete, isFree, enabled}
 use Rattle.net.specs.Effects.{wordAfter, afterOwn, effect}
 use Rattle.net.specs.Nets.{net}
 use Rattle.net.specs.Consistent.{Consistent}
-use Rattle.net.proofs.Parts.{same-task}
 use Rattle.net.proofs.Stays.{born-after, completed-stays, word-stays}
 use Rattle.net.proofs.NextInstruction.{program-some, next-is}
-use Rattle.claim.specs.Readings.{Reading}
-use Rattle.claim.specs.Progress.{isBlocked, programOf}
-use Rattle.claim.specs.Views.{Histories}
-use Rattle.claim.specs.Turns.{AtUse}
-use Rattle.claim.specs.Agreement.{comingTo, Agrees, PassedAlike, Running}
-use Rattle.claim.proofs.FamilyParts.{state-is}
-use Rattle.claim.proofs.Turns.{Side, receives, on-in, on-operand, kind-of}
-use Rattle.claim.proofs.Coming.{blocked-in, side-born, side-blocked, side-some, completed-free, completed-blocked, not-receiving, last-is, last-some, coming-none, agrees-born, agrees-completed, alike-agrees}
+use Rattle.acts.specs.Readings.{Reading}
+use Rattle.acts.specs.Progress.{isBlocked, programOf}
+use Rattle.acts.specs.Views.{Histories}
+use Rattle.acts.specs.Turns.{AtUse}
+use Rattle.acts.specs.Agreement.{comingTo, Agrees, PassedAlike, Running}
+use Rattle.acts.proofs.Updates.{at-task}
+use Rattle.acts.proofs.Tasks.{state-is, blocked-in, not-receiving, completed-free, completed-blocked, last-is, last-some, Side, receives, side-some}
+use Rattle.acts.proofs.Tasks.{side-born, side-blocked, on-in, kind-of, on-use}
+use Rattle.claim.proofs.Coming.{coming-none, agrees-born, agrees-completed, alike-agrees}
 
 -- the net goes on by some labels, and agrees then with the rig y and with the words received
 pub record Follows (m : Programs) (s : Net) (y : Reading) (received : ChannelId → List Word) : Type 0 where
@@ -56,14 +53,6 @@ pub record Follows (m : Programs) (s : Net) (y : Reading) (received : ChannelId 
   pub run : Run (net m) s labels end
   pub agrees : (t : TaskId) → Agrees m end (y .letters) t (y .tasks t)
   pub passed : PassedAlike end received (y .letters)
-
--- to prove something of every task's record with one changed: of the new one, and of each old one
-pub at-elim : {A : Type 0} (Q : TaskId → A → Type 0) (f : TaskId → A) (t : TaskId) (b : A) → Q t b → ((u : TaskId) → u .0 ≢ t .0 → Q u (f u))
-    → (u : TaskId) → Q u (atTask f t b u)
-at-elim Q f t b new old u =
-    by-cases (ℕ-discrete (u .0) (t .0))
-    (λ e. rw (updated-at (λ (v : TaskId). v .0) f t u b e, same-task u t e) new)
-    (λ ne. rw (updated-other (λ (v : TaskId). v .0) f t u b ne) (old u ne))
 
 -- in the net, task t is at instruction i
 pub record AtNext (m : Programs) (s : Net) (t : TaskId) (i : Instruction) : Type 0 where
@@ -76,7 +65,8 @@ module _ (m : Programs) (s : Net) (t : TaskId) where
   unfolding standsAt
   stands-by k c at e = and-both (isActive m s t) _ (at .active) (rw (at .next) e)
 
-  pub own-by : {i : Instruction} → AtNext m s t i → isTransfer i ≡ false → (isJoin i ≡ true → childrenComplete m s t ≡ true) → enabled m s (own t) ≡ true
+  pub own-by : {i : Instruction} → AtNext m s t i → isTransfer i ≡ false → (isJoin i ≡ true → childrenComplete m s t ≡ true)
+      → enabled m s (own t) ≡ true
   unfolding enabled isFree
   own-by {i} at alone join = and-both (isActive m s t) _ (at .active) (rw (at .next, alone) (go (isJoin i) join))
     where
@@ -87,11 +77,11 @@ module _ (m : Programs) (s : Net) (t : TaskId) where
   -- what its own instruction changes
   pub own-completed : effect m s (own t) .completed t ≡ suc (s .completed t)
   unfolding effect afterOwn
-  own-completed = updated-same (λ (u : TaskId). u .0) (s .completed) t (suc (s .completed t))
+  own-completed = at-task (s .completed) t (suc (s .completed t))
 
   pub own-word : effect m s (own t) .word t ≡ wordAfter (nextOf m s t) (s .word t)
   unfolding effect afterOwn
-  own-word = updated-same (λ (u : TaskId). u .0) (s .word) t (wordAfter (nextOf m s t) (s .word t))
+  own-word = at-task (s .word) t (wordAfter (nextOf m s t) (s .word t))
 
   pub own-born : (u : TaskId) → effect m s (own t) .born u ≡ s .born u || isUse opCreate (u .0) (nextOf m s t)
   unfolding effect afterOwn
@@ -179,9 +169,7 @@ module _ (m : Programs) (accepted : planAnswer m ≡ Accepted) (s : Net) (consis
     stands-on {k} side c o none =
         let z = x .tasks t in
         let e = on-in side (programOf m t) c z o in
-        stands-by m s t k c (side-next side e none)
-        (and-both (eqb (lastIn (programOf m t) z .opcode) k) _ (eq-eqb (lastIn (programOf m t) z .opcode) k (last-kind side e))
-        (eq-eqb (lastIn (programOf m t) z .operand) (c .0) (on-operand side (programOf m t) c z o)))
+        stands-by m s t k c (side-next side e none) (on-use side (programOf m t) c z o (last-kind side e))
 
     -- a waiting one is at its sync
     pub waiting-next : isIn Waiting (x .tasks t) ≡ true → AtNext m s t (lastIn (programOf m t) (x .tasks t))
@@ -202,7 +190,5 @@ module _ (m : Programs) (accepted : planAnswer m ≡ Accepted) (s : Net) (consis
         let kind = last-kind receives e in
         let l = last-some g z (omega arith) in
         let few = place-few (x .processors) (length m) g z (run .tasks t n) in
-        let here : isUse opReceive (c .0) (lastIn g z) ≡ true =
-        and-both (eqb (lastIn g z .opcode) opReceive) _ (eq-eqb (lastIn g z .opcode) opReceive kind)
-        (eq-eqb (lastIn g z .operand) (c .0) (on-operand receives g c z o)) in
-        receives-on m accepted (c .0) (t .0 - 1) (z .pc - 2) (omega arith) (omega arith) (rw (last-is g z l) at here) ∙ ap taskId (omega arith)
+        let here = rw (last-is g z l) at (on-use receives g c z o kind) in
+        receives-on m accepted (c .0) (t .0 - 1) (z .pc - 2) (omega arith) (omega arith) here ∙ ap taskId (omega arith)

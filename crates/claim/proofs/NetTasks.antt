@@ -7,11 +7,9 @@ use Prim.Native.Nat.{ℕ, suc, _+_, _-_}
 use native.Mathlib.Omega.{arith}
 use lib.Dec.{eqb}
 use lib.ListN.{length}
-use borrow.Author.Tests.{eqb-true, ne-eqb}
+use borrow.Author.Tests.{eqb-true, ne-eqb, not-false}
 use Rattle.base.specs.Choice.{within}
-use Rattle.base.specs.Sets.{member}
-use Rattle.base.proofs.Tests.{and-left, and-right, and-false, tests-differ, is-true, within-low, within-high}
-use Rattle.base.proofs.Sets.{none-member}
+use Rattle.base.proofs.Tests.{and-left, and-right, and-false, tests-differ, within-low, within-high}
 use Rattle.machine.specs.Machines.{stop, take}
 use Rattle.plan.specs.declared.PlanAnswer.the-variants.{Accepted}
 use Rattle.plan.specs.declared.TaskId.{TaskId}
@@ -34,25 +32,26 @@ use Rattle.net.specs.Labels.{own, isCreate, isJoin, isTransfer}
 use Rattle.net.specs.Guards.{nextOf, childrenComplete, enabled}
 use Rattle.net.specs.Effects.{wordAfter, effect}
 use Rattle.net.specs.Consistent.{Consistent}
-use Rattle.net.proofs.Parts.{same-task}
 use Rattle.net.proofs.Stays.{born-kept}
-use Rattle.net.proofs.Children.{complete-children}
-use Rattle.claim.specs.Readings.{Reading}
-use Rattle.claim.specs.Progress.{isBlocked, programOf}
-use Rattle.claim.specs.Letters.{letterOn, wordsIn, lettersOn}
-use Rattle.claim.specs.Views.{Histories}
-use Rattle.claim.specs.Acts.{Runs, Own, goes-on, waits, OwnAct, CreateAct, ArrivalAct, MoveAct}
-use Rattle.claim.specs.Family.{Child}
-use Rattle.claim.specs.Agreement.{comingTo, wordWith, Agrees, PassedAlike, Running}
-use Rattle.claim.proofs.Flats.{flat-post-nothing, flat-without}
-use Rattle.claim.proofs.FamilyParts.{state-is}
-use Rattle.claim.proofs.Turns.{last-after}
-use Rattle.claim.proofs.ChildrenKept.{child-within}
-use Rattle.claim.proofs.Coming.{blocked-in, completed-free, completed-blocked, not-receiving, coming-none, coming-alike, agrees-born, agrees-completed, agrees-word, alike-agrees, unborn-not, agrees-free}
-use Rattle.claim.proofs.NetSteps.{Follows, at-elim, AtNext, own-by, own-completed, own-word, own-born, own-passed, own-bears-none, own-apart, own-other, done-complete, ready-next}
+use Rattle.net.proofs.Children.{complete-children, next-unborn, child-within}
+use Rattle.acts.specs.Readings.{Reading}
+use Rattle.acts.specs.Progress.{isBlocked, programOf}
+use Rattle.acts.specs.Letters.{letterOn, wordsIn, lettersOn}
+use Rattle.acts.specs.Views.{Histories}
+use Rattle.acts.specs.Acts.{Runs, Own, goes-on, waits, OwnAct, CreateAct, ArrivalAct, MoveAct}
+use Rattle.acts.specs.Agreement.{comingTo, wordWith, Agrees, PassedAlike, Running}
+use Rattle.acts.proofs.Updates.{at-elim}
+use Rattle.acts.proofs.Flats.{flat-post-nothing, flat-without}
+use Rattle.acts.proofs.Parents.{parent-other}
+use Rattle.acts.proofs.Tasks.{state-is, blocked-in, not-receiving, completed-free, completed-blocked, last-after, unborn-apart}
+use Rattle.claim.proofs.FamilyParts.{AllChildren, childless-done}
+use Rattle.claim.proofs.Coming.{coming-none, coming-alike, agrees-born, agrees-completed, agrees-word, alike-agrees, unborn-not, agrees-free}
+use Rattle.claim.proofs.NetSteps.{Follows, AtNext, own-by, own-completed, own-word, own-born, own-passed, own-bears-none, own-apart, own-other}
+use Rattle.claim.proofs.NetSteps.{done-complete, ready-next}
 
 -- nothing is received
-pub follows-nothing : {m : Programs} {s : Net} {y : Reading} {w : ChannelId → List Word} → Follows m s y w → Follows m s y (λ d. w d ++ wordOn d Nothing)
+pub follows-nothing : {m : Programs} {s : Net} {y : Reading} {w : ChannelId → List Word} → Follows m s y w
+    → Follows m s y (λ d. w d ++ wordOn d Nothing)
 unfolding wordOn
 follows-nothing {w = w} f =
     record {
@@ -63,29 +62,25 @@ follows-nothing {w = w} f =
       passed = λ d. f .passed d ∙ rw (append-nil (w d)) refl;
     }
 
--- a born child of a task with no living children is done
-pub childless-ended : {u : TaskId} {parent child : Task} {ended : List ℕ} → Child u parent child ended → isChildless parent ≡ true → isIn Unborn child ≡ false
-    → isIn Done child ≡ true
-childless-ended {u} {parent} {child} k e b =
-    let out : member (u .0) (parent .children) ≡ false = rw (eqb-true (parent .children) 0 e) (none-member (u .0)) in
-    is-true (isIn Done child) (λ d. let l = rw (out, b, d) at (k .living) in omega arith)
-
 -- an instruction that is neither set nor add leaves the word
 pub word-same : (i : Instruction) (v : Word) (k : ℕ) → i .opcode ≡ k → eqb k opSet ≡ false → eqb k opAdd ≡ false → wordAfter i v ≡ v
 unfolding wordAfter
 word-same i v k e p q = rw (e, p, q) refl
 
+-- a task with no children, in a net with which the other tasks agree
+pub childless-complete : (m : Programs) → planAnswer m ≡ Accepted → (s : Net) → Consistent m s → (y : Reading) → AllChildren m y
+    → (p : TaskId) → within 1 (length m) (p .0) ≡ true → ((u : TaskId) → u .0 ≢ p .0 → Agrees m s (y .letters) u (y .tasks u))
+    → isChildless (y .tasks p) ≡ true → childrenComplete m s p ≡ true
+childless-complete m accepted s consistent y kindred p number others e =
+    let low = within-low 1 (length m) (p .0) number in
+    complete-children m accepted s consistent p low (within-high 1 (length m) (p .0) number)
+    (λ u parent b.
+    let n = child-within m accepted p u low parent in
+    let a = others u (λ q. parent-other m accepted u n (ap (λ (v : TaskId). v .0) parent ∙ sym q)) in
+    done-complete m accepted s consistent a (childless-done (rw parent at (kindred u n)) e (unborn-not a b)))
+
 module _ (m : Programs) (accepted : planAnswer m ≡ Accepted) (s : Net) (consistent : Consistent m s)
     {h : Histories} {x : Reading} {w : ChannelId → List Word} (run : Running m h s x w) where
-  -- a task with no children, in the net
-  pub childless-complete : (t : TaskId) → within 1 (length m) (t .0) ≡ true → isChildless (x .tasks t) ≡ true → childrenComplete m s t ≡ true
-  childless-complete t n e =
-      let low = within-low 1 (length m) (t .0) n in
-      complete-children m accepted s consistent t low (within-high 1 (length m) (t .0) n)
-      (λ u parent b.
-      let k = rw parent at (run .children u (child-within m accepted t u low parent)) in
-      done-complete m accepted s consistent (run .agrees u) (childless-ended k e (unborn-not (run .agrees u) b)))
-
   -- no word and no receiver has to do with it
   module _ (y : Reading) (same : (c : ChannelId) → lettersOn c (y .letters) ≡ lettersOn c (x .letters)) where
     pub coming-same : (u : TaskId) (z : Task) → comingTo (programOf m u) (y .letters) z ≡ comingTo (programOf m u) (x .letters) z
@@ -101,7 +96,10 @@ module _ (m : Programs) (accepted : planAnswer m ≡ Accepted) (s : Net) (consis
           end = s;
           labels = [];
           run = stop;
-          agrees = λ u. rw e (at-elim (λ v a. Agrees m s (y .letters) v a) (x .tasks) t z new (λ v ne. alike-agrees (run .agrees v) refl refl refl (coming-same v (x .tasks v))) u);
+          agrees =
+              λ u. rw e
+              (at-elim (λ v a. Agrees m s (y .letters) v a) (x .tasks) t z new
+              (λ v ne. alike-agrees (run .agrees v) refl refl refl (coming-same v (x .tasks v))) u);
           passed = passed-same s refl;
         }
 
@@ -129,18 +127,28 @@ module _ (m : Programs) (accepted : planAnswer m ≡ Accepted) (s : Net) (consis
     runs-quiet : comingTo (programOf m t) (x .letters) (x .tasks t) ≡ []
     runs-quiet = coming-none (programOf m t) (x .tasks t) (x .letters) (state-is Ready Receiving (x .tasks t) (runs .ready))
 
-    pub runs-born : s .born t ≡ true
+    runs-born : s .born t ≡ true
     runs-born = agrees-born (run .agrees t) (state-is Ready Unborn (x .tasks t) (runs .ready))
 
-    pub runs-completed : suc (s .completed t) ≡ x .tasks t .pc
-    runs-completed = omega (arith, agrees-completed (run .agrees t) runs-quiet, completed-free (x .tasks t) (blocked-in (x .tasks t) Ready (runs .ready)), runs .low)
+    runs-completed : suc (s .completed t) ≡ x .tasks t .pc
+    runs-completed =
+        omega
+        (arith, agrees-completed (run .agrees t) runs-quiet, completed-free (x .tasks t) (blocked-in (x .tasks t) Ready (runs .ready)), runs .low)
 
-    pub runs-word : s .word t ≡ x .tasks t .word
+    runs-word : s .word t ≡ x .tasks t .word
     runs-word = agrees-word (run .agrees t) runs-quiet
+
+    -- whom it creates is unborn
+    pub runs-unborn : (u : TaskId) → isUse opCreate (u .0) i ≡ true → isIn Unborn (x .tasks u) ≡ true
+    runs-unborn u e =
+        let late = next-unborn m accepted s consistent t u (runs-next .active) (rw (runs-next .next) e) in
+        not-false _ (sym (run .agrees u .born) ∙ late)
 
     -- it may do an instruction that is no transfer, where a join finds no children
     pub runs-own : isTransfer i ≡ false → (isJoin i ≡ true → isChildless (x .tasks t) ≡ true) → enabled m s (own t) ≡ true
-    runs-own alone join = own-by m s t runs-next alone (λ e. childless-complete t (runs .number) (join e))
+    runs-own alone join =
+        own-by m s t runs-next alone
+        (λ e. childless-complete m accepted s consistent x (run .children) t (runs .number) (λ u ne. run .agrees u) (join e))
 
     -- after it
     pub ran-completed : effect m s (own t) .completed t ≡ x .tasks t .pc
@@ -153,7 +161,7 @@ module _ (m : Programs) (accepted : planAnswer m ≡ Accepted) (s : Net) (consis
     ran-born = born-kept m s (own t) t runs-born
 
     -- it is ready again, one place on
-    pub ran-agrees : (ns : List Message) (z : Task) → isIn Ready z ≡ true → z .pc ≡ x .tasks t .pc + 1 → z .word ≡ wordAfter i (x .tasks t .word)
+    ran-agrees : (ns : List Message) (z : Task) → isIn Ready z ≡ true → z .pc ≡ x .tasks t .pc + 1 → z .word ≡ wordAfter i (x .tasks t .word)
         → Agrees m (effect m s (own t)) ns t z
     ran-agrees ns z r k v =
         let f = blocked-in z Ready r in
@@ -161,7 +169,8 @@ module _ (m : Programs) (accepted : planAnswer m ≡ Accepted) (s : Net) (consis
         (omega (arith, ran-completed, completed-free z f)) (ran-word ∙ sym v)
 
     -- it waits for its children
-    waits-agrees : (ns : List Message) → i .opcode ≡ opSync → isChildless (x .tasks t) ≡ false → Agrees m s ns t (advanced (withState (x .tasks t) Waiting))
+    waits-agrees : (ns : List Message) → i .opcode ≡ opSync → isChildless (x .tasks t) ≡ false
+        → Agrees m s ns t (advanced (withState (x .tasks t) Waiting))
     unfolding wordWith
     waits-agrees ns sync some =
         let z = advanced (withState (x .tasks t) Waiting) in
@@ -175,7 +184,8 @@ module _ (m : Programs) (accepted : planAnswer m ≡ Accepted) (s : Net) (consis
           done = λ e. absurd (tests-differ e refl);
         }
 
-    own-case : (y : Reading) → y .letters ≡ x .letters → isCreate i ≡ false → {z : Task} → Own i (x .tasks t) z → y .tasks ≡ atTask (x .tasks) t z → Follows m s y w
+    own-case : (y : Reading) → y .letters ≡ x .letters → isCreate i ≡ false → {z : Task} → Own i (x .tasks t) z → y .tasks ≡ atTask (x .tasks) t z
+        → Follows m s y w
     own-case y l none (goes-on alone join) e =
         let z = advanced (withWord (x .tasks t) (wordAfter i (x .tasks t .word))) in
         own-follows y (λ c. rw l refl) t z (runs-own alone join) (rw (runs-next .next) none) e (ran-agrees (y .letters) z (runs .ready) refl refl)
@@ -195,9 +205,7 @@ module _ (m : Programs) (accepted : planAnswer m ≡ Accepted) (s : Net) (consis
     create-next = runs-next (act .task) (act .instruction) (act .runs) .next
 
     child-other : act .child .0 ≢ act .task .0
-    child-other e =
-        let r = rw (← same-task (act .child) (act .task) e) at (act .runs .ready) in
-        tests-differ (act .unborn) (state-is Ready Unborn (x .tasks (act .child)) r)
+    child-other = unborn-apart (x .tasks) (act .task) (act .child) (act .runs .ready) (act .unborn)
 
     child-unborn : s .born (act .child) ≡ false
     child-unborn = run .agrees (act .child) .born ∙ rw (act .unborn) refl
@@ -210,7 +218,8 @@ module _ (m : Programs) (accepted : planAnswer m ≡ Accepted) (s : Net) (consis
     other-born v ne =
         let i = act .instruction in
         let operand = eqb-true (i .operand) (act .child .0) (and-right (eqb (i .opcode) opCreate) _ (act .creates)) in
-        let not-this : isUse opCreate (v .0) i ≡ false = rw (operand, ne-eqb (act .child .0) (v .0) (λ e. ne (sym e))) (and-false (eqb (i .opcode) opCreate)) in
+        let not-this : isUse opCreate (v .0) i ≡ false =
+        rw (operand, ne-eqb (act .child .0) (v .0) (λ e. ne (sym e))) (and-false (eqb (i .opcode) opCreate)) in
         created-born v ∙ rw not-this (or-false (s .born v))
 
     child-agrees : Agrees m (effect m s (own (act .task))) (y .letters) (act .child) (born (x .tasks (act .task) .processor))
@@ -236,7 +245,8 @@ module _ (m : Programs) (accepted : planAnswer m ≡ Accepted) (s : Net) (consis
               (at-elim (λ v z. Agrees m s' (y .letters) v z) (atTask (x .tasks) t (createRule (x .tasks t) (act .child))) (act .child) _ child-agrees
               (λ v ne.
               at-elim (λ v z. v .0 ≢ act .child .0 → Agrees m s' (y .letters) v z) (x .tasks) t (createRule (x .tasks t) (act .child))
-              (λ q. ran-agrees t i (act .runs) (y .letters) (createRule (x .tasks t) (act .child)) (act .runs .ready) refl (sym (word-same i _ opCreate create-kind refl refl)))
+              (λ q. ran-agrees t i (act .runs) (y .letters) (createRule (x .tasks t) (act .child)) (act .runs .ready) refl
+              (sym (word-same i _ opCreate create-kind refl refl)))
               (λ v q r. own-other m s t q (other-born v r) (coming-same y same v (x .tasks v)) (run .agrees v)) v ne)
               u);
           passed = passed-same y same s' (own-passed m s t);
@@ -248,15 +258,18 @@ module _ (m : Programs) (accepted : planAnswer m ≡ Accepted) (s : Net) (consis
   free-agrees t ns z b f zb zf zd k v =
       let a = run .agrees t in
       let none = coming-none (programOf m t) (x .tasks t) (x .letters) (not-receiving (x .tasks t) f) in
-      agrees-free (agrees-born a b) zb zf zd (omega (arith, agrees-completed a none, completed-free (x .tasks t) f, completed-free z zf)) (agrees-word a none ∙ sym v)
+      agrees-free (agrees-born a b) zb zf zd (omega (arith, agrees-completed a none, completed-free (x .tasks t) f, completed-free z zf))
+      (agrees-word a none ∙ sym v)
 
   pub arrival-follows : {y : Reading} → ArrivalAct m h x y → Follows m s y w
   unfolding letterOn
   arrival-follows {y} act =
       let t = act .task in
       let z = x .tasks t in
-      still-follows y (λ c. rw (act .letters) (flat-without (letterOn c) (x .letters) (act .p) (act .letter) refl)) t (arrived z (act .at)) (act .tasks)
-      (free-agrees t (y .letters) (arrived z (act .at)) (state-is Moving Unborn z (act .moving)) (blocked-in z Moving (act .moving)) refl refl refl refl refl)
+      still-follows y (λ c. rw (act .letters) (flat-without (letterOn c) (x .letters) (act .p) (act .letter) refl)) t (arrived z (act .at))
+      (act .tasks)
+      (free-agrees t (y .letters) (arrived z (act .at)) (state-is Moving Unborn z (act .moving))
+      (blocked-in z Moving (act .moving)) refl refl refl refl refl)
 
   pub move-follows : {h' : Histories} {y : Reading} → MoveAct m h h' x y → Follows m s y w
   unfolding letterOn

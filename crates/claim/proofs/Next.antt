@@ -6,6 +6,7 @@ use Prim.Native.Nat.{_+_, _≤_, _<_}
 use native.Mathlib.Omega.{arith}
 use borrow.Author.Tests.{eqb-true, ne-eqb}
 use Rattle.base.proofs.Tests.{tests-differ}
+use Rattle.machine.proofs.Runs.{run-append}
 use Rattle.plan.specs.declared.PlanAnswer.the-variants.{Accepted as PlanAccepted}
 use Rattle.plan.specs.declared.Plan.{Plan}
 use Rattle.plan.specs.declared.ChannelId.{ChannelId}
@@ -20,7 +21,7 @@ use Rattle.rules.specs.declared.rule.Received.the-variants.{Nothing}
 use Rattle.rules.specs.declared.system.System.{System}
 use Rattle.rules.specs.Systems.{meaning}
 use Rattle.rules.specs.Effects.{Effect, completed}
-use Rattle.rules.specs.Runs.{ran}
+use Rattle.rules.specs.Runs.{ran, nextOf}
 use Rattle.rules.specs.Deliver.{delivered}
 use Rattle.rules.specs.Moves.{moved}
 use Rattle.rules.specs.Steps.{isRun, isDeliver, isMove, wellFormed, stepAnswer, performed, accepted, step, wordOn}
@@ -30,28 +31,27 @@ use Rattle.rules_laws.proofs.Shapes.{step-shaped, step-plan}
 use Rattle.rules_laws.proofs.Steps.{step-accepted, step-passed}
 use Rattle.rules_laws.proofs.StepKinds.{answer-run, performed-run, answer-deliver, performed-deliver, answer-move, performed-move, deliver-passed}
 use Rattle.rules_sound.proofs.Kept.{kept}
-use Rattle.rules_sound.proofs.Sound.{sound}
-use Rattle.machine.proofs.Runs.{run-append}
 use Rattle.net.specs.States.{Net}
 use Rattle.net.specs.Labels.{Label}
 use Rattle.net.specs.Nets.{net, Reached}
 use Rattle.channel.specs.Invariant.{Invariant}
-use Rattle.claim.specs.Readings.{reading}
-use Rattle.claim.specs.Progress.{flag, unexecuted}
-use Rattle.claim.specs.Letters.{endedOf}
-use Rattle.claim.specs.Views.{Histories, viewOf}
-use Rattle.claim.specs.Acts.{RunAct, DeliverAct, MoveAct}
-use Rattle.claim.specs.Agreement.{TasksOk, Running}
+use Rattle.acts.specs.Readings.{reading}
+use Rattle.acts.specs.Progress.{flag, unexecuted}
+use Rattle.acts.specs.Letters.{endedOf}
+use Rattle.acts.specs.Views.{Histories, viewOf}
+use Rattle.acts.specs.Acts.{RunAct, DeliverAct, MoveAct}
+use Rattle.acts.specs.Agreement.{TasksOk, Running}
+use Rattle.acts.proofs.Rigs.{plan-accepted, desks-few, tasks-ok}
+use Rattle.acts.proofs.Runs.{runs-of}
+use Rattle.acts.proofs.MoveActs.{move-act, move-received}
+use Rattle.acts.proofs.Dispatch.{run-act, deliver-act}
 use Rattle.claim.specs.Weights.{weightOf}
 use Rattle.claim.proofs.Falls.{run-less, deliver-less, move-work}
 use Rattle.claim.proofs.ViewsKept.{views-run, views-deliver, views-move, root-run, root-deliver, root-move}
 use Rattle.claim.proofs.FamilyParts.{Families}
 use Rattle.claim.proofs.Families.{families-run, families-deliver, families-move}
 use Rattle.claim.proofs.NetSteps.{Follows}
-use Rattle.claim.proofs.Simulation.{follows-run, follows-deliver, follows-move}
-use Rattle.claim.proofs.Starts.{sound-tasks}
-use Rattle.claim.proofs.MoveActs.{move-act, move-received}
-use Rattle.claim.proofs.Dispatch.{run-act, deliver-act}
+use Rattle.claim.proofs.Simulation.{follows-run, follows-deliver, follows-move, creates-unborn}
 
 -- what holds of a rig r of plan p, with the words received so far
 pub record Kept (p : Plan) (r : System) (received : ChannelId → List Word) : Type 0 where
@@ -72,11 +72,11 @@ pub record Next (p : Plan) {r : System} {w : ChannelId → List Word} (k : Kept 
 
 few : (q : System) → Shaped q → systemOk q ≡ true → reading q .processors ≤ 6
 unfolding reading
-few q shaped ok = sound q shaped ok .frame .few
+few q shaped ok = desks-few q shaped ok
 
--- 9 says of each task that it is in order
-tasks-ok : (p : Plan) (q : System) → Shaped q → systemOk q ≡ true → q .plan ≡ p → TasksOk (programs p) (reading q)
-tasks-ok p q shaped ok plan = subst (λ (z : Plan). TasksOk (programs z) (reading q)) plan (sound-tasks q (sound q shaped ok))
+-- no more words
+pub no-more : (w : ChannelId → List Word) → (λ c. w c ++ []) ≡ w
+no-more w = fun-ext (λ c. append-nil (w c))
 
 module _ (p : Plan) (a : planAnswer (programs p) ≡ PlanAccepted) {r : System} {w : ChannelId → List Word} (k : Kept p r w) where
   abbrev m : Programs
@@ -98,7 +98,7 @@ module _ (p : Plan) (a : planAnswer (programs p) ≡ PlanAccepted) {r : System} 
         running =
             record {
               few = few q shaped ok;
-              tasks = tasks-ok p q shaped ok plan;
+              tasks = subst (λ (z : Plan). TasksOk (programs z) (reading q)) plan (tasks-ok q shaped ok);
               views = views;
               places = family .places;
               children = family .children;
@@ -117,13 +117,15 @@ module _ (p : Plan) (a : planAnswer (programs p) ≡ PlanAccepted) {r : System} 
   here-reached = subst (λ (z : Plan). Reached (programs z) (k .labels) (k .state)) (sym (k .plan)) (k .reached)
 
   module _ (q : System) (shaped : Shaped q) (ok : systemOk q ≡ true) (plan : q .plan ≡ p) where
+    -- after each kind of step
     after-run : {got : Received} (h : Histories) → RunAct m (k .histories) (reading r) h (reading q) got → Next p k q got true false
     unfolding together
     after-run {got} h act =
         let less = run-less m (k .running) act in
         record {
           kept =
-              together q (λ c. w c ++ wordOn c got) h shaped ok plan (families-run m a (k .running) act) (views-run m (k .running) act) (root-run m (k .running) act)
+              together q (λ c. w c ++ wordOn c got) h shaped ok plan (families-run m a (k .running) act) (views-run m (k .running) act)
+              (root-run m (k .running) act)
               (follows-run m a (k .reached) (k .running) act);
           work = less .work;
           falls = λ e. less .weight;
@@ -135,7 +137,8 @@ module _ (p : Plan) (a : planAnswer (programs p) ≡ PlanAccepted) {r : System} 
         let less = deliver-less m (k .running) act in
         record {
           kept =
-              together q (λ c. w c ++ wordOn c got) (k .histories) shaped ok plan (families-deliver m a (k .running) act) (views-deliver m (k .running) act)
+              together q (λ c. w c ++ wordOn c got) (k .histories) shaped ok plan (families-deliver m a (k .running) act)
+              (views-deliver m (k .running) act)
               (root-deliver m (k .running) act) (follows-deliver m a (k .reached) (k .running) act);
           work = less .work;
           falls = λ e. less .weight;
@@ -144,10 +147,9 @@ module _ (p : Plan) (a : planAnswer (programs p) ≡ PlanAccepted) {r : System} 
     after-move : (h : Histories) → MoveAct m (k .histories) h (reading r) (reading q) → Next p k q Nothing false true
     unfolding wordOn
     after-move h act =
-        let same : w ≡ (λ c. w c ++ []) = fun-ext (λ c. sym (append-nil (w c))) in
         record {
           kept =
-              rw (← same)
+              rw (no-more w)
               (together q w h shaped ok plan (families-move m a (k .running) act) (views-move m (k .running) act) (root-move m (k .running) act)
               (follows-move m a (k .reached) (k .running) act));
           work = omega (arith, move-work m (k .running) act);
@@ -175,10 +177,14 @@ module _ (p : Plan) (a : planAnswer (programs p) ≡ PlanAccepted) {r : System} 
         let all : step r s ≡ accepted e = same ∙ ap accepted is in
         rw (all, one, three) (f (rw all at shaped-then) (rw all at ok-then) (rw all at plan-then))
 
+    -- each kind of step
     run-next : isRun s ≡ true → Next p k (step r s .system) (step r s .report .received) (isRun s) (isMove s)
     run-next kind =
         let t = taskId (s .task) in
-        let (h, act) = run-act r (k .shaped) (k .ok) (k .histories) here t (sym (answer-run r s kind) ∙ step-passed r s yes .rule) here-reached in
+        let passed = sym (answer-run r s kind) ∙ step-passed r s yes .rule in
+        let runs = runs-of r (k .shaped) (k .ok) t passed in
+        let unborn = creates-unborn (meaning r) (plan-accepted r (k .shaped) (k .ok)) here-reached here t (nextOf r t) runs in
+        let (h, act) = run-act r (k .shaped) (k .ok) (k .histories) here t passed unborn in
         by-effect (ran r t) true false (performed-run r s kind) kind (ne-eqb (s .kind) 3 (λ e. omega (arith, eqb-true (s .kind) 1 kind)))
         (λ shaped ok plan. after-run (completed (ran r t)) shaped ok plan h
         (subst (λ (z : Plan). RunAct (programs z) (k .histories) (reading r) h (reading (completed (ran r t))) (ran r t .received)) (k .plan) act))
@@ -191,7 +197,8 @@ module _ (p : Plan) (a : planAnswer (programs p) ≡ PlanAccepted) {r : System} 
         by-effect (delivered r i) false false (performed-deliver r s kind) (ne-eqb (s .kind) 1 (λ e. omega (arith, eqb-true (s .kind) 2 kind)))
         (ne-eqb (s .kind) 3 (λ e. omega (arith, eqb-true (s .kind) 2 kind)))
         (λ shaped ok plan. after-deliver (completed (delivered r i)) shaped ok plan
-        (subst (λ (z : Plan). DeliverAct (programs z) (k .histories) (reading r) (reading (completed (delivered r i))) (delivered r i .received)) (k .plan) act))
+        (subst (λ (z : Plan). DeliverAct (programs z) (k .histories) (reading r) (reading (completed (delivered r i))) (delivered r i .received))
+        (k .plan) act))
 
     move-next : isMove s ≡ true → Next p k (step r s .system) (step r s .report .received) (isRun s) (isMove s)
     unfolding moved

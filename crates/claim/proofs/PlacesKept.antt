@@ -1,15 +1,14 @@
 -- Every step keeps every task in its place.
-use mathlib.Core.Path.{_≡_, refl, sym, ap, _∙_}
+use mathlib.Core.Path.{_≡_, refl, sym, _∙_}
 use mathlib.Core.Bool.{true, false}
-use mathlib.Core.Logic.{_≢_, by-cases, ⊎-elim}
-use mathlib.Core.List.{List, [], _++_}
+use mathlib.Core.Logic.{_≢_, ⊎-elim}
+use mathlib.Core.List.{List, _++_}
 use mathlib.Core.Option.{some}
 use Prim.Native.Nat.{ℕ, suc, _+_, _≤_}
 use native.Mathlib.Numerals.{add-one}
 use native.Mathlib.Omega.{arith}
-use native.Mathlib.Decide.{ℕ-discrete}
 use lib.ListN.{length, getElem?, length-append}
-use borrow.Author.Tests.{eqb-true, eq-eqb, ne-eqb}
+use borrow.Author.Tests.{eqb-true}
 use Rattle.base.specs.Choice.{within}
 use Rattle.base.proofs.Tests.{within-low, within-high, tests-differ}
 use Rattle.base.proofs.Updates.{updated-same}
@@ -17,7 +16,6 @@ use Rattle.plan.specs.declared.TaskId.{TaskId}
 use Rattle.plan.specs.declared.ProcessorId.{ProcessorId}
 use Rattle.plan.specs.declared.ChannelId.{ChannelId}
 use Rattle.plan.specs.declared.Word.{Word}
-use Rattle.plan.specs.Numbers.{taskId}
 use Rattle.plan.specs.Programs.{Programs}
 use Rattle.plan.specs.Users.{senderOf, receiverOf, parentOf}
 use Rattle.rules.specs.declared.task.TaskState.the-variants.{Unborn, Ready, Moving}
@@ -32,29 +30,19 @@ use Rattle.channel.specs.Bags.{one, without}
 use Rattle.channel.specs.Updates.{atNumber}
 use Rattle.channel.specs.Events.{Event}
 use Rattle.channel.proofs.Bags.{in-post, length-without}
-use Rattle.claim.specs.Readings.{Reading}
-use Rattle.claim.specs.Progress.{programOf}
-use Rattle.claim.specs.Letters.{moverTo, moversOf}
-use Rattle.claim.specs.Views.{Histories}
-use Rattle.claim.specs.Family.{Placed}
-use Rattle.claim.specs.Acts.{ChannelAct, OwnAct, CreateAct, FinishAct, Finishing, alone, near, away, EndedAct, ArrivalAct, MoveAct, sentTo, finished}
-use Rattle.claim.specs.Agreement.{Running}
-use Rattle.claim.proofs.Flats.{flat-post, flat-post-nothing, flat-without, flat-place}
-use Rattle.claim.proofs.Turns.{sends, receives}
-use Rattle.claim.proofs.FamilyParts.{at-task, at-other, AllPlaced, SamePlace, same-placed, steady-place, unchanged, kept-one, kept-two, state-is, turn-steady, own-steady, creator-place, finished-place, lost-place, none-in}
-
--- mover letters: an ended letter is none, and a mover letter is one of its own task
-no-mover : (t u : TaskId) (d : ProcessorId) → moverTo t (Terminated d u) ≡ []
-unfolding moverTo
-no-mover t u d = refl
-
-own-mover : (t : TaskId) (d : ProcessorId) → moverTo t (Migration d t) ≡ one (d .0)
-unfolding moverTo
-own-mover t d = rw (eq-eqb (t .0) (t .0) refl) refl
-
-other-mover : (t u : TaskId) (d : ProcessorId) → u .0 ≢ t .0 → moverTo t (Migration d u) ≡ []
-unfolding moverTo
-other-mover t u d ne = rw (ne-eqb (u .0) (t .0) ne) refl
+use Rattle.acts.specs.Readings.{Reading}
+use Rattle.acts.specs.Progress.{programOf}
+use Rattle.acts.specs.Letters.{moverTo, moversOf}
+use Rattle.acts.specs.Views.{Histories}
+use Rattle.acts.specs.Acts.{ChannelAct, OwnAct, CreateAct, FinishAct, Finishing, alone, near, away, EndedAct, ArrivalAct, MoveAct, sentTo, finished}
+use Rattle.acts.specs.Family.{Placed}
+use Rattle.acts.specs.Agreement.{Running}
+use Rattle.acts.proofs.Updates.{at-task, at-other, task-cases}
+use Rattle.acts.proofs.Flats.{flat-post, flat-post-nothing, flat-without, flat-place, own-mover, other-mover, no-mover}
+use Rattle.acts.proofs.Tasks.{state-is, sends, receives, unchanged}
+use Rattle.acts.proofs.Turns.{turn-steady}
+use Rattle.claim.proofs.FamilyParts.{AllPlaced, SamePlace, same-placed, steady-place, kept-one, kept-two, own-steady, creator-place}
+use Rattle.claim.proofs.FamilyParts.{finished-place, lost-place, none-in}
 
 -- where a task is sent
 module _ (h : Histories) (t : TaskId) (k : ℕ) (d : ProcessorId) where
@@ -116,6 +104,7 @@ module _ {m : Programs} {h : Histories} {s : Net} {x : Reading} {w : ChannelId �
   same : (z : Task) → SamePlace z z
   same z = steady-place (unchanged z)
 
+  -- by each act: a step about a channel, of one task, an end
   pub places-channel : {y : Reading} {e : Event} {got : Received} → ChannelAct m h x y e got → AllPlaced m h y
   places-channel {y} act =
       let c = act .channel in
@@ -151,7 +140,7 @@ module _ {m : Programs} {h : Histories} {s : Net} {x : Reading} {w : ChannelId �
       go t i (away ne at f l) =
           same-places y (act .unseen .processors)
           (λ u. rw f (kept-one SamePlace same (x .tasks) t (finished (x .tasks t)) u (λ e. i)))
-          (λ u. rw l (flat-post-nothing (moverTo u) (x .letters) (Terminated (x .tasks t .home) t) (no-mover u t (x .tasks t .home))))
+          (λ u. rw l (flat-post-nothing (moverTo u) (x .letters) (Terminated (x .tasks t .home) t) (no-mover u (x .tasks t .home) t)))
 
   pub places-ended : {y : Reading} → EndedAct m h x y → AllPlaced m h y
   places-ended {y} act =
@@ -159,7 +148,7 @@ module _ {m : Programs} {h : Histories} {s : Net} {x : Reading} {w : ChannelId �
       let i = lost-place (x .tasks p) (act .task) in
       same-places y (act .unseen .processors)
       (λ t. rw (act .tasks) (kept-one SamePlace same (x .tasks) p (withoutChild (x .tasks p) (act .task)) t (λ e. i)))
-      (λ t. rw (act .letters) (flat-without (moverTo t) (x .letters) (act .p) (act .letter) (no-mover t (act .task) (act .at))))
+      (λ t. rw (act .letters) (flat-without (moverTo t) (x .letters) (act .p) (act .letter) (no-mover t (act .at) (act .task))))
 
   -- task t changes its place, and nobody else
   one-place : (later : Histories) (y : Reading) (t : TaskId) → y .processors ≡ x .processors
@@ -168,12 +157,12 @@ module _ {m : Programs} {h : Histories} {s : Net} {x : Reading} {w : ChannelId �
       → ((u : TaskId) → u .0 ≢ t .0 → SamePlace (x .tasks u) (y .tasks u))
       → ((u : TaskId) → u .0 ≢ t .0 → moversOf u (y .letters) ≡ moversOf u (x .letters))
       → AllPlaced m later y
-  one-place later y t n p f e l u i =
-      by-cases
-      (ℕ-discrete (u .0) (t .0))
-      (λ (q : u .0 ≡ t .0). let j : u ≡ t = ap taskId q in rw (j, n) (p (rw j at i)))
-      (λ ne. rw (n, f u ne, l u ne) (same-placed (e u ne) (r .places u i)))
+  one-place later y t n p f e l =
+      task-cases (λ u. within 1 (length m) (u .0) ≡ true → Placed (y .processors) (later u) (y .tasks u) (moversOf u (y .letters))) t
+      (λ i. rw n (p i))
+      (λ u ne i. rw (n, f u ne, l u ne) (same-placed (e u ne) (r .places u i)))
 
+  -- a birth, an arrival and a move
   pub places-create : {h' : Histories} {y : Reading} → CreateAct m h h' x y → AllPlaced m h' y
   places-create {h'} {y} act =
       let t = act .task in
@@ -204,7 +193,7 @@ module _ {m : Programs} {h : Histories} {s : Net} {x : Reading} {w : ChannelId �
       (λ u ne. rw (act .tasks, at-other (x .tasks) t u z ne) (same (x .tasks u)))
       (λ u ne.
       rw (act .letters)
-      (flat-without (moverTo u) (x .letters) (act .p) (act .letter) (other-mover u t (act .at) (λ e. ne (sym e)))))
+      (flat-without (moverTo u) (x .letters) (act .p) (act .letter) (other-mover u (act .at) t (λ e. ne (sym e)))))
 
   pub places-move : {h' : Histories} {y : Reading} → MoveAct m h h' x y → AllPlaced m h' y
   places-move {h'} {y} act =
@@ -223,4 +212,4 @@ module _ {m : Programs} {h : Histories} {s : Net} {x : Reading} {w : ChannelId �
       (λ u ne. rw (act .tasks, at-other (x .tasks) t u z ne) (same (x .tasks u)))
       (λ u ne.
       rw (act .letters)
-      (flat-post-nothing (moverTo u) (x .letters) (Migration d t) (other-mover u t d (λ e. ne (sym e)))))
+      (flat-post-nothing (moverTo u) (x .letters) (Migration d t) (other-mover u d t (λ e. ne (sym e)))))

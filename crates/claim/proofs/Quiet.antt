@@ -1,16 +1,17 @@
 -- Rest: exactly when no run and no delivery would be accepted; and then every ready task is at its finish, with a living child.
 use mathlib.Core.Path.{_≡_, refl, sym, ap, _∙_}
 use mathlib.Core.Logic.{by-cases}
-use mathlib.Core.Bool.{Bool, true, false, not, _||_}
+use mathlib.Core.Bool.{true, false, not, _||_}
 use mathlib.Core.List.{List, [], _∷_}
 use Prim.Native.Nat.{ℕ, suc, _+_, _≤_}
 use native.Mathlib.Omega.{arith}
 use native.Mathlib.Decide.{ℕ-discrete}
 use lib.Dec.{eqb, leb}
 use lib.ListN.{length}
-use borrow.Author.Tests.{eqb-true, eq-eqb, le-leb}
+use borrow.Author.Tests.{eqb-true, eq-eqb, le-leb, not-true}
 use Rattle.base.specs.Choice.{pick, within}
-use Rattle.base.proofs.Tests.{and-left, and-right, and-both, or-cases, within-low, within-high, within-both, up-to-at, below-all, is-false, is-true, tests-differ}
+use Rattle.base.proofs.Tests.{and-left, and-right, and-both, or-cases, within-low, within-high, within-both, up-to-at, below-all, is-false, is-true}
+use Rattle.base.proofs.Tests.{tests-differ}
 use Rattle.base.proofs.Choices.{pick-either}
 use Rattle.base.proofs.Joins.{length-joined}
 use Rattle.base.proofs.Sums.{sum-at-most}
@@ -37,16 +38,12 @@ use Rattle.rules_laws.specs.Shapes.{Shaped}
 use Rattle.rules_laws.proofs.Steps.{accepted-is, step-passed}
 use Rattle.rules_laws.proofs.StepKinds.{answer-run, answer-deliver, deliver-passed}
 use Rattle.rules_sound.proofs.Answers.{run-passed}
-use Rattle.rules_sound.proofs.Sound.{sound}
-use Rattle.claim.specs.Readings.{reading}
+use Rattle.acts.specs.Readings.{reading}
+use Rattle.acts.proofs.Rigs.{desks-few}
 
 -- a delivery of position p
 abbrev pub deliverStep : ℕ → Step
 deliverStep p = record { kind = 2; task = 0; number = p }
-
-not-passed : (b : Bool) → not b ≡ true → b ≡ false
-not-passed true h = cc
-not-passed false h = refl
 
 module _ (r : System) (ok : systemOk r ≡ true) where
   -- where a letter is, its delivery is accepted
@@ -55,13 +52,15 @@ module _ (r : System) (ok : systemOk r ≡ true) where
   deliver-accepted p l u = rw (ok, within-both 1 (r .network .used) p l u) refl
 
   module _ (quiet : quiescent r ≡ true) where
+    -- what rest says: no letters, and no run is accepted
     no-letters : r .network .used ≡ 0
     unfolding quiescent
     no-letters = eqb-true (r .network .used) 0 (and-left (eqb (r .network .used) 0) _ quiet)
 
     no-run : (t : ℕ) → 1 ≤ t → t ≤ r .plan .tasks → isAccepted (stepAnswer r (runStep t)) ≡ false
     unfolding quiescent
-    no-run t l u = not-passed _ (up-to-at (λ t. not (isAccepted (stepAnswer r (runStep t)))) (r .plan .tasks) t l u (and-right (eqb (r .network .used) 0) _ quiet))
+    no-run t l u =
+        not-true _ (up-to-at (λ t. not (isAccepted (stepAnswer r (runStep t)))) (r .plan .tasks) t l u (and-right (eqb (r .network .used) 0) _ quiet))
 
     -- a run and a delivery are refused
     run-refused : (s : Step) → isRun s ≡ true → stepAnswer r s ≡ Accepted → ⊥
@@ -105,7 +104,9 @@ few-posted n (Letter a) = omega arith
 few-posted n (Adverts c d) =
     let f : ℕ → List Message = λ k. pick (eqb (suc k) (d .0)) [] (Advert c (processorId (suc k)) d ∷ []) in
     let e = length-joined n f in
-    let q = sum-at-most 1 n (λ k. length (f k)) (λ k l. pick-either (λ ls. length ls ≤ 1) (eqb (suc k) (d .0)) [] (Advert c (processorId (suc k)) d ∷ []) (omega arith) (omega arith)) in
+    let q =
+    sum-at-most 1 n (λ k. length (f k))
+    (λ k l. pick-either (λ ls. length ls ≤ 1) (eqb (suc k) (d .0)) [] (Advert c (processorId (suc k)) d ∷ []) (omega arith) (omega arith)) in
     omega (arith, e, q)
 
 module _ (r : System) (shaped : Shaped r) (ok : systemOk r ≡ true) (quiet : quiescent r ≡ true) where
@@ -118,12 +119,13 @@ module _ (r : System) (shaped : Shaped r) (ok : systemOk r ≡ true) (quiet : qu
       → (isFinish (nextOf r t) ≡ true) × (isChildless (taskAt r t) ≡ false)
   unfolding stepAnswer ruledAnswer wellFormed kindAnswer runAnswer fits
   quiet-ready t is ready =
-      let few = sound r shaped ok .frame .few in
+      let few = desks-few r shaped ok in
       let posted = few-posted (r .processors) (ran r t .posting) in
       let fit : leb (r .network .used + length (lettersOf (r .processors) (ran r t .posting))) 256 ≡ true =
       le-leb (r .network .used + length (lettersOf (r .processors) (ran r t .posting))) 256 (let none = no-letters r ok quiet in omega arith) in
       let early : finishesEarly r t ≡ true =
       is-true (finishesEarly r t) (λ late.
       let yet : stepAnswer r (runStep (t .0)) ≡ Accepted = rw (ok, is, ready, late, fit) refl in
-      tests-differ (ap isAccepted yet) (no-run r ok quiet (t .0) (within-low 1 (r .plan .tasks) (t .0) is) (within-high 1 (r .plan .tasks) (t .0) is))) in
-      (and-left (isFinish (nextOf r t)) _ early, not-passed _ (and-right (isFinish (nextOf r t)) _ early))
+      tests-differ (ap isAccepted yet)
+      (no-run r ok quiet (t .0) (within-low 1 (r .plan .tasks) (t .0) is) (within-high 1 (r .plan .tasks) (t .0) is))) in
+      (and-left (isFinish (nextOf r t)) _ early, not-true _ (and-right (isFinish (nextOf r t)) _ early))

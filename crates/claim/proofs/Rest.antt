@@ -2,14 +2,13 @@
 use mathlib.Core.Path.{_≡_, refl, sym, ap, _∙_}
 use mathlib.Core.Bool.{Bool, true, false, not, _&&_, _||_}
 use mathlib.Core.List.{List, []}
-use Prim.Native.Nat.{ℕ, suc, _+_, _-_, _^_, _≤_, _<_}
+use Prim.Native.Nat.{ℕ, suc, _+_, _-_, _≤_, _<_}
 use native.Mathlib.Omega.{arith}
-use lib.Dec.{eqb, ltb}
+use lib.Dec.{eqb}
 use lib.ListN.{length}
 use borrow.Author.Tests.{eqb-true, eq-eqb, lt-ltb, not-true, not-false}
 use Rattle.base.specs.Choice.{pick, within}
 use Rattle.base.proofs.Tests.{and-left, and-right, and-both, or-cases, tests-differ, is-true, is-false, within-low, within-high}
-use Rattle.base.proofs.Choices.{pick-either}
 use Rattle.machine.specs.Machines.{Normal}
 use Rattle.plan.specs.declared.PlanAnswer.the-variants.{Accepted}
 use Rattle.plan.specs.declared.TaskId.{TaskId}
@@ -24,11 +23,9 @@ use Rattle.plan_laws.proofs.Ends.{no-ends}
 use Rattle.rules.specs.declared.task.TaskState.{TaskState}
 use Rattle.rules.specs.declared.task.TaskState.the-variants.{Unborn, Ready, Waiting, Sending, Receiving, Moving, Done}
 use Rattle.rules.specs.declared.task.Task.{Task}
-use Rattle.rules.specs.declared.message.Message.{Message}
-use Rattle.rules.specs.Numbers.{isNone}
 use Rattle.rules.specs.Tasks.{stateNumber, isIn, isChildless}
 use Rattle.rules.specs.Places.{nextIn, lastIn, isOn}
-use Rattle.rules.specs.Sound.{unbornOk, taskOk}
+use Rattle.rules.specs.Sound.{taskOk}
 use Rattle.rules_sound.proofs.Born.{born-passed}
 use Rattle.rules_sound.proofs.Settled.{settled}
 use Rattle.net.specs.States.{Net}
@@ -42,14 +39,14 @@ use Rattle.net.proofs.NextInstruction.{program-some}
 use Rattle.net.proofs.Consistent.{consistent}
 use Rattle.net.proofs.Children.{children-complete}
 use Rattle.channel.proofs.Claims.{not-both}
-use Rattle.claim.specs.Readings.{Reading}
-use Rattle.claim.specs.Progress.{flag, isBlocked, programOf, completedBy}
-use Rattle.claim.specs.Letters.{flat}
-use Rattle.claim.specs.Views.{Histories, senderView, receiverView, viewOf}
-use Rattle.claim.specs.Agreement.{comingTo, Running}
-use Rattle.claim.proofs.Turns.{Side, sends, receives}
+use Rattle.acts.specs.Readings.{Reading}
+use Rattle.acts.specs.Progress.{flag, isBlocked, programOf}
+use Rattle.acts.specs.Letters.{flat}
+use Rattle.acts.specs.Views.{Histories, senderView, receiverView, viewOf}
+use Rattle.acts.specs.Agreement.{comingTo, Running}
+use Rattle.acts.proofs.Tasks.{completed-free, completed-blocked, last-some, Side, sends, receives, same-state, unborn-is, completed-most}
 use Rattle.claim.proofs.Families.{no-moving, living-child}
-use Rattle.claim.proofs.Coming.{completed-free, completed-blocked, last-some, agrees-born, unborn-not, agrees-completed, agrees-word}
+use Rattle.claim.proofs.Coming.{agrees-born, unborn-not, agrees-completed, agrees-word, coming-empty}
 use Rattle.claim.proofs.NetSteps.{done-complete, born-within, ready-next, last-kind, side-next, waiting-next}
 
 -- no ready task can run: each is at its finish, with a child living
@@ -71,35 +68,13 @@ pauseOf k = pick (eqb k opFinish) 1 (pick (eqb k opSync) 2 (k - 1))
 abbrev stateFor : Bool → Bool → ℕ → ℕ
 stateFor born complete k = pick born (pick complete 6 (pauseOf k)) 0
 
--- the state of a number
-stateOf : ℕ → TaskState
-stateOf k =
-    pick (eqb k 0) Unborn
-    (pick (eqb k 1) Ready (pick (eqb k 2) Waiting (pick (eqb k 3) Sending (pick (eqb k 4) Receiving (pick (eqb k 5) Moving Done)))))
-
-state-of : (u : TaskState) → stateOf (stateNumber u) ≡ u
-unfolding stateOf
-state-of Unborn = refl
-state-of Ready = refl
-state-of Waiting = refl
-state-of Sending = refl
-state-of Receiving = refl
-state-of Moving = refl
-state-of Done = refl
-
-numbered : (u v : TaskState) → stateNumber u ≡ stateNumber v → u ≡ v
-numbered u v e = sym (state-of u) ∙ ap stateOf e ∙ state-of v
-
 -- every task has a place
 place-some : (n k : ℕ) (g : Program) (z : Task) → taskOk n k g z ≡ true → 1 ≤ z .pc
-unfolding taskOk unbornOk
 place-some n k g z ok = go (isIn Unborn z) refl
   where
     go : (b : Bool) → isIn Unborn z ≡ b → 1 ≤ z .pc
     go false e = within-low 1 _ (z .pc) (born-passed n k g z ok e .place)
-    go true e =
-        let u = rw e at (and-right (ltb (z .children) (2 ^ k)) _ ok) in
-        omega (arith, eqb-true (z .pc) 1 (and-left (eqb (z .pc) 1) _ (and-right (isNone (z .processor)) _ u)))
+    go true e = omega (arith, unborn-is n k g z ok e .place)
 
 side-transfer : {k : ℕ} {u : TaskState} → Side k u → (i : Instruction) → i .opcode ≡ k → isTransfer i ≡ true
 side-transfer sends i e = rw e refl
@@ -113,15 +88,6 @@ halted-state : {z : Task} {i : Instruction} → Halted z i → stateNumber (z .s
 halted-state {z} (finishing e o some) = eqb-true (stateNumber (z .state)) 1 e ∙ sym (ap pauseOf o)
 halted-state {z} (syncing e o some) = eqb-true (stateNumber (z .state)) 2 e ∙ sym (ap pauseOf o)
 halted-state {z} (busy {u = u} side e o) = eqb-true (stateNumber (z .state)) (stateNumber u) e ∙ sym (ap pauseOf o ∙ side-pause side)
-
-completed-most : (z : Task) → completedBy z ≤ z .pc - 1
-unfolding completedBy
-completed-most z = pick-either (λ k. k ≤ z .pc - 1) (isBlocked z) (z .pc - 2) (z .pc - 1) (omega arith) (omega arith)
-
--- nothing comes where there are no letters
-coming-empty : (g : Program) (ms : List Message) (z : Task) → ms ≡ [] → comingTo g ms z ≡ []
-unfolding comingTo flat
-coming-empty g ms z e = rw e (pick-either (λ l. l ≡ []) (isIn Receiving z) [] [] refl refl)
 
 module _ (m : Programs) (accepted : planAnswer m ≡ Accepted) (s : Net) (sane : Consistent m s)
     {h : Histories} {x : Reading} {w : ChannelId → List Word} (run : Running m h s x w) (none : x .letters ≡ []) (rest : Resting m x) where
@@ -166,10 +132,12 @@ module _ (m : Programs) (accepted : planAnswer m ≡ Accepted) (s : Net) (sane :
         go Moving e = absurd (tests-differ (rw e refl) (no-moving run none t number))
         go Done e =
             absurd
-            (tests-differ (done-complete m accepted s sane (run .agrees t) (rw e refl)) (not-true (isComplete m s t) (and-right (s .born t) _ active)))
+            (tests-differ (done-complete m accepted s sane (run .agrees t) (rw e refl))
+            (not-true (isComplete m s t) (and-right (s .born t) _ active)))
 
   -- who stands at a send or a receive is sending or receiving
-  halted-on : {k : ℕ} {u : TaskState} → Side k u → (t : TaskId) (c : ChannelId) → standsAt m s t k c ≡ true → isOn u (programOf m t) c (x .tasks t) ≡ true
+  halted-on : {k : ℕ} {u : TaskState} → Side k u → (t : TaskId) (c : ChannelId) → standsAt m s t k c ≡ true
+      → isOn u (programOf m t) c (x .tasks t) ≡ true
   unfolding isOn
   halted-on {k} {u} side t c there =
       let state = halted-state (halted t (stands-active m s t k c there)) ∙ ap pauseOf (stands-opcode m s t k c there) ∙ side-pause side in
@@ -207,7 +175,8 @@ module _ (m : Programs) (accepted : planAnswer m ≡ Accepted) (s : Net) (sane :
       let (low, high) = active-task m s t active in
       let l = living-child m accepted run t (number t active) some in
       let b = agrees-born (run .agrees (l .child)) (l .born) in
-      tests-differ (children-complete m accepted s sane t low high complete (l .child) (l .parent) b) (living-incomplete (l .child) (l .born) (l .not-done none))
+      tests-differ (children-complete m accepted s sane t low high complete (l .child) (l .parent) b)
+      (living-incomplete (l .child) (l .born) (l .not-done none))
 
   -- no task can do an instruction of its own
   no-own : (t : TaskId) → enabled m s (own t) ≡ true → ⊥
@@ -227,7 +196,8 @@ module _ (m : Programs) (accepted : planAnswer m ≡ Accepted) (s : Net) (sane :
       go (finishing e o some) = no-join t active some (joins (rw o refl))
       go (syncing e o some) = no-join t active some (joins (rw o refl))
       go (busy side e o) =
-          tests-differ (side-transfer side (nextOf m s t) o) (not-true (isTransfer (nextOf m s t)) (and-left (not (isTransfer (nextOf m s t))) _ free))
+          tests-differ (side-transfer side (nextOf m s t) o)
+          (not-true (isTransfer (nextOf m s t)) (and-left (not (isTransfer (nextOf m s t))) _ free))
 
   normal : Normal (net m) s
   normal (own t) = is-false (enabled m s (own t)) (no-own t)
@@ -285,10 +255,12 @@ module _ (m : Programs) (accepted : planAnswer m ≡ Accepted) {ls : List Label}
 
   -- two rigs at rest that agree with one net
   pub at-rest-same : {h h' : Histories} {x y : Reading} {w w' : ChannelId → List Word} → Running m h s x w → Running m h' s y w'
-      → x .letters ≡ [] → y .letters ≡ [] → Resting m x → Resting m y → (t : TaskId) → within 1 (length m) (t .0) ≡ true → Same (x .tasks t) (y .tasks t)
+      → x .letters ≡ [] → y .letters ≡ [] → Resting m x → Resting m y → (t : TaskId) → within 1 (length m) (t .0) ≡ true
+      → Same (x .tasks t) (y .tasks t)
   at-rest-same {x = x} {y} run run' none none' rest rest' t n =
       let sane = consistent m accepted reached in
-      let e = numbered (x .tasks t .state) (y .tasks t .state) (rest-state m accepted s sane run none rest t ∙ sym (rest-state m accepted s sane run' none' rest' t)) in
+      let number = rest-state m accepted s sane run none rest t ∙ sym (rest-state m accepted s sane run' none' rest' t) in
+      let e = same-state (x .tasks t .state) (y .tasks t .state) number in
       record {
         state = e;
         pc = rest-place m accepted s sane run none rest t n ∙ rw e (sym (rest-place m accepted s sane run' none' rest' t n));

@@ -1,25 +1,31 @@
 -- Each accepted step runs in the net.
 use mathlib.Core.Path.{_≡_}
 use mathlib.Core.List.{List, _++_}
+use mathlib.Core.Bool.{true}
 use Rattle.plan.specs.declared.PlanAnswer.the-variants.{Accepted}
 use Rattle.plan.specs.declared.ChannelId.{ChannelId}
 use Rattle.plan.specs.declared.Word.{Word}
 use Rattle.plan.specs.Programs.{Programs}
 use Rattle.plan.specs.Refusals.{planAnswer}
+use Rattle.plan.specs.declared.TaskId.{TaskId}
+use Rattle.plan.specs.declared.Instruction.{Instruction}
+use Rattle.plan.specs.Kinds.{isUse, opCreate}
 use Rattle.rules.specs.declared.rule.Received.{Received}
 use Rattle.rules.specs.Steps.{wordOn}
+use Rattle.rules.specs.Tasks.{isIn}
+use Rattle.rules.specs.declared.task.TaskState.the-variants.{Unborn}
 use Rattle.net.specs.States.{Net}
 use Rattle.net.specs.Labels.{Label}
 use Rattle.net.specs.Nets.{Reached}
 use Rattle.net.specs.Consistent.{Consistent}
 use Rattle.net.proofs.Consistent.{consistent}
-use Rattle.claim.specs.Readings.{Reading}
-use Rattle.claim.specs.Views.{Histories}
-use Rattle.claim.specs.Acts.{RunAct, transfers, owns, creates, finishes, DeliverAct, delivers, ends, arrives, MoveAct}
-use Rattle.claim.specs.Agreement.{Running}
+use Rattle.acts.specs.Readings.{Reading}
+use Rattle.acts.specs.Views.{Histories}
+use Rattle.acts.specs.Acts.{RunAct, transfers, owns, creates, finishes, DeliverAct, delivers, ends, arrives, MoveAct, Runs}
+use Rattle.acts.specs.Agreement.{Running}
 use Rattle.claim.proofs.NetSteps.{Follows}
 use Rattle.claim.proofs.NetChannel.{channel-follows}
-use Rattle.claim.proofs.NetTasks.{follows-nothing, own-act-follows, create-follows, arrival-follows, move-follows}
+use Rattle.claim.proofs.NetTasks.{follows-nothing, own-act-follows, create-follows, arrival-follows, move-follows, runs-unborn}
 use Rattle.claim.proofs.NetEnds.{finish-follows, ended-follows}
 
 module _ (m : Programs) (accepted : planAnswer m ≡ Accepted) {ls : List Label} {s : Net} (reached : Reached m ls s)
@@ -27,6 +33,11 @@ module _ (m : Programs) (accepted : planAnswer m ≡ Accepted) {ls : List Label}
   sane : Consistent m s
   sane = consistent m accepted reached
 
+  -- a task that is about to create another finds it unborn
+  pub creates-unborn : (t : TaskId) (i : Instruction) → Runs m x t i → (u : TaskId) → isUse opCreate (u .0) i ≡ true → isIn Unborn (x .tasks u) ≡ true
+  creates-unborn t i runs = runs-unborn m accepted s sane run t i runs
+
+  -- by each act
   pub follows-run : {h' : Histories} {y : Reading} {got : Received} → RunAct m h x h' y got → Follows m s y (λ c. w c ++ wordOn c got)
   follows-run (transfers e act) = channel-follows m accepted s sane run act
   follows-run (owns act) = follows-nothing (own-act-follows m accepted s sane run act)

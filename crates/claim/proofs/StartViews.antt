@@ -12,9 +12,9 @@ use borrow.Author.Tests.{eq-eqb, ne-eqb}
 use Rattle.base.specs.Choice.{pick}
 use Rattle.base.specs.Range.{fold}
 use Rattle.base.specs.Updates.{updated}
-use Rattle.base.proofs.Choices.{pick-either, pick-under}
+use Rattle.base.proofs.Choices.{pick-either}
 use Rattle.base.proofs.Tests.{within-both}
-use Rattle.base.proofs.Updates.{updated-at, updated-other}
+use Rattle.base.proofs.Updates.{updated-at}
 use Rattle.plan.specs.declared.Plan.{Plan}
 use Rattle.plan.specs.declared.TaskId.{TaskId}
 use Rattle.plan.specs.declared.ChannelId.{ChannelId}
@@ -45,12 +45,14 @@ use Rattle.channel.specs.Events as events
 use Rattle.channel.specs.Invariant.{Invariant}
 use Rattle.channel.proofs.Updates.{at-self}
 use Rattle.channel.proofs.Keep.{keeps, starts}
-use Rattle.claim.specs.Readings.{Reading, reading, entryOf, channelOf, noEntry, noChannel, withTaskRead, forChannelsRead}
-use Rattle.claim.specs.Progress.{programOf, completedBy, useNumber}
-use Rattle.claim.specs.Letters.{flat}
-use Rattle.claim.specs.Views.{Histories, senderView, receiverView, tablesView, stateView, viewOf}
-use Rattle.claim.specs.Acts.{sentTo}
-use Rattle.claim.proofs.Frames.{read-task, read-forChannels}
+use Rattle.acts.specs.Readings.{Reading, reading, entryOf, channelOf, noEntry, noChannel, withTaskRead, forChannelsRead}
+use Rattle.acts.specs.Progress.{programOf, completedBy, useNumber}
+use Rattle.acts.specs.Letters.{flat}
+use Rattle.acts.specs.Views.{Histories, senderView, receiverView, tablesView, stateView, viewOf}
+use Rattle.acts.specs.Acts.{sentTo}
+use Rattle.acts.proofs.Updates.{at-other}
+use Rattle.acts.proofs.Frames.{read-task, read-forChannels}
+use Rattle.acts.proofs.Outcomes.{part-at}
 
 -- a list of one value alone
 getD-alike : {A : Type 0} (k i : ℕ) (a : A) → getD (replicate k a) i a ≡ a
@@ -164,7 +166,7 @@ start-cases n p P t b u z =
     by-cases
     (ℕ-discrete (t .0) 1)
     (λ e. rw (updated-at (λ (k : TaskId). k .0) (taskAt (blank n p)) first t (born (processorId 1)) e) (b e))
-    (λ ne. rw (updated-other (λ (k : TaskId). k .0) (taskAt (blank n p)) first t (born (processorId 1)) ne) (blank-task n p P t (u ne) (z ne)))
+    (λ ne. rw (at-other (taskAt (blank n p)) first t (born (processorId 1)) ne) (blank-task n p P t (u ne) (z ne)))
 
 -- where each task was sent: the first to desk 1, with count 1
 abbrev nowhere : Histories
@@ -200,18 +202,14 @@ module _ (n : ℕ) (l : 1 ≤ n) where
   sender-holds : (s : Bool) → Invariant (viewThen n s false)
   unfolding events.blank guard after placeGuard placed
   sender-holds false = starts n
-  sender-holds true = keeps (place (sender-born 1)) (events.blank n) (starts n) (record { nowhere = refl; first = refl; desk = omega arith; last = l })
+  sender-holds true =
+      keeps (place (sender-born 1)) (events.blank n) (starts n) (record { nowhere = refl; first = refl; desk = omega arith; last = l })
 
   view-holds : (s u : Bool) → Invariant (viewThen n s u)
   unfolding guard after placeGuard placed
   view-holds s false = sender-holds s
   view-holds s true =
       keeps (place (receiver-born 1)) (viewThen n s false) (sender-holds s) (record { nowhere = refl; first = refl; desk = omega arith; last = l })
-
--- a field of each entry, where one entry is changed
-field-at : {A : Type 0} (f : Entry → A) (es : ℕ → Entry) (i : ℕ) (e : Entry) → (λ d. f (atNumber es i e d)) ≡ atNumber (λ d. f (es d)) i (f e)
-unfolding updated
-field-at f es i e = fun-ext λ d. pick-under f (eqb d i) e (es d)
 
 module _ (n : ℕ) (p : Plan) (g : Program) (c : ChannelId) where
   start-sender : (t : TaskId) → senderView g c (startTasks n p t) ≡ senderThen (sameTask t first)
@@ -235,7 +233,10 @@ unfolding tablesView
 start-tables false = refl
 start-tables true =
     let es : ℕ → Entry = λ d. noEntry in
-    rw (field-at (λ e. e .hint) es 1 entryHere, field-at (λ e. e .held) es 1 entryHere, field-at (λ e. e .noted) es 1 entryHere)
+    let hints = part-at (λ (e : Entry). e .hint) es 1 entryHere in
+    let held = part-at (λ (e : Entry). e .held) es 1 entryHere in
+    let noted = part-at (λ (e : Entry). e .noted) es 1 entryHere in
+    rw (hints, held, noted)
     (rw (at-self (λ (d : ℕ). noOffer) 1, at-self (λ (d : ℕ). processorId 0) 1) refl)
 
 pub start-views : (n : ℕ) (p : Plan) → 1 ≤ n → (c : ChannelId) → 1 ≤ c .0 → c .0 ≤ 128

@@ -10,7 +10,7 @@ use borrow.Author.Tests.{eq-eqb, ne-eqb}
 use Rattle.base.specs.Updates.{updated}
 use Rattle.base.specs.Sets.{member}
 use Rattle.base.proofs.Sets.{none-member}
-use Rattle.base.proofs.Tests.{tests-differ, within-low, within-high}
+use Rattle.base.proofs.Tests.{tests-differ, within-low}
 use Rattle.plan.specs.declared.Plan.{Plan}
 use Rattle.plan.specs.declared.TaskId.{TaskId}
 use Rattle.plan.specs.declared.PlanAnswer.the-variants.{Accepted}
@@ -18,25 +18,24 @@ use Rattle.plan.specs.Programs.{programs}
 use Rattle.plan.specs.Refusals.{planAnswer}
 use Rattle.plan.specs.Users.{parentOf}
 use Rattle.plan.specs.Words.{zeroWord}
-use Rattle.plan.proofs.Parts.{tasks-of}
 use Rattle.rules.specs.declared.task.TaskState.the-variants.{Unborn, Moving, Done}
 use Rattle.rules.specs.declared.task.Task.{Task}
-use Rattle.rules.specs.declared.system.System.{System}
 use Rattle.rules.specs.Tasks.{isIn, noTask, unborn}
 use Rattle.rules.specs.Starts.{started}
-use Rattle.rules_laws.proofs.Shapes.{started-plan}
-use Rattle.rules_sound.specs.Sound.{Sound}
-use Rattle.rules_sound.proofs.Starts.{started-sound}
+use Rattle.rules_laws.proofs.Shapes.{started-plan, started-shaped}
+use Rattle.rules_sound.proofs.Starts.{started-ok}
 use Rattle.net.specs.States.{startNet}
-use Rattle.claim.specs.Readings.{reading}
-use Rattle.claim.specs.Progress.{flag, completedBy}
-use Rattle.claim.specs.Letters.{flat}
-use Rattle.claim.specs.Views.{Histories}
-use Rattle.claim.specs.Family.{Placed, Child, Kin}
-use Rattle.claim.specs.Agreement.{comingTo, wordWith, Agrees, TasksOk, Running}
+use Rattle.acts.specs.Readings.{reading}
+use Rattle.acts.specs.Progress.{flag, completedBy}
+use Rattle.acts.specs.Letters.{flat}
+use Rattle.acts.specs.Views.{Histories}
+use Rattle.acts.specs.Family.{Placed, Child, Kin}
+use Rattle.acts.specs.Agreement.{comingTo, wordWith, Agrees, TasksOk, Running}
+use Rattle.acts.proofs.Rigs.{tasks-ok}
 use Rattle.claim.proofs.StartViews.{startTasks, startReading, read-started, start-cases, startHistories, start-views}
 
 module _ (n : ℕ) (p : Plan) where
+  -- nobody has a child
   start-childless : (t : TaskId) → startTasks n p t .children ≡ 0
   start-childless t = start-cases n p (λ x. x .children ≡ 0) t (λ e. refl) (λ ne. refl) (λ ne. refl)
 
@@ -52,10 +51,12 @@ module _ (n : ℕ) (p : Plan) where
         alone = λ f. absurd (tests-differ f k);
       }
 
+  -- the first task was sent to desk 1
   first-sent : (t : TaskId) → t .0 ≡ 1 → startHistories t 1 ≡ 1
   unfolding updated
   first-sent t e = rw (eq-eqb (t .0) 1 e) refl
 
+  -- every task is in its place
   start-places : 1 ≤ n → (t : TaskId) → Placed n (startHistories t) (startTasks n p t) []
   start-places l t =
       start-cases n p (λ x. Placed n (startHistories t) x []) t
@@ -72,6 +73,7 @@ module _ (n : ℕ) (p : Plan) where
       (λ ne. unborn-placed (startHistories t) unborn refl refl)
       (λ ne. unborn-placed (startHistories t) noTask refl refl)
 
+  -- no child is in a set, and no ended letter is under way
   start-children : (u : TaskId) → 2 ≤ u .0 → Child u (startTasks n p (parentOf (programs p) u)) (startTasks n p u) []
   start-children u h =
       let parent = parentOf (programs p) u in
@@ -89,6 +91,7 @@ module _ (n : ℕ) (p : Plan) where
   start-kin : Kin (programs p) (startTasks n p)
   start-kin q u l h = absurd (tests-differ h (rw (start-childless q) (none-member (u .0))))
 
+  -- a task that is not born agrees with the net, and so does the first
   unborn-agrees : (t : TaskId) → t .0 ≢ 1 → (x : Task) → x .state ≡ Unborn → x .pc - 1 ≡ 0 → x .word ≡ zeroWord → Agrees (programs p) startNet [] t x
   unfolding startNet completedBy comingTo wordWith
   unborn-agrees t ne x b k w =
@@ -117,20 +120,13 @@ module _ (n : ℕ) (p : Plan) where
       (λ ne. unborn-agrees t ne unborn refl refl refl)
       (λ ne. unborn-agrees t ne noTask refl refl refl)
 
--- the tasks of a rig that 9 does not refuse
-pub sound-tasks : (r : System) → Sound r → TasksOk (programs (r .plan)) (reading r)
-unfolding reading
-sound-tasks r s t w =
-    let size = tasks-of (r .plan) in
-    let low = within-low 1 (length (programs (r .plan))) (t .0) w in
-    let high = within-high 1 (length (programs (r .plan))) (t .0) w in
-    rw size (s .rig .tasks t low (omega arith))
-
+-- 9 does not refuse the tasks
 start-tasks : (n : ℕ) (p : Plan) → 1 ≤ n → n ≤ 6 → planAnswer (programs p) ≡ Accepted → TasksOk (programs p) (reading (started n p))
 start-tasks n p l h a =
     subst (λ (q : Plan). TasksOk (programs q) (reading (started n p))) (started-plan n p)
-    (sound-tasks (started n p) (started-sound n p (record { some = l; few = h; plan = a })))
+    (tasks-ok (started n p) (started-shaped n p) (started-ok n p l h a))
 
+-- so all holds of the rig as it is read
 start-runs : (n : ℕ) (p : Plan) → 1 ≤ n → n ≤ 6 → TasksOk (programs p) (startReading n p)
     → Running (programs p) startHistories startNet (startReading n p) (λ c. [])
 unfolding flat startNet

@@ -1,13 +1,12 @@
 -- How many letters are about a task, when one is posted or taken; and all letters together are no more than the mail holds.
 use mathlib.Core.Path.{_≡_, refl, sym, ap, _∙_}
-use mathlib.Core.Logic.{_≢_}
+use mathlib.Core.Logic.{_≢_, by-cases}
 use mathlib.Core.Bool.{Bool, true, false}
 use mathlib.Core.List.{List, [], _∷_, _++_}
 use mathlib.Core.Option.{some}
 use Prim.Native.Nat.{ℕ, zero, suc, _+_, _≤_, _<_}
 use native.Mathlib.Omega.{arith}
 use native.Mathlib.Decide.{ℕ-discrete}
-use mathlib.Core.Logic.{by-cases}
 use lib.Dec.{eqb}
 use lib.ListN.{length, getElem?, length-append}
 use borrow.Author.Tests.{eq-eqb, ne-eqb}
@@ -24,11 +23,12 @@ use Rattle.rules.specs.declared.message.Message.the-variants.{Empty, Offered, A
 use Rattle.channel.specs.Bags.{one, without, total}
 use Rattle.channel.specs.Letters.{Letter, offer, advert, call, word}
 use Rattle.channel.proofs.Bags.{total-post, total-without}
-use Rattle.claim.specs.Letters.{flat, letterOn, lettersOn, endedTo, moverTo}
+use Rattle.acts.specs.Letters.{flat, letterOn, lettersOn, endedTo, moverTo}
+use Rattle.acts.proofs.Flats.{own-ended, other-ended, no-ended, own-mover, other-mover, no-mover}
 use Rattle.claim.specs.Weights.{taskLetters}
 
 -- the length of what is sorted out
-pub flat-length : {A B : Type 0} (f : A → List B) (xs : List A) → length (flat f xs) ≡ total (λ x. length (f x)) xs
+flat-length : {A B : Type 0} (f : A → List B) (xs : List A) → length (flat f xs) ≡ total (λ x. length (f x)) xs
 unfolding flat total
 flat-length f [] = refl
 flat-length f (x ∷ xs) = length-append (f x) (flat f xs) ∙ ap (length (f x) +_) (flat-length f xs)
@@ -56,12 +56,12 @@ pub record About (t : TaskId) (m : Message) : Type 0 where
   pub others : (u : TaskId) → u .0 ≢ t .0 → aboutTask u m ≡ 0
 
 pub about-ended : (d : ProcessorId) (t : TaskId) → About t (Terminated d t)
-unfolding endedTo moverTo
-about-ended d t = record { own = rw (eq-eqb (t .0) (t .0) refl) refl; others = λ u ne. rw (ne-eqb (t .0) (u .0) (λ e. ne (sym e))) refl }
+about-ended d t =
+    record { own = rw (own-ended t d, no-mover t d t) refl; others = λ u ne. rw (other-ended u d t (λ e. ne (sym e)), no-mover u d t) refl }
 
 pub about-mover : (d : ProcessorId) (t : TaskId) → About t (Migration d t)
-unfolding endedTo moverTo
-about-mover d t = record { own = rw (eq-eqb (t .0) (t .0) refl) refl; others = λ u ne. rw (ne-eqb (t .0) (u .0) (λ e. ne (sym e))) refl }
+about-mover d t =
+    record { own = rw (own-mover t d, no-ended t d t) refl; others = λ u ne. rw (other-mover u d t (λ e. ne (sym e)), no-ended u d t) refl }
 
 module _ (ms : List Message) (t : TaskId) (m : Message) (about : About t m) where
   pub posted-own : taskLetters (ms ++ one m) t ≡ suc (taskLetters ms t)
@@ -116,7 +116,8 @@ module _ (n : ℕ) where
   no-channel = nothing-below 128 (λ k. 0) (λ k l. refl)
 
   of-channel : (e : ChannelId) (l : Letter) → sumBelow 128 (λ k. length (pick (eqb (e .0) (suc k)) (one l) [])) + sumBelow n (λ k. 0) ≤ 1
-  of-channel e l = omega (arith, no-task, few-of (e .0) 128 (λ k. length (pick (eqb (e .0) (suc k)) (one l) [])) (λ k. length-pick (eqb (e .0) (suc k)) l))
+  of-channel e l =
+      omega (arith, no-task, few-of (e .0) 128 (λ k. length (pick (eqb (e .0) (suc k)) (one l) [])) (λ k. length-pick (eqb (e .0) (suc k)) l))
 
   -- a letter is of one channel or about one task
   once : (m : Message) → onChannels m + aboutTasks m ≤ 1

@@ -1,32 +1,36 @@
 -- Every act keeps the invariant of every channel: each view changes by one event or not at all. And task 1 gets no ended letter.
-use mathlib.Core.Path.{_≡_, refl, ap, _∙_}
-use mathlib.Core.Logic.{by-cases}
-use mathlib.Core.List.{List, []}
-use Prim.Native.Nat.{_≤_}
-use native.Mathlib.Decide.{ℕ-discrete}
+use mathlib.Core.Path.{_≡_, ap, _∙_}
+use mathlib.Core.List.{List, [], _++_}
+use mathlib.Core.Option.{some}
+use Prim.Native.Nat.{_≤_, ℕ}
 use native.Mathlib.Omega.{arith}
-use borrow.Author.Tests.{ne-eqb}
-use lib.ListN.{length}
+use lib.ListN.{length, getElem?}
 use Rattle.base.proofs.Tests.{within-low}
 use Rattle.plan.specs.declared.TaskId.{TaskId}
 use Rattle.plan.specs.declared.ChannelId.{ChannelId}
 use Rattle.plan.specs.declared.Word.{Word}
-use Rattle.plan.specs.Numbers.{taskId, channelId}
+use Rattle.plan.specs.Numbers.{taskId}
 use Rattle.plan.specs.Programs.{Programs}
 use Rattle.rules.specs.declared.message.Message.the-variants.{Terminated, Migration}
 use Rattle.rules.specs.declared.rule.Received.{Received}
+use Rattle.rules.specs.declared.message.Message.{Message}
 use Rattle.net.specs.States.{Net}
 use Rattle.channel.specs.Views.{View}
-use Rattle.channel.specs.Events.{Event, Change, none, event, guard, after, place, sender-born, receiver-born, sender-arrives, receiver-arrives, sender-departs, receiver-departs}
+use Rattle.channel.specs.Events.{Event, Change, none, event, guard, after, place, sender-born, receiver-born, sender-arrives, receiver-arrives}
+use Rattle.channel.specs.Events.{sender-departs, receiver-departs}
 use Rattle.channel.specs.Invariant.{Invariant}
+use Rattle.channel.specs.Bags.{one, without}
 use Rattle.channel.proofs.Keep.{change-keeps}
-use Rattle.claim.specs.Readings.{Reading}
-use Rattle.claim.specs.Letters.{endedTo, endedOf}
-use Rattle.claim.specs.Views.{Histories, viewOf}
-use Rattle.claim.specs.Acts as Acts
-use Rattle.claim.specs.Acts.{ChannelAct, Unseen, Placing, sender-birth, receiver-birth, sender-arrival, receiver-arrival, Departing, sender-departure, receiver-departure, Finishing, alone, near, away, MoveAct, RunAct, transfers, owns, creates, finishes, DeliverAct, delivers, ends, arrives}
-use Rattle.claim.specs.Agreement.{Running}
-use Rattle.claim.proofs.Flats.{flat-post-nothing, flat-without}
+use Rattle.acts.specs.Readings.{Reading}
+use Rattle.acts.specs.Letters.{endedTo, endedOf}
+use Rattle.acts.specs.Views.{Histories, viewOf}
+use Rattle.acts.specs.Acts as Acts
+use Rattle.acts.specs.Acts.{ChannelAct, Unseen, Placing, sender-birth, receiver-birth, sender-arrival, receiver-arrival, Departing, sender-departure}
+use Rattle.acts.specs.Acts.{receiver-departure, Finishing, alone, near, away, MoveAct, RunAct, transfers, owns, creates, finishes, DeliverAct}
+use Rattle.acts.specs.Acts.{delivers, ends, arrives}
+use Rattle.acts.specs.Agreement.{Running}
+use Rattle.acts.proofs.Updates.{channel-cases}
+use Rattle.acts.proofs.Flats.{flat-post-nothing, flat-without, other-ended, no-ended}
 
 -- a birth, an arrival or a departure is an event
 placing-change : {v w : View} → Placing v w → Change v w
@@ -48,18 +52,17 @@ abbrev Views : Programs → Histories → Reading → Type 0
 Views m h y = (c : ChannelId) → 1 ≤ c .0 → c .0 ≤ 128 → Invariant (viewOf m h y c)
 
 module _ (m : Programs) {h : Histories} {s : Net} {x : Reading} {w : ChannelId → List Word} (run : Running m h s x w) where
+  -- a step about a channel, and one that no channel sees
   channel-views : {y : Reading} {e : Event} {got : Received} → ChannelAct m h x y e got → Views m h y
-  channel-views {y} {e} act c l u =
-      by-cases
-      (ℕ-discrete (c .0) (act .channel .0))
-      (λ (q : c .0 ≡ act .channel .0).
-      let z : c ≡ act .channel = ap channelId q in
-      rw (z, act .view) (change-keeps (event e (act .allowed)) (run .views (act .channel) (act .low) (act .high))))
-      (λ ne. rw (act .others c l u ne) (run .views c l u))
+  channel-views {y} {e} act =
+      channel-cases (λ c. 1 ≤ c .0 → c .0 ≤ 128 → Invariant (viewOf m h y c)) (act .channel)
+      (λ l u. rw (act .view) (change-keeps (event e (act .allowed)) (run .views (act .channel) l u)))
+      (λ c ne l u. rw (act .others c l u ne) (run .views c l u))
 
   unseen-views : {y : Reading} → Unseen m h x y → Views m h y
   unseen-views {y} a c l u = rw (a .views c l u) (run .views c l u)
 
+  -- by each act
   pub views-run : {h' : Histories} {y : Reading} {got : Received} → RunAct m h x h' y got → Views m h' y
   views-run (transfers e act) = channel-views act
   views-run (owns act) = unseen-views (act .unseen)
@@ -74,29 +77,34 @@ module _ (m : Programs) {h : Histories} {s : Net} {x : Reading} {w : ChannelId �
   pub views-move : {h' : Histories} {y : Reading} → MoveAct m h h' x y → Views m h' y
   views-move act c l u = change-keeps (departing-change (act .views c l u)) (run .views c l u)
 
-  -- no ended letter names task 1
+  -- no ended letter names task 1: none leaves or comes that does
+  still-root : {ms : List Message} → ms ≡ x .letters → endedOf (taskId 1) ms ≡ []
+  still-root e = ap (endedOf (taskId 1)) e ∙ run .root
+
+  posted-root : {ms : List Message} (a : Message) → ms ≡ x .letters ++ one a → endedTo (taskId 1) a ≡ [] → endedOf (taskId 1) ms ≡ []
+  posted-root a e other = ap (endedOf (taskId 1)) e ∙ flat-post-nothing (endedTo (taskId 1)) (x .letters) a other ∙ run .root
+
+  taken-root : {ms : List Message} (p : ℕ) {a : Message} → getElem? (x .letters) p ≡ some a → ms ≡ without (x .letters) p
+      → endedTo (taskId 1) a ≡ [] → endedOf (taskId 1) ms ≡ []
+  taken-root p at e other = ap (endedOf (taskId 1)) e ∙ flat-without (endedTo (taskId 1)) (x .letters) p at other ∙ run .root
+
   finish-root : {y : Reading} (t : TaskId) → Finishing m x y t → endedOf (taskId 1) (y .letters) ≡ []
-  unfolding endedTo
-  finish-root t (alone z e l) = ap (endedOf (taskId 1)) l ∙ run .root
-  finish-root t (near ne a e l) = ap (endedOf (taskId 1)) l ∙ run .root
-  finish-root {y} t (away ne a e l) =
-      ap (endedOf (taskId 1)) l ∙ flat-post-nothing (endedTo (taskId 1)) (x .letters) (Terminated (x .tasks t .home) t) (rw (ne-eqb (t .0) 1 ne) refl) ∙ run .root
+  finish-root t (alone z e l) = still-root l
+  finish-root t (near ne a e l) = still-root l
+  finish-root t (away ne a e l) = posted-root (Terminated (x .tasks t .home) t) l (other-ended (taskId 1) (x .tasks t .home) t ne)
 
   pub root-run : {h' : Histories} {y : Reading} {got : Received} → RunAct m h x h' y got → endedOf (taskId 1) (y .letters) ≡ []
   root-run (transfers e act) = act .ended (taskId 1) ∙ run .root
-  root-run (owns act) = ap (endedOf (taskId 1)) (act .letters) ∙ run .root
-  root-run (creates act) = ap (endedOf (taskId 1)) (act .letters) ∙ run .root
+  root-run (owns act) = still-root (act .letters)
+  root-run (creates act) = still-root (act .letters)
   root-run (finishes act) = finish-root (act .task) (act .finishing)
 
   pub root-deliver : {y : Reading} {got : Received} → DeliverAct m h x y got → endedOf (taskId 1) (y .letters) ≡ []
-  unfolding endedTo
   root-deliver (delivers p a act) = act .ended (taskId 1) ∙ run .root
   root-deliver (ends act) =
       let l = within-low 2 (length m) (act .task .0) (act .number) in
-      ap (endedOf (taskId 1)) (act .letters)
-      ∙ flat-without (endedTo (taskId 1)) (x .letters) (act .p) (act .letter) (rw (ne-eqb (act .task .0) 1 (omega arith)) refl) ∙ run .root
-  root-deliver (arrives act) = ap (endedOf (taskId 1)) (act .letters) ∙ flat-without (endedTo (taskId 1)) (x .letters) (act .p) (act .letter) refl ∙ run .root
+      taken-root (act .p) (act .letter) (act .letters) (other-ended (taskId 1) (act .at) (act .task) (λ e. omega arith))
+  root-deliver (arrives act) = taken-root (act .p) (act .letter) (act .letters) (no-ended (taskId 1) (act .at) (act .task))
 
   pub root-move : {h' : Histories} {y : Reading} → MoveAct m h h' x y → endedOf (taskId 1) (y .letters) ≡ []
-  unfolding endedTo
-  root-move act = ap (endedOf (taskId 1)) (act .letters) ∙ flat-post-nothing (endedTo (taskId 1)) (x .letters) (Migration (act .to) (act .task)) refl ∙ run .root
+  root-move act = posted-root (Migration (act .to) (act .task)) (act .letters) (no-ended (taskId 1) (act .to) (act .task))

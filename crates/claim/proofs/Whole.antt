@@ -1,18 +1,19 @@
 -- From the start: what holds after any list of steps, how many instructions are left, and a list that brings the rig to rest.
-use mathlib.Core.Path.{_≡_, refl, sym}
+use mathlib.Core.Path.{_≡_, refl}
 use mathlib.Core.Logic.{_⊎_, inl, inr, by-cases}
-use mathlib.Core.Bool.{Bool, true, false, not}
+use mathlib.Core.Bool.{true, false, not}
 use mathlib.Core.List.{List, [], _∷_}
 use Prim.Native.Nat.{ℕ, zero, suc, _+_, _-_, _≤_, _<_}
 use native.Mathlib.Omega.{arith}
 use native.Mathlib.Decide.{ℕ-discrete}
 use lib.Dec.{eqb}
 use lib.ListN.{length}
-use borrow.Author.Tests.{eq-eqb}
+use borrow.Author.Tests.{eq-eqb, not-false}
 use Rattle.base.specs.Choice.{within}
 use Rattle.base.specs.Range.{upTo}
 use Rattle.base.proofs.Folds.{fold-same}
 use Rattle.base.proofs.Tests.{within-both, below-cases, second-fails, tests-differ}
+use Rattle.machine.specs.Machines.{stop}
 use Rattle.plan.specs.declared.PlanAnswer.the-variants.{Accepted as PlanAccepted}
 use Rattle.plan.specs.declared.Plan.{Plan}
 use Rattle.plan.specs.declared.TaskId.{TaskId}
@@ -33,20 +34,20 @@ use Rattle.rules.specs.Steps.{isMove, stepAnswer, stepsBy, steps, runStep, quie
 use Rattle.rules_laws.proofs.Shapes.{started-shaped, started-plan}
 use Rattle.rules_laws.proofs.Steps.{accepted-is}
 use Rattle.rules_sound.proofs.Starts.{started-ok}
-use Rattle.machine.specs.Machines.{stop}
 use Rattle.net.specs.States.{startNet}
-use Rattle.claim.specs.Readings.{reading}
-use Rattle.claim.specs.Progress.{unexecutedOf, unexecuted}
+use Rattle.acts.specs.Readings.{reading}
+use Rattle.acts.specs.Progress.{unexecutedOf, unexecuted, programOf}
+use Rattle.acts.proofs.Tasks.{unborn-is}
 use Rattle.claim.specs.Weights.{weightOf}
 use Rattle.claim.specs.Statement.{from}
 use Rattle.claim.proofs.StartViews.{read-started, start-cases}
 use Rattle.claim.proofs.Starts.{start-running}
-use Rattle.claim.proofs.Falls.{unborn-place}
-use Rattle.claim.proofs.Quiet.{deliverStep, deliver-accepted}
 use Rattle.claim.proofs.Next.{Kept, next}
-use Rattle.claim.proofs.Lists.{kept-steps}
+use Rattle.claim.proofs.Lists.{kept-steps, either}
+use Rattle.claim.proofs.Quiet.{deliverStep, deliver-accepted}
 
 module _ (n : ℕ) (p : Plan) (some : 1 ≤ n) (few : n ≤ 6) (a : planAnswer (programs p) ≡ PlanAccepted) where
+  -- the rig at the start
   pub start-kept : Kept p (started n p) (λ c. [])
   start-kept =
       let (h, run) = start-running n p some few a in
@@ -71,8 +72,9 @@ module _ (n : ℕ) (p : Plan) (some : 1 ≤ n) (few : n ≤ 6) (a : planAnswer (
       by-cases
       (ℕ-discrete (t .0) 1)
       (λ e. rw (read-started n p) (start-cases n p (λ k. k .pc ≡ 1) t (λ z. refl) (λ ne. refl) (λ ne. absurd (ne e))))
-      (λ ne. unborn-place (programs p) (start-kept .running) t is
-      (rw (read-started n p) (start-cases n p (λ k. isIn Unborn k ≡ true) t (λ z. absurd (ne z)) (λ z. refl) (λ z. refl))))
+      (λ ne. unborn-is (reading (started n p) .processors) (length (programs p)) (programOf (programs p) t) (reading (started n p) .tasks t)
+      (start-kept .running .tasks t is)
+      (rw (read-started n p) (start-cases n p (λ k. isIn Unborn k ≡ true) t (λ z. absurd (ne z)) (λ z. refl) (λ z. refl))) .place)
 
   -- so that all N instructions are left
   pub start-work : unexecuted (programs p) (reading (started n p) .tasks) ≡ totalOf (programs p)
@@ -83,10 +85,6 @@ module _ (n : ℕ) (p : Plan) (some : 1 ≤ n) (few : n ≤ 6) (a : planAnswer (
       let one = first-place (taskId (suc k)) (within-both 1 (length (programs p)) (suc k) (omega arith) (omega arith)) in
       let e : suc k - 1 ≡ k = omega arith in
       rw (one, e) (omega arith))
-
-not-not : (b : Bool) → not b ≡ false → b ≡ true
-not-not true e = refl
-not-not false e = sym e
 
 -- a rig that is not at rest accepts a run or a delivery
 pub record Goes (r : System) : Type 0 where
@@ -99,23 +97,22 @@ unfolding quiescent
 goes {p} {r} k busy =
     by-cases
     (ℕ-discrete (r .network .used) 0)
-    (λ e. first (below-cases (λ t. not (isAccepted (stepAnswer r (runStep (suc t))))) (r .plan .tasks)) (second-fails (eqb (r .network .used) 0) _ busy (eq-eqb (r .network .used) 0 e)))
+    (λ e. first (below-cases (λ t. not (isAccepted (stepAnswer r (runStep (suc t))))) (r .plan .tasks))
+    (second-fails (eqb (r .network .used) 0) _ busy (eq-eqb (r .network .used) 0 e)))
     (λ ne. record { by = deliverStep 1; accepted = deliver-accepted r (k .ok) 1 (omega arith) (omega arith); still = refl })
   where
     first : (upTo (r .plan .tasks) (λ t. not (isAccepted (stepAnswer r (runStep t)))) ≡ true)
         ⊎ ((i : ℕ) × (i < r .plan .tasks) × (not (isAccepted (stepAnswer r (runStep (suc i)))) ≡ false))
         → upTo (r .plan .tasks) (λ t. not (isAccepted (stepAnswer r (runStep t)))) ≡ false → Goes r
     first (inl e) f = absurd (tests-differ e f)
-    first (inr (i, l, e)) f = record { by = runStep (suc i); accepted = accepted-is (stepAnswer r (runStep (suc i))) (not-not (isAccepted (stepAnswer r (runStep (suc i)))) e); still = refl }
+    first (inr (i, l, e)) f =
+        let yes = not-false (isAccepted (stepAnswer r (runStep (suc i)))) e in
+        record { by = runStep (suc i); accepted = accepted-is (stepAnswer r (runStep (suc i))) yes; still = refl }
 
 -- and so comes to rest
 pub record Rested (r : System) : Type 0 where
   pub list : List Step
   pub rests : quiescent (steps r list .system) ≡ true
-
-either : {C : Type 0} (b : Bool) → (b ≡ true → C) → (b ≡ false → C) → C
-either true f g = f refl
-either false f g = g refl
 
 pub comes-to-rest : (p : Plan) → planAnswer (programs p) ≡ PlanAccepted → (n : ℕ) {r : System} {w : ChannelId → List Word} (k : Kept p r w)
     → weightOf (programs p) (k .histories) (reading r) ≤ n → Rested r

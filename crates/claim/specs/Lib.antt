@@ -1,13 +1,5 @@
 -- Demand 3.
-pub mod Readings
-pub mod Progress
-pub mod Letters
-pub mod Views
-pub mod Turns
-pub mod Acts
-pub mod Family
-pub mod Agreement
 pub mod Weights
 pub mod Statement
-pub mod Example
 pub mod Corollaries
+pub mod Example

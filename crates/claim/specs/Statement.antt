@@ -96,7 +96,8 @@ pub record Demand3 (n : ℕ) (p : Plan) (ss : List Step) : Type 0 where
   pub no-nine : every (λ q. not (answeredNine q)) (from n p ss .reports) ≡ true
   pub none-wasted : noneWasted (started n p) ss ≡ true
   -- (b) each channel's received words are a beginning of those of the one-desk rig after any list that brings it to rest; there is such a list
-  pub beginning : (ts : List Step) → Rests p ts → (c : ChannelId) → Beginning (receivedOn c (from n p ss .reports)) (receivedOn c (from 1 p ts .reports))
+  pub beginning : (ts : List Step) → Rests p ts → (c : ChannelId)
+      → Beginning (receivedOn c (from n p ss .reports)) (receivedOn c (from 1 p ts .reports))
   pub one-desk : ComesToRest p
   -- (c) at rest every channel's list and every task's state, place and word agree with the one-desk rig's
   pub same-words : quiescent (from n p ss .system) ≡ true → (ts : List Step) → Rests p ts → (c : ChannelId)

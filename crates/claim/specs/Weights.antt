@@ -8,10 +8,10 @@ use Rattle.plan.specs.Numbers.{taskId, channelId}
 use Rattle.plan.specs.Programs.{Programs}
 use Rattle.rules.specs.declared.message.Message.{Message}
 use Rattle.channel.specs.Measure.{measure}
-use Rattle.claim.specs.Readings.{Reading}
-use Rattle.claim.specs.Progress.{unexecuted}
-use Rattle.claim.specs.Letters.{endedOf, moversOf}
-use Rattle.claim.specs.Views.{Histories, viewOf}
+use Rattle.acts.specs.Readings.{Reading}
+use Rattle.acts.specs.Progress.{unexecuted}
+use Rattle.acts.specs.Letters.{endedOf, moversOf}
+use Rattle.acts.specs.Views.{Histories, viewOf}
 
 -- the letters about task t weigh 1 each
 abbrev pub taskLetters : List Message → TaskId → ℕ

@@ -27,6 +27,12 @@ use Rattle.net.specs.Consistent.{isCreated, Consistent}
 use Rattle.net.proofs.Remaining.{active-short, active-task}
 use Rattle.net.proofs.NextInstruction.{program-some, next-creates}
 
+-- a task whose parent is t is one of 2 .. T
+pub child-within : (m : Programs) → planAnswer m ≡ Accepted → (t u : TaskId) → 1 ≤ t .0 → parentOf m u ≡ t → within 2 (length m) (u .0) ≡ true
+child-within m a t u low e =
+    is-true (within 2 (length m) (u .0))
+    (λ w. let z : taskId 0 ≡ t = sym (no-parent m a (u .0) w) ∙ e in omega (arith, ap (λ (x : TaskId). x .0) z))
+
 module _ (m : Programs) (a : planAnswer m ≡ Accepted) (s : Net) (c : Consistent m s) where
   -- whom a task is about to create is not born yet
   pub next-unborn : (t u : TaskId) → isActive m s t ≡ true → isUse opCreate (u .0) (nextOf m s t) ≡ true → s .born u ≡ false
@@ -44,12 +50,6 @@ module _ (m : Programs) (a : planAnswer m ≡ Accepted) (s : Net) (c : Consisten
       let same = created-once m a (u .0) (t .0 - 1) i (s .completed t) (omega arith) l short q here in
       omega arith)
 
-  -- a task whose parent is t is one of 2 .. T
-  child-within : (t u : TaskId) → 1 ≤ t .0 → parentOf m u ≡ t → within 2 (length m) (u .0) ≡ true
-  child-within t u low e =
-      is-true (within 2 (length m) (u .0))
-      (λ w. let z : taskId 0 ≡ t = sym (no-parent m a (u .0) w) ∙ e in omega (arith, ap (λ (x : TaskId). x .0) z))
-
   module _ (t : TaskId) (low : 1 ≤ t .0) (high : t .0 ≤ length m) where
     -- the children of a task whose children are complete
     pub children-complete : childrenComplete m s t ≡ true → (u : TaskId) → parentOf m u ≡ t → s .born u ≡ true → isComplete m s u ≡ true
@@ -57,7 +57,7 @@ module _ (m : Programs) (a : planAnswer m ≡ Accepted) (s : Net) (c : Consisten
     children-complete h u e b =
         let g = programFor m t in
         let done = s .completed t in
-        let there : any (isUse opCreate (u .0)) (take done g) ≡ true = rw e at (sym (c .child u (child-within t u low e)) ∙ b) in
+        let there : any (isUse opCreate (u .0)) (take done g) ≡ true = rw e at (sym (c .child u (child-within m a t u low e)) ∙ b) in
         let (i, k, l, q) = any-front-at (isUse opCreate (u .0)) noInstruction g done there in
         let x = instructionAt g i in
         let r = every-at (childComplete m s) (take done g) i noInstruction (omega (arith, length-take done g)) h in
@@ -82,7 +82,7 @@ module _ (m : Programs) (a : planAnswer m ≡ Accepted) (s : Net) (c : Consisten
         let u = taskId (x .operand) in
         let uses : isUse opCreate (u .0) x ≡ true = and-both (isCreate x) _ (not-false (isCreate x) create) (eq-eqb (x .operand) (u .0) refl) in
         let parent : parentOf m u ≡ t = born-by x i (u .0) l refl uses in
-        (u, parent, c .child u (child-within t u low parent) ∙ rw parent (any-front-here (isUse opCreate (u .0)) noInstruction g done i k l uses), incomplete)
+        (u, parent, c .child u (child-within m a t u low parent) ∙ rw parent (any-front-here (isUse opCreate (u .0)) noInstruction g done i k l uses), incomplete)
       where
         born-by : (x : Instruction) (i u : ℕ) → i < length (programFor m t) → x ≡ instructionAt (programFor m t) i → isUse opCreate u x ≡ true → parentOf m (taskId u) ≡ t
         born-by x i u l e uses =

@@ -1,0 +1,80 @@
+-- A rig as it is read: functions in the place of arrays, and the mail as a list.
+use mathlib.Core.Bool.{Bool, false, not, _&&_}
+use mathlib.Core.List.{List}
+use Prim.Native.Nat.{ℕ}
+use lib.Dec.{eqb}
+use Rattle.base.specs.Choice.{pick}
+use Rattle.plan.specs.declared.TaskId.{TaskId}
+use Rattle.plan.specs.declared.ChannelId.{ChannelId}
+use Rattle.plan.specs.Numbers.{processorId}
+use Rattle.rules.specs.declared.task.Task.{Task}
+use Rattle.rules.specs.declared.channel.Entry.{Entry}
+use Rattle.rules.specs.declared.channel.Channel.{Channel}
+use Rattle.rules.specs.declared.channel.Cell.{Cell}
+use Rattle.rules.specs.declared.message.Message.{Message}
+use Rattle.rules.specs.declared.rule.Outcome.{Outcome}
+use Rattle.rules.specs.declared.system.System.{System}
+use Rattle.rules.specs.Numbers.{channelNumberOk}
+use Rattle.rules.specs.Cells.{unknown, noOffer}
+use Rattle.rules.specs.Networks.{letters}
+use Rattle.rules.specs.Systems.{taskAt, entryAt, channelAt}
+use Rattle.net.specs.States.{atTask, atChannel}
+use Rattle.channel.specs.Updates.{atNumber}
+
+pub record Reading : Type 0 where
+  pub processors : ℕ
+  pub tasks : TaskId → Task
+  -- of each channel, the entry of each desk
+  pub entries : ChannelId → ℕ → Entry
+  pub channels : ChannelId → Channel
+  pub letters : List Message
+
+-- what stands where there is no desk or no channel
+abbrev pub noEntry : Entry
+noEntry = record { hint = unknown; held = noOffer; noted = processorId 0 }
+
+abbrev pub noChannel : Channel
+noChannel = record { granted = 0; awaiting = false; carried = noOffer; travelling = unknown }
+
+unfoldable pub entryOf : System → ChannelId → ℕ → Entry
+entryOf r c d = pick (channelNumberOk c && not (eqb d 0)) (entryAt r (processorId d) c) noEntry
+
+unfoldable pub channelOf : System → ChannelId → Channel
+channelOf r c = pick (channelNumberOk c) (channelAt r c) noChannel
+
+unfoldable pub reading : System → Reading
+reading r = record { processors = r .processors; tasks = taskAt r; entries = entryOf r; channels = channelOf r; letters = letters (r .network) }
+
+-- the entry of desk d and channel c, and the channel's own
+abbrev pub cellOf : Reading → ChannelId → ℕ → Cell
+cellOf x c d = record { entry = x .entries c d; channel = x .channels c }
+
+-- with one part changed
+abbrev pub withTaskRead : Reading → TaskId → Task → Reading
+withTaskRead x t y =
+    record { processors = x .processors; tasks = atTask (x .tasks) t y; entries = x .entries; channels = x .channels; letters = x .letters }
+
+abbrev pub withLettersRead : Reading → List Message → Reading
+withLettersRead x ms = record { processors = x .processors; tasks = x .tasks; entries = x .entries; channels = x .channels; letters = ms }
+
+-- after a rule about channel c at desk d, between tasks s and u, with the letters ms in the mail
+abbrev pub withOutcomeRead : Reading → TaskId → TaskId → ChannelId → ℕ → Outcome → List Message → Reading
+withOutcomeRead x s u c d o ms =
+    record {
+      processors = x .processors;
+      tasks = atTask (atTask (x .tasks) s (o .sender)) u (o .receiver);
+      entries = atChannel (x .entries) c (atNumber (x .entries c) d (o .cell .entry));
+      channels = atChannel (x .channels) c (o .cell .channel);
+      letters = ms;
+    }
+
+-- after a rule for each channel of which the test holds, at desk d
+abbrev pub forChannelsRead : (ChannelId → Bool) → (Cell → Cell) → ℕ → Reading → Reading
+forChannelsRead test rule d x =
+    record {
+      processors = x .processors;
+      tasks = x .tasks;
+      entries = λ c. pick (channelNumberOk c && test c) (atNumber (x .entries c) d (rule (cellOf x c d) .entry)) (x .entries c);
+      channels = λ c. pick (channelNumberOk c && test c) (rule (cellOf x c d) .channel) (x .channels c);
+      letters = x .letters;
+    }
