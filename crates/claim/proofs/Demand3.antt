@@ -49,15 +49,15 @@ use Rattle.acts.specs.Readings.{reading}
 use Rattle.acts.specs.Progress.{programOf, unexecuted}
 use Rattle.acts.specs.Letters.{flat, lettersOn, wordsIn}
 use Rattle.acts.specs.Agreement.{Running}
-use Rattle.claim.specs.Weights.{weightOf}
+use Rattle.running.specs.Weights.{weightOf}
 use Rattle.claim.specs.Statement.{wastes, noneWasted, acceptedOf, anyStep, from, answeredNine, notExecuted, underWay, ComesToRest, SameTask}
 use Rattle.claim.specs.Statement.{Demand3}
-use Rattle.claim.proofs.Falls.{few-left}
-use Rattle.claim.proofs.Next.{Kept}
+use Rattle.running.proofs.Falls.{few-left}
+use Rattle.running.proofs.Next.{Kept}
 use Rattle.claim.proofs.Lists.{kept-step, runs-counted, few-accepted}
 use Rattle.claim.proofs.Quiet.{rest-refuses, refuses-rest, quiet-letters, quiet-ready}
 use Rattle.claim.proofs.Whole.{start-kept, list-kept, start-work, comes-to-rest}
-use Rattle.claim.proofs.Rest.{Resting, rest-normal, at-rest-same}
+use Rattle.running.proofs.Rest.{Resting, rest-normal, at-rest-same}
 use Rattle.claim.proofs.Finds.{finds}
 
 module _ (p : Plan) (a : planAnswer (programs p) ≡ PlanAccepted) where

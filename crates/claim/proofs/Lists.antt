@@ -20,9 +20,9 @@ use Rattle.rules.specs.Steps.{isRun, isMove, stepAnswer, refused, step, stepsBy
 use Rattle.rules_laws.proofs.Steps.{accepted-is, step-refused}
 use Rattle.acts.specs.Readings.{reading}
 use Rattle.acts.specs.Progress.{flag, unexecuted}
-use Rattle.claim.specs.Weights.{weightOf}
+use Rattle.running.specs.Weights.{weightOf}
 use Rattle.claim.specs.Statement.{acceptedOf, anyStep}
-use Rattle.claim.proofs.Next.{Kept, next, no-more}
+use Rattle.running.proofs.Next.{Kept, next, no-more}
 
 -- a test holds, or it fails
 pub either : {C : Type 0} (b : Bool) → (b ≡ true → C) → (b ≡ false → C) → C

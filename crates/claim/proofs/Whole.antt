@@ -38,11 +38,11 @@ use Rattle.net.specs.States.{startNet}
 use Rattle.acts.specs.Readings.{reading}
 use Rattle.acts.specs.Progress.{unexecutedOf, unexecuted, programOf}
 use Rattle.acts.proofs.Tasks.{unborn-is}
-use Rattle.claim.specs.Weights.{weightOf}
+use Rattle.running.specs.Weights.{weightOf}
 use Rattle.claim.specs.Statement.{from}
-use Rattle.claim.proofs.StartViews.{read-started, start-cases}
-use Rattle.claim.proofs.Starts.{start-running}
-use Rattle.claim.proofs.Next.{Kept, next}
+use Rattle.running.proofs.StartViews.{read-started, start-cases}
+use Rattle.running.proofs.Starts.{start-running}
+use Rattle.running.proofs.Next.{Kept, next}
 use Rattle.claim.proofs.Lists.{kept-steps, either}
 use Rattle.claim.proofs.Quiet.{deliverStep, deliver-accepted}
 

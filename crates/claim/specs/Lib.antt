@@ -1,5 +1,3 @@
--- Demand 3.
-pub mod Weights
+-- Demand 3: the statement, and a corollary.
 pub mod Statement
 pub mod Corollaries
-pub mod Example

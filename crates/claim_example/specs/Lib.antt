@@ -1,0 +1,2 @@
+-- A plan and its steps.
+pub mod Example

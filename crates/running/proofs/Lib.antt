@@ -1,0 +1,26 @@
+-- What holds of every rig that a run from the start reaches.
+-- the measure falls
+pub mod Work
+pub mod TaskLetters
+pub mod ChannelFalls
+pub mod TaskFalls
+pub mod Falls
+-- what holds of channels and of families is kept
+pub mod ViewsKept
+pub mod FamilyParts
+pub mod PlacesKept
+pub mod ChildrenKept
+pub mod Families
+-- the net runs beside the rig
+pub mod Coming
+pub mod NetSteps
+pub mod NetChannel
+pub mod NetTasks
+pub mod NetEnds
+pub mod Simulation
+-- the start, and each step
+pub mod StartViews
+pub mod Starts
+pub mod Next
+-- a rig at rest
+pub mod Rest

@@ -1,0 +1,2 @@
+-- The measure of a rig.
+pub mod Weights
