@@ -1,5 +1,5 @@
 -- Every event keeps the invariant, and it holds before anybody is born.
-use mathlib.Core.List.{List·Memᴰ·not-nil}
+use mathlib.Core.List.{List, [], _∷_, List·Memᴰ·not-nil}
 use Prim.Native.Nat.{ℕ}
 use native.Mathlib.Omega.{arith}
 use Rattle.channel.specs.Bags.{total}
@@ -53,6 +53,20 @@ keeps (delivery p a) v i g = delivered-keeps v i p a g
 pub change-keeps : {v w : View} → Change v w → Invariant v → Invariant w
 change-keeps none i = i
 change-keeps {v} (event e g) i = keeps e v i g
+
+-- events one after another, each with its guard met; and what they make of a view
+unfoldable pub Met : List Event → View → Type 0
+Met [] v = Unit {0}
+Met (e ∷ es) v = guard e v × Met es (after e v)
+
+unfoldable pub afterAll : List Event → View → View
+afterAll [] v = v
+afterAll (e ∷ es) v = afterAll es (after e v)
+
+pub all-keep : (es : List Event) (v : View) → Met es v → Invariant v → Invariant (afterAll es v)
+unfolding Met afterAll
+all-keep [] v m i = i
+all-keep (e ∷ es) v (g, m) i = all-keep es (after e v) m (keeps e v i g)
 
 pub starts : (n : ℕ) → Invariant (blank n)
 unfolding blank total

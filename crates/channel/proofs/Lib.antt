@@ -11,5 +11,7 @@ pub mod TransfersKeep
 pub mod DeliveriesKeep
 pub mod Keep
 pub mod Claims
+pub mod Mail
+pub mod Chases
 pub mod Measure
 pub mod Sample

@@ -2,6 +2,7 @@
 -- is sent.
 use mathlib.Core.Path.{_≡_, sym}
 use mathlib.Core.Logic.{_≢_, _⊎_, ⊎-elim}
+use mathlib.Core.List.{List}
 use Prim.Native.Nat.{ℕ, suc, _≤_, _<_}
 use native.Mathlib.Omega.{arith}
 use lib.Dec.{eqb, ltb}
@@ -9,28 +10,56 @@ use borrow.Author.Tests.{ltb-true, ltb-false, eqb-true, eqb-false}
 use Rattle.base.proofs.Choices.{pick-either, pick-cases}
 use Rattle.base.proofs.Updates.{updated-other}
 use Rattle.plan.specs.declared.ProcessorId.{ProcessorId}
+use Rattle.plan.specs.declared.Word.{Word}
 use Rattle.rules.specs.declared.channel.Hint.{Hint}
 use Rattle.rules.specs.declared.channel.Offer.{Offer}
 use Rattle.rules.specs.Cells.{larger, firstNoted}
 use Rattle.channel.specs.Updates.{atNumber}
 use Rattle.channel.specs.Bags.{In}
 use Rattle.channel.specs.Hints.{Right}
-use Rattle.channel.specs.Letters.{offer, advert, call}
-use Rattle.channel.specs.Views.{View}
+use Rattle.channel.specs.Letters.{Letter, offer, advert, call, word, calls, words}
+use Rattle.channel.specs.Views.{View, offerOf}
 use Rattle.channel.specs.Places.{takingOver}
-use Rattle.channel.specs.Invariant.{Way, Live, Advertised, CallOk, Offered, Coming, Invariant}
+use Rattle.channel.specs.Invariant.{Counts, Way, Live, Advertised, CallOk, Offered, Coming, Invariant}
 use Rattle.channel.proofs.Updates.{at-elim}
 use Rattle.channel.proofs.Hints.{away}
 
--- clauses of the invariant: an offer that counts is of the send under way; the next send is offered; the receiver is on its way to desk x
+-- clauses of the invariant: an offer that counts is of the send under way
 abbrev pub OfferLive : View → Offer → Type 0
 OfferLive v o = Live (v .state .granted) (v .sender .sending) (v .sender .sent) (v .sender .at) (o .processor .0) (o .number)
 
+-- n is the number of the next send
+abbrev pub IsNext : View → ℕ → Type 0
+IsNext v n = n ≡ suc (v .sender .sent)
+
+-- the next send is offered; it has to be while it is under way and not called for
 abbrev pub NextOffered : View → Type 0
 NextOffered v = Offered (v .processors) (v .sender .sent) (v .sender .at) (v .tables .held) (v .tables .noted) (v .state .carried) (v .letters)
 
+abbrev pub SendOffered : View → Type 0
+SendOffered v = v .sender .sending ≡ 1 → v .state .granted ≡ v .sender .sent → NextOffered v
+
+-- the receiver is on its way to desk x
 abbrev pub ComingTo : View → ℕ → Type 0
 ComingTo v x = Coming (v .receiver .at) (v .receiver .moves) x (v .receiver .history (v .receiver .moves))
+
+-- who receives and has not called carries nothing that counts
+abbrev pub IdleCarried : View → Type 0
+IdleCarried v = v .receiver .receiving ≡ 1 → v .state .awaiting ≡ 0 → v .state .carried .number ≤ v .state .granted
+
+-- the numbers, with the letters l
+abbrev pub CountsWith : View → List Letter → Type 0
+CountsWith v l =
+    Counts (v .sender .sent) (v .sender .sending) (v .receiver .received) (v .receiver .receiving) (v .state .granted) (v .state .awaiting)
+    (calls l) (words l)
+
+-- what is said of letters
+pub record MailOk (v : View) : Type 0 where
+  pub way : (to d w k : ℕ) → In (offer to d w k) (v .letters) → Way (v .receiver .history) (v .receiver .moves) to k
+  pub offers : (to d w k : ℕ) → In (offer to d w k) (v .letters) → OfferLive v (offerOf d w)
+  pub adverts : (to d : ℕ) → In (advert to d) (v .letters) → v .state .granted ≡ 0 → Advertised (v .sender .sending) (v .sender .at) d to
+  pub calls : (to d k : ℕ) → In (call to d k) (v .letters) → CallOk (v .sender .sending) (v .sender .at) (v .receiver .at) (v .receiver .moves) to d k
+  pub words : (to : ℕ) (x : Word) → In (word to x) (v .letters) → to ≡ v .receiver .at
 
 -- of two offers one is kept
 pub larger-elim : (Q : Offer → Type 0) (a b : Offer) → Q a → Q b → Q (larger a b)
@@ -42,20 +71,22 @@ unfolding takingOver
 takingOver-elim Q n a b x y = pick-either Q (ltb n (b .number)) (larger a b) a (larger-elim Q a b x y) x
 
 -- to prove something of every held offer, one more being held at desk x
-pub held-elim : (Q : ℕ → Offer → Type 0) (held : ℕ → Offer) (x : ℕ) (o : Offer) → ((y : ℕ) → Q y (held y)) → Q x o → (y : ℕ) → Q y (atNumber held x (larger (held x) o) y)
+pub held-elim : (Q : ℕ → Offer → Type 0) (held : ℕ → Offer) (x : ℕ) (o : Offer) → ((y : ℕ) → Q y (held y)) → Q x o
+    → (y : ℕ) → Q y (atNumber held x (larger (held x) o) y)
 held-elim Q held x o old new = at-elim Q held x (larger (held x) o) (larger-elim (Q x) (held x) o (old x) new) (λ y ne. old y)
 
 -- if one of two offers is of the send under way, the one that is kept has its number
-module _ (v : View) (a b : Offer) (la : OfferLive v a) (lb : OfferLive v b) (e : v .state .granted ≡ v .sender .sent) (s : (a .number ≡ suc (v .sender .sent)) ⊎ (b .number ≡ suc (v .sender .sent))) where
-  pub larger-number : larger a b .number ≡ suc (v .sender .sent)
+module _ (v : View) (a b : Offer) (la : OfferLive v a) (lb : OfferLive v b) (e : v .state .granted ≡ v .sender .sent)
+    (s : IsNext v (a .number) ⊎ IsNext v (b .number)) where
+  pub larger-number : IsNext v (larger a b .number)
   unfolding larger
-  larger-number = pick-cases (λ o. o .number ≡ suc (v .sender .sent)) (ltb (a .number) (b .number)) b a
+  larger-number = pick-cases (λ o. IsNext v (o .number)) (ltb (a .number) (b .number)) b a
       (λ t. let l = ltb-true (a .number) (b .number) t in ⊎-elim (λ q. lb (omega arith) .number) (λ q. q) s)
       (λ t. let l = ltb-false (a .number) (b .number) t in ⊎-elim (λ q. q) (λ q. la (omega arith) .number) s)
 
-  pub taking-number : takingOver (v .state .granted) a b .number ≡ suc (v .sender .sent)
+  pub taking-number : IsNext v (takingOver (v .state .granted) a b .number)
   unfolding takingOver
-  taking-number = pick-cases (λ o. o .number ≡ suc (v .sender .sent)) (ltb (v .state .granted) (b .number)) (larger a b) a
+  taking-number = pick-cases (λ o. IsNext v (o .number)) (ltb (v .state .granted) (b .number)) (larger a b) a
       (λ t. larger-number)
       (λ t. let l = ltb-false (v .state .granted) (b .number) t in ⊎-elim (λ q. q) (λ q. absurd (omega arith)) s)
 
@@ -70,7 +101,8 @@ firstNoted-some a d s = pick-cases (λ x. 1 ≤ x .0) (eqb (a .0) 0) d a
     (λ t. let z = eqb-true (a .0) 0 t in ⊎-elim (λ q. absurd (omega arith)) (λ q. q) s)
     (λ t. let z : a .0 ≢ 0 = eqb-false (a .0) 0 t in omega arith)
 
-pub noted-elim : (Q : ℕ → ProcessorId → Type 0) (noted : ℕ → ProcessorId) (x : ℕ) (d : ProcessorId) → ((y : ℕ) → Q y (noted y)) → Q x d → (y : ℕ) → Q y (atNumber noted x (firstNoted (noted x) d) y)
+pub noted-elim : (Q : ℕ → ProcessorId → Type 0) (noted : ℕ → ProcessorId) (x : ℕ) (d : ProcessorId) → ((y : ℕ) → Q y (noted y)) → Q x d
+    → (y : ℕ) → Q y (atNumber noted x (firstNoted (noted x) d) y)
 noted-elim Q noted x d old new = at-elim Q noted x (firstNoted (noted x) d) (firstNoted-elim (Q x) (noted x) d (old x) new) (λ y ne. old y)
 
 -- while nothing is sent, no offer and no advert counts
@@ -103,7 +135,8 @@ pub pointed : {history : ℕ → ℕ} {moves : ℕ} {p : Hint} → Right history
 pointed r l = record { some = l; old = r .old; says = r .says }
 
 -- a receiver that was sent to desk x last and is not there is on its way
-pub coming : (v : View) → Invariant v → (x : ℕ) → (x ≡ v .receiver .history (v .receiver .moves)) × (1 ≤ v .receiver .moves) → v .receiver .at ≢ x → ComingTo v x
+pub coming : (v : View) → Invariant v → (x : ℕ) → (x ≡ v .receiver .history (v .receiver .moves)) × (1 ≤ v .receiver .moves)
+    → v .receiver .at ≢ x → ComingTo v x
 coming v i x (last, born) ne = record { moving = away (i .table) x last (λ e. ne (sym e)); born = born; sent = last }
 
 -- while nothing is sent, what is said of offers, adverts and calls holds of whatever the sender does next

@@ -17,17 +17,17 @@ use Rattle.channel.specs.Invariant.{Way, by-letter, by-held, by-carried,
 use Rattle.channel.proofs.Updates.{at-elim}
 use Rattle.channel.proofs.Hints.{newer-right, right-more, depart, arrive, bear, learn}
 use Rattle.channel.proofs.Letters.{no-call, no-word}
-use Rattle.channel.proofs.Offers.{OfferLive, NextOffered, takingOver-elim, taking-number, way-more, quiets}
+use Rattle.channel.proofs.Offers.{OfferLive, NextOffered, SendOffered, takingOver-elim, taking-number, way-more, quiets}
 
 module _ (v : View) (i : Invariant v) where
   -- a sender that does not send is now at desk d, or at none, with other pointers
   sender-placed : (d : ℕ) (hints : ℕ → Hint) (h : Hint) → v .sender .sending ≡ 0
-      → Table (v .processors) (v .receiver .history) (v .receiver .moves) (v .receiver .at) hints
-      → Right (v .receiver .history) (v .receiver .moves) h
       → (1 ≤ v .sender .sent → 1 ≤ d → 1 ≤ hints d .moves)
       → (1 ≤ v .sender .sent → d ≡ 0 → 1 ≤ h .moves)
+      → Table (v .processors) (v .receiver .history) (v .receiver .moves) (v .receiver .at) hints
+      → Right (v .receiver .history) (v .receiver .moves) h
       → Invariant (hintsAre hints (travellingIs h (senderAt d v)))
-  sender-placed d hints h z table right known known-travelling =
+  sender-placed d hints h z known known-travelling table right =
       let no : v .sender .sending ≢ 1 = omega arith in
       let offered : v .sender .sending ≡ 1 → NextOffered (senderAt d v) = λ on. absurd (no on) in
       search (arith, no, quiets)
@@ -35,41 +35,41 @@ module _ (v : View) (i : Invariant v) where
   pub senderBorn-keeps : (d : ℕ) → SenderBorn d v → Invariant (senderBorn d v)
   senderBorn-keeps d g =
       sender-placed d (v .tables .hints) (v .state .travelling)
-      (let a = i .sender-stands in let b = g .nowhere in omega arith) (i .table) (i .travelling)
-      (λ a b. absurd (let c = g .first in omega arith)) (λ a b. absurd (let c = g .first in omega arith))
+      (let a = i .sender-stands in let b = g .nowhere in omega arith)
+      (λ a b. absurd (let c = g .first in omega arith)) (λ a b. absurd (let c = g .first in omega arith)) (i .table) (i .travelling)
 
   pub senderDeparts-keeps : SenderDeparts v → Invariant (senderDeparts v)
   senderDeparts-keeps g =
-      sender-placed 0 (v .tables .hints) (v .tables .hints (v .sender .at)) (g .idle) (i .table)
-      (i .table .right (v .sender .at)) (λ a b. absurd (omega arith)) (λ a b. i .known a (g .stands))
+      sender-placed 0 (v .tables .hints) (senderDeparts v .state .travelling) (g .idle)
+      (λ a b. absurd (omega arith)) (λ a b. i .known a (g .stands)) (i .table) (i .table .right (v .sender .at))
 
   pub senderArrives-keeps : (d : ℕ) → SenderArrives d v → Invariant (senderArrives d v)
   senderArrives-keeps d g =
       sender-placed d (senderArrives d v .tables .hints) (hintTo 0 0)
       (let a = i .sender-stands in let b = g .moving in omega arith)
+      (λ a b. let x = newer-right (v .tables .hints d) (v .state .travelling) in let y = i .known-travelling a (g .moving) in rw updated-same (omega arith))
+      (λ a b. absurd (let y = g .desk in omega arith))
       (learn d (v .state .travelling) (i .travelling) (i .table))
       (record { old = omega arith; says = sym (i .table .none) })
-      (λ a b. rw updated-same (let x = newer-right (v .tables .hints d) (v .state .travelling) in let y = i .known-travelling a (g .moving) in omega arith))
-      (λ a b. absurd (let y = g .desk in omega arith))
 
   -- whichever desk gets a new pointer, the sender's still knows where the receiver was
   pointer-known : (x e k : ℕ) → 1 ≤ k → 1 ≤ v .sender .sent → 1 ≤ v .sender .at → 1 ≤ atNumber (v .tables .hints) x (hintTo e k) (v .sender .at) .moves
   pointer-known x e k some a b =
       at-elim (λ y h. y ≡ v .sender .at → 1 ≤ h .moves) (v .tables .hints) x (hintTo e k) (λ q. some) (λ y ne q. rw q (i .known a b)) (v .sender .at) refl
 
-  -- a receiver that does not receive is now at desk d, or at none, with count m and history h; desk x has a pointer to it
-  receiver-placed : (d m : ℕ) (h : ℕ → ℕ) (x e k : ℕ) (held : ℕ → Offer) (c : Offer) → v .receiver .receiving ≡ 0 → 1 ≤ k
-      → Table (v .processors) h m d (atNumber (v .tables .hints) x (hintTo e k))
+  -- a receiver that does not receive is now at desk d, or at none, with count m, history h and other pointers
+  receiver-placed : (d m : ℕ) (h : ℕ → ℕ) (hints : ℕ → Hint) (held : ℕ → Offer) (c : Offer) → v .receiver .receiving ≡ 0
+      → Table (v .processors) h m d hints
+      → (1 ≤ v .sender .sent → 1 ≤ v .sender .at → 1 ≤ hints (v .sender .at) .moves)
       → Right h m (v .state .travelling)
       → ((to d w k : ℕ) → In (offer to d w k) (v .letters) → Way h m to k)
+      → ((x : ℕ) → v .state .granted < held x .number → Coming d m x (h m))
       → ((x : ℕ) → OfferLive v (held x))
       → OfferLive v c
-      → (v .sender .sending ≡ 1 → v .state .granted ≡ v .sender .sent → NextOffered (heldAre held (carriedIs c v)))
-      → ((x : ℕ) → v .state .granted < held x .number → Coming d m x (h m))
-      → Invariant (hintsAre (atNumber (v .tables .hints) x (hintTo e k)) (heldAre held (carriedIs c (sentWith m h (receiverAt d v)))))
-  receiver-placed d m h x e k held c z some table right way live-held live-carried offered held-for =
+      → SendOffered (heldAre held (carriedIs c v))
+      → Invariant (hintsAre hints (heldAre held (carriedIs c (sentWith m h (receiverAt d v)))))
+  receiver-placed d m h hints held c z table known right way held-for live-held live-carried offered =
       let n = i .counts in
-      let known = pointer-known x e k some in
       let no : v .receiver .receiving ≢ 1 = omega arith in
       let c0 : calls (v .letters) ≡ 0 = omega arith in
       let w0 : words (v .letters) ≡ 0 = omega arith in
@@ -77,24 +77,23 @@ module _ (v : View) (i : Invariant v) where
 
   pub receiverBorn-keeps : (d : ℕ) → ReceiverBorn d v → Invariant (receiverBorn d v)
   receiverBorn-keeps d g =
-      receiver-placed d 1 (atNumber (v .receiver .history) 1 d) d d 1 (v .tables .held) (v .state .carried)
-      (let a = i .receiver-stands in let b = g .nowhere in omega arith) (omega arith)
-      (bear d (g .desk) (g .last) (rw (g .nowhere, g .first) at (i .table)))
+      receiver-placed d 1 (receiverBorn d v .receiver .history) (receiverBorn d v .tables .hints) (v .tables .held) (v .state .carried)
+      (let a = i .receiver-stands in let b = g .nowhere in omega arith)
+      (bear d (g .desk) (g .last) (rw (g .nowhere, g .first) at (i .table))) (pointer-known d d 1 (omega arith))
       (right-more d (rw (g .first) at (i .travelling)))
       (λ to e w k m. let y = i .way to e w k m in let a = y .some in let b = y .old in let c = g .first in absurd (omega arith))
-      (i .offer-held) (i .offer-carried) (i .offered)
       (λ x l. let c = i .held-for x l .born in let e = g .first in absurd (omega arith))
+      (i .offer-held) (i .offer-carried) (i .offered)
 
   pub receiverDeparts-keeps : (e : ℕ) → ReceiverDeparts e v → Invariant (receiverDeparts e v)
   receiverDeparts-keeps e g =
       let m : ℕ = suc (v .receiver .moves) in
-      receiver-placed 0 m (atNumber (v .receiver .history) m e) (v .receiver .at) e m (v .tables .held) (v .state .carried)
-      (g .idle) (omega arith)
-      (depart (v .receiver .at) e (g .stands) (g .desk) (g .last) (i .table))
+      receiver-placed 0 m (receiverDeparts e v .receiver .history) (receiverDeparts e v .tables .hints) (v .tables .held) (v .state .carried) (g .idle)
+      (depart (v .receiver .at) e (g .stands) (g .desk) (g .last) (i .table)) (pointer-known (v .receiver .at) e m (omega arith))
       (right-more e (i .travelling))
       (λ to d w k l. way-more e (i .way to d w k l))
-      (i .offer-held) (i .offer-carried) (i .offered)
       (λ x l. let c = i .held-for x l .moving in let s = g .stands in absurd (omega arith))
+      (i .offer-held) (i .offer-carried) (i .offered)
 
   -- what is held where it arrives is carried now
   arrived-offered : (d : ℕ) → v .state .granted ≡ v .sender .sent → NextOffered v → NextOffered (receiverArrives d v)
@@ -107,12 +106,14 @@ module _ (v : View) (i : Invariant v) where
 
   pub receiverArrives-keeps : (d : ℕ) → ReceiverArrives d v → Invariant (receiverArrives d v)
   receiverArrives-keeps d g =
-      receiver-placed d (v .receiver .moves) (v .receiver .history) d d (v .receiver .moves) (receiverArrives d v .tables .held) (receiverArrives d v .state .carried)
-      (let a = i .receiver-stands in let b = g .moving in omega arith) (g .born)
-      (arrive d (g .born) (g .sent) (rw (g .moving) at (i .table)))
+      let m : ℕ = v .receiver .moves in
+      let new : View = receiverArrives d v in
+      receiver-placed d m (v .receiver .history) (new .tables .hints) (new .tables .held) (new .state .carried)
+      (let a = i .receiver-stands in let b = g .moving in omega arith)
+      (arrive d (g .born) (g .sent) (rw (g .moving) at (i .table))) (pointer-known d d m (g .born))
       (i .travelling) (i .way)
+      (at-elim (λ y o. v .state .granted < o .number → Coming d m y (v .receiver .history m)) (v .tables .held) d (offerOf 0 0)
+      (λ l. absurd (omega arith)) (λ y ne l. absurd (ne (i .held-for y l .sent ∙ sym (g .sent)))))
       (at-elim (λ y. OfferLive v) (v .tables .held) d (offerOf 0 0) (λ l. absurd (omega arith)) (λ y ne. i .offer-held y))
       (takingOver-elim (OfferLive v) (v .state .granted) (v .state .carried) (v .tables .held d) (i .offer-carried) (i .offer-held d))
       (λ on e. arrived-offered d e (i .offered on e))
-      (at-elim (λ y o. v .state .granted < o .number → Coming d (v .receiver .moves) y (v .receiver .history (v .receiver .moves))) (v .tables .held) d (offerOf 0 0) (λ l. absurd (omega arith))
-      (λ y ne l. absurd (ne (i .held-for y l .sent ∙ sym (g .sent)))))

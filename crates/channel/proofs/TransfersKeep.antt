@@ -1,5 +1,5 @@
 -- Sends and receives keep the invariant. One law for the two ways in which a word passes directly, and one for the answers.
-use mathlib.Core.Path.{_≡_, refl, sym}
+use mathlib.Core.Path.{_≡_, refl, sym, _∙_}
 use mathlib.Core.Logic.{_≢_, inl, inr, by-cases, ⊎-elim}
 use mathlib.Core.List.{List, List·Memᴰ·append-cases, Memᴰ·append-right}
 use Prim.Native.Nat.{ℕ, suc, _≤_, _<_}
@@ -18,7 +18,7 @@ use Rattle.channel.proofs.Bags.{total-append, total-post, in-new}
 use Rattle.channel.proofs.Hints.{unknown, known, names-itself}
 use Rattle.channel.proofs.Adverts.{adverts-in, in-adverts, post-adverts, total-adverts-zero}
 use Rattle.channel.proofs.Letters.{post-other, post-offer, post-call, no-call, no-word}
-use Rattle.channel.proofs.Offers.{OfferLive, NextOffered, ComingTo, larger-elim, held-elim, larger-number, quiet, advert-quiet, live-more, done, pointed, coming, quiets}
+use Rattle.channel.proofs.Offers.{OfferLive, IsNext, NextOffered, SendOffered, ComingTo, CountsWith, IdleCarried, MailOk, larger-elim, held-elim, larger-number, quiet, advert-quiet, live-more, done, pointed, coming, quiets}
 
 -- the offer of a send that begins: it is of the send under way, and its number is kept where it stands beside another
 abbrev nextOffer : View → Offer
@@ -27,7 +27,7 @@ nextOffer v = offerOf (v .sender .at) (suc (v .sender .sent))
 next-live : (v : View) → OfferLive (sendingIs 1 v) (nextOffer v)
 next-live v l = record { on = refl; number = refl; from = refl }
 
-next-number : (v : View) → Sends v → (o : Offer) → OfferLive v o → v .state .granted ≡ v .sender .sent → larger o (nextOffer v) .number ≡ suc (v .sender .sent)
+next-number : (v : View) → Sends v → (o : Offer) → OfferLive v o → v .state .granted ≡ v .sender .sent → IsNext v (larger o (nextOffer v) .number)
 next-number v s o q e = larger-number (sendingIs 1 v) o (nextOffer v) (quiet (s .idle) q) (next-live v) e (inr refl)
 
 module _ (v : View) (i : Invariant v) where
@@ -36,8 +36,8 @@ module _ (v : View) (i : Invariant v) where
       let z : v .sender .sending ≡ 0 = g .send .idle in
       let c = i .counts in
       let live = larger-elim (OfferLive (sendCarried v)) (v .state .carried) (nextOffer v) (quiet z (i .offer-carried)) (next-live v) in
-      let next : v .state .granted ≡ v .sender .sent → NextOffered (sendCarried v) = λ e. by-carried (next-number v (g .send) (v .state .carried) (i .offer-carried) e) in
-      let busy : v .receiver .receiving ≡ 1 → v .state .awaiting ≡ 0 → sendCarried v .state .carried .number ≤ v .state .granted = λ on e. absurd (g .busy on e) in
+      let next : SendOffered (sendCarried v) = λ on e. by-carried (next-number v (g .send) (v .state .carried) (i .offer-carried) e) in
+      let busy : IdleCarried (sendCarried v) = λ on e. absurd (g .busy on e) in
       search (arith, g .busy, quiets)
 
   pub sendHeld-keeps : SendHeld v → Invariant (sendHeld v)
@@ -46,7 +46,7 @@ module _ (v : View) (i : Invariant v) where
       let c = i .counts in
       let d : ℕ = v .sender .at in
       let live = held-elim (λ y. OfferLive (sendHeld v)) (v .tables .held) d (nextOffer v) (λ y. quiet z (i .offer-held y)) (next-live v) in
-      let next : v .state .granted ≡ v .sender .sent → NextOffered (sendHeld v) = λ e. by-held d (rw updated-same (next-number v (g .send) (v .tables .held d) (i .offer-held d) e)) in
+      let next : SendOffered (sendHeld v) = λ on e. by-held d (rw updated-same (next-number v (g .send) (v .tables .held d) (i .offer-held d) e)) in
       let there : ComingTo v d = coming v i d (names-itself (i .table) d (g .send .stands) (g .named)) (g .away) in
       let held-for = held-elim (λ y o. v .state .granted < o .number → ComingTo v y) (v .tables .held) d (nextOffer v) (i .held-for) (λ l. there) in
       let apart : d ≢ v .receiver .at = λ r. g .away (sym r) in
@@ -59,42 +59,30 @@ module _ (v : View) (i : Invariant v) where
   unfolding isCall isWord kind
   sendAdvertised-keeps g =
       let z : v .sender .sending ≡ 0 = g .send .idle in
-      let ls : List Letter = adverts (v .sender .at) (v .processors) in
-      record {
-        counts =
-            let c = i .counts in
-            let a = total-append isCall (v .letters) ls in
-            let b = total-append isWord (v .letters) ls in
-            let e = total-adverts-zero isCall (v .sender .at) (λ x. refl) (v .processors) in
-            let f = total-adverts-zero isWord (v .sender .at) (λ x. refl) (v .processors) in
-            omega arith;
-        sender-stands = g .send .stands;
-        receiver-stands = i .receiver-stands;
-        table = i .table;
-        travelling = i .travelling;
+      let d : ℕ = v .sender .at in
+      let n : ℕ = v .processors in
+      let c = i .counts in
+      let a = total-append isCall (v .letters) (adverts d n) in
+      let b = total-append isWord (v .letters) (adverts d n) in
+      let e = total-adverts-zero isCall d (λ x. refl) n in
+      let f = total-adverts-zero isWord d (λ x. refl) n in
+      let mail : MailOk (sendAdvertised v) = record {
         way = λ to e w k m. i .way to e w k (old (omega arith) m);
-        offer-letters = λ to e w k m. quiet z (i .offer-letters to e w k (old (omega arith) m));
-        offer-held = λ x. quiet z (i .offer-held x);
-        offer-carried = quiet z (i .offer-carried);
-        advert-letters = λ to e m. ⊎-elim (λ q. advert-quiet z (i .advert-letters to e q))
+        offers = λ to e w k m. quiet z (i .offer-letters to e w k (old (omega arith) m));
+        adverts = λ to e m. ⊎-elim (λ q. advert-quiet z (i .advert-letters to e q))
             (λ q c.
-            let a = adverts-in (v .sender .at) (v .processors) q in
+            let a = adverts-in d n q in
             let r = a .is in
             let s : to ≡ a .to = cc in
-            record { on = refl; from = (cc); other = rw s (a .other) }) (List·Memᴰ·append-cases (v .letters) m);
-        advert-noted = λ x l. advert-quiet z (i .advert-noted x l);
-        call-letters = λ to e k m. let q = i .call-letters to e k (old (omega arith) m) .on in absurd (omega arith);
-        word-letters = λ to x m. i .word-letters to x (old (omega arith) m);
-        known = i .known;
-        known-travelling = i .known-travelling;
-        offered = λ on e. by-adverts
-            (by-cases (decLe 1 (v .sender .sent)) (λ l. let q = i .known l (g .send .stands) in let u = unknown (i .table) (v .sender .at) (g .unknown) in absurd (omega arith)) (λ l. omega arith))
-            (λ x l u ne. inl (Memᴰ·append-right (v .letters) (in-adverts (v .sender .at) (v .processors) x l u ne)));
-        held-for = i .held-for;
-        idle-carried = i .idle-carried;
-        idle-noted = i .idle-noted;
-        idle-apart = λ on e q r. g .away (sym r);
-      }
+            record { on = refl; from = (cc); other = λ q. a .other (sym s ∙ q) }) (List·Memᴰ·append-cases (v .letters) m);
+        calls = λ to e k m. let q = i .call-letters to e k (old (omega arith) m) .on in absurd (omega arith);
+        words = λ to x m. i .word-letters to x (old (omega arith) m);
+      } in
+      let unsent : v .sender .sent ≡ 0 = by-cases (decLe 1 (v .sender .sent))
+      (λ l. let q = i .known l (g .send .stands) in let u = unknown (i .table) d (g .unknown) in absurd (omega arith)) (λ l. omega arith) in
+      let next : NextOffered (sendAdvertised v) = by-adverts unsent (λ x l u ne. inl (Memᴰ·append-right (v .letters) (in-adverts d n x l u ne))) in
+      let apart : d ≢ v .receiver .at = λ r. g .away (sym r) in
+      search (arith, quiets)
     where
       old : {m : Letter} → kind m ≢ 1 → In m (sendAdvertised v .letters) → In m (v .letters)
       old = post-adverts (v .letters) (v .sender .at) (v .processors)
@@ -105,37 +93,31 @@ module _ (v : View) (i : Invariant v) where
       let z : v .sender .sending ≡ 0 = g .send .idle in
       let d : ℕ = v .sender .at in
       let x : Letter = offer (v .tables .hints d .processor .0) d (suc (v .sender .sent)) (v .tables .hints d .moves) in
-      record {
-        counts = let e = total-post isCall (v .letters) x in let f = total-post isWord (v .letters) x in let c = i .counts in omega arith;
-        sender-stands = g .send .stands;
-        receiver-stands = i .receiver-stands;
-        table = i .table;
-        travelling = i .travelling;
+      let c = i .counts in
+      let e = total-post isCall (v .letters) x in
+      let f = total-post isWord (v .letters) x in
+      let mail : MailOk (sendPosted v) = record {
         way = λ to e w k m. post-offer (λ to e w k. Way (v .receiver .history) (v .receiver .moves) to k) (v .letters)
             (pointed (i .table .right d) (known (i .table) d (let k = g .known in omega arith))) (i .way to e w k) m;
-        offer-letters = λ to e w k m. post-offer (λ to e w k. Live (v .state .granted) 1 (v .sender .sent) d e w) (v .letters)
+        offers = λ to e w k m. post-offer (λ to e w k. Live (v .state .granted) 1 (v .sender .sent) d e w) (v .letters)
             (next-live v) (λ m. quiet z (i .offer-letters to e w k m)) m;
-        offer-held = λ x. quiet z (i .offer-held x);
-        offer-carried = quiet z (i .offer-carried);
-        advert-letters = λ to e m. advert-quiet z (i .advert-letters to e (post-other (v .letters) x (omega arith) m));
-        advert-noted = λ x l. advert-quiet z (i .advert-noted x l);
-        call-letters = λ to e k m. let q = i .call-letters to e k (post-other (v .letters) x (omega arith) m) .on in absurd (omega arith);
-        word-letters = λ to y m. i .word-letters to y (post-other (v .letters) x (omega arith) m);
-        known = i .known;
-        known-travelling = i .known-travelling;
-        offered = λ on e. by-letter (v .tables .hints d .processor .0) d (v .tables .hints d .moves) (in-new (v .letters) x);
-        held-for = i .held-for;
-        idle-carried = i .idle-carried;
-        idle-noted = i .idle-noted;
-        idle-apart = λ on e q r. g .away (sym r);
-      }
+        adverts = λ to e m. advert-quiet z (i .advert-letters to e (post-other (v .letters) x (omega arith) m));
+        calls = λ to e k m. let q = i .call-letters to e k (post-other (v .letters) x (omega arith) m) .on in absurd (omega arith);
+        words = λ to y m. i .word-letters to y (post-other (v .letters) x (omega arith) m);
+      } in
+      let next : NextOffered (sendPosted v) = by-letter (v .tables .hints d .processor .0) d (v .tables .hints d .moves) (in-new (v .letters) x) in
+      let apart : d ≢ v .receiver .at = λ r. g .away (sym r) in
+      search (arith, quiets)
 
-  -- a word passes directly: both ends are ready, and c is carried
-  passed : (s r : ℕ) (c : Offer) → s ≡ 0 → r ≡ 0 → OfferLive v c → v .state .awaiting ≡ 0 → 1 ≤ v .receiver .at → v .sender .at ≡ v .receiver .at
-      → Invariant (sentIs (suc (v .sender .sent)) (carriedIs c (awaitingIs 0 (grantedIs (suc (v .sender .sent)) (receivedIs (suc (v .receiver .received)) (receivingIs r (sendingIs s v)))))))
-  passed s r c zs zr live zero stands here =
+  -- a word passes directly: both ends are ready, g is called and c carried
+  passed : (s r g : ℕ) (c : Offer) → s ≡ 0 → r ≡ 0 → g ≡ suc (v .sender .sent) → OfferLive v c → v .state .awaiting ≡ 0
+      → 1 ≤ v .receiver .at → v .sender .at ≡ v .receiver .at
+      → Invariant
+      (sentIs (suc (v .sender .sent)) (receivedIs (suc (v .receiver .received)) (carriedIs c (awaitingIs 0 (grantedIs g (receivingIs r (sendingIs s v)))))))
+  passed s r g c zs zr new live zero stands here =
       let n = i .counts in
-      let most : v .state .granted ≤ suc (v .sender .sent) = omega arith in
+      let sent : ℕ = suc (v .sender .sent) in
+      let gone : (d w : ℕ) → OfferLive v (offerOf d w) → Live g s sent (v .sender .at) d w = λ d w f l. done (omega arith) f (omega arith) in
       record {
         counts = omega arith;
         sender-stands = omega arith;
@@ -143,9 +125,9 @@ module _ (v : View) (i : Invariant v) where
         table = i .table;
         travelling = i .travelling;
         way = i .way;
-        offer-letters = λ to e w k m. done most (i .offer-letters to e w k m);
-        offer-held = λ x. done most (i .offer-held x);
-        offer-carried = done most live;
+        offer-letters = λ to e w k m. gone e w (i .offer-letters to e w k m);
+        offer-held = λ x. gone _ _ (i .offer-held x);
+        offer-carried = gone _ _ live;
         advert-letters = λ to e m q. absurd (omega arith);
         advert-noted = λ x l q. absurd (omega arith);
         call-letters = λ to e k m. no-call (omega arith) m;
@@ -161,22 +143,21 @@ module _ (v : View) (i : Invariant v) where
 
   pub sendPasses-keeps : SendPasses v → Invariant (sendPasses v)
   sendPasses-keeps g =
-      passed (v .sender .sending) 0 (v .state .carried) (g .send .idle) refl (i .offer-carried) (g .uncalled)
+      passed (v .sender .sending) 0 (sendPasses v .state .granted) (v .state .carried) (g .send .idle) refl refl (i .offer-carried) (g .uncalled)
       (let a = g .send .stands in let h = g .here in omega arith) (sym (g .here))
 
   pub receivePasses-keeps : ReceivePasses v → Invariant (receivePasses v)
   receivePasses-keeps g =
-      passed 0 (v .receiver .receiving) (offerOf 0 0) refl (g .idle) (λ l. absurd (omega arith))
+      passed 0 (v .receiver .receiving) (receivePasses v .state .granted) (offerOf 0 0) refl (g .idle) refl (λ l. absurd (omega arith))
       (let c = i .counts in let z = g .idle in omega arith) (g .stands) (g .here)
 
   -- an answer to desk d, the sender's; no letter is new but the call, and none of those that are gone was a call or a word
   pub answered-keeps : (d r : ℕ) (c : Offer) (noted : ℕ → ProcessorId) (ls : List Letter) → r ≡ 1 → 1 ≤ v .receiver .at
       → v .state .awaiting ≡ 0 → v .sender .sending ≡ 1 → d ≡ v .sender .at → OfferLive v c
-      → ((m : Letter) → In m ls → In m (v .letters)) → calls ls ≡ calls (v .letters) → words ls ≡ words (v .letters)
+      → ((m : Letter) → In m ls → In m (v .letters)) → CountsWith v ls
       → Invariant (answered d (receivingIs r (carriedIs c (notedAre noted (withLetters ls v)))))
   unfolding isCall isWord kind
-  answered-keeps d r c noted ls on stands zero sending from live old same-calls same-words =
-      let n = i .counts in
+  answered-keeps d r c noted ls on stands zero sending from live old n =
       let x : Letter = call d (v .receiver .at) (v .receiver .moves) in
       record {
         counts = let e = total-post isCall ls x in let f = total-post isWord ls x in omega arith;
@@ -208,7 +189,7 @@ module _ (v : View) (i : Invariant v) where
       let c = i .counts in
       let z = g .receive .idle in
       answered-keeps (v .state .carried .processor .0) 1 (offerOf 0 0) (v .tables .noted) (v .letters) refl (g .receive .stands)
-      (omega arith) (now .on) (now .from) (λ l. absurd (omega arith)) (λ x m. m) refl refl
+      (omega arith) (now .on) (now .from) (λ l. absurd (omega arith)) (λ x m. m) c
 
   pub notedAnswered-keeps : NotedAnswered v → Invariant (notedAnswered v)
   notedAnswered-keeps g =
@@ -216,4 +197,4 @@ module _ (v : View) (i : Invariant v) where
       let c = i .counts in
       let z = g .receive .idle in
       answered-keeps (v .tables .noted (v .receiver .at) .0) 1 (v .state .carried) (notedAnswered v .tables .noted) (v .letters) refl (g .receive .stands)
-      (omega arith) (now .on) (now .from) (i .offer-carried) (λ x m. m) refl refl
+      (omega arith) (now .on) (now .from) (i .offer-carried) (λ x m. m) c

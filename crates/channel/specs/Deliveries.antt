@@ -1,4 +1,5 @@
--- Events of a channel: the letter at place p, from 0, is delivered.
+-- Events of a channel: the letter at place p, from 0, is delivered. They are the branches of the rules `offerRule`, `advertRule`, `callRule` and
+-- `dataRule`, as the channel sees them.
 use mathlib.Core.Path.{_≡_}
 use mathlib.Core.Logic.{_≢_, _⊎_}
 use mathlib.Core.Option.{some}
@@ -11,31 +12,31 @@ use Rattle.rules.specs.Cells.{newer, larger, firstNoted}
 use Rattle.channel.specs.Updates.{atNumber}
 use Rattle.channel.specs.Bags.{one, without}
 use Rattle.channel.specs.Hints.{hintTo}
-use Rattle.channel.specs.Letters.{Letter, offer, advert, call, word}
+use Rattle.channel.specs.Letters.{offer, advert, call, word}
 use Rattle.channel.specs.Views.{offerOf, View, withLetters, sendingIs, sentIs, receivingIs, receivedIs, hintsAre, heldAre, notedAre, awaitingIs, carriedIs}
 use Rattle.channel.specs.Transfers.{answered}
 
 abbrev pub taken : ℕ → View → View
 taken p v = withLetters (without (v .letters) p) v
 
--- "if it no longer counts and the receiver is here, dropped": the offer to desk x, of desk d, number w, count k
+-- an offer that counts no more, where the receiver is: the offer to desk x, of desk d, number w, count k
 pub record Dropped (p x d w k : ℕ) (v : View) : Type 0 where
   pub letter : getElem? (v .letters) p ≡ some (offer x d w k)
   pub here : v .receiver .at ≡ x
   pub stale : w ≤ v .state .granted
 
--- "Receiver here, receiving and not called: answered."
+-- one that counts, where the receiver waits for one
 pub record OfferAnswered (p x d w k : ℕ) (v : View) : Type 0 where
   pub letter : getElem? (v .letters) p ≡ some (offer x d w k)
   pub here : v .receiver .at ≡ x
-  pub counts : v .state .granted < w
+  pub counts : v .state .granted < w  -- the offer counts
   pub receiving : v .receiver .receiving ≡ 1
   pub uncalled : v .state .awaiting ≡ 0
 
 abbrev pub offerAnswered : ℕ → ℕ → View → View
 offerAnswered p d v = answered d (taken p v)
 
--- "Receiver here otherwise: carried."
+-- where the receiver is otherwise
 pub record Carried (p x d w k : ℕ) (v : View) : Type 0 where
   pub letter : getElem? (v .letters) p ≡ some (offer x d w k)
   pub here : v .receiver .at ≡ x
@@ -45,7 +46,7 @@ pub record Carried (p x d w k : ℕ) (v : View) : Type 0 where
 abbrev pub carried : ℕ → ℕ → ℕ → View → View
 carried p d w v = carriedIs (larger (v .state .carried) (offerOf d w)) (taken p v)
 
--- "Not here: if d's pointer names another desk with a larger count than the letter's, forwarded there with that count"
+-- where the receiver is not, and a newer pointer names another desk
 pub record Forwarded (p x d w k : ℕ) (v : View) : Type 0 where
   pub letter : getElem? (v .letters) p ≡ some (offer x d w k)
   pub away : v .receiver .at ≢ x
@@ -56,7 +57,7 @@ abbrev pub forwarded : ℕ → ℕ → ℕ → ℕ → View → View
 forwarded p x d w v =
     withLetters (without (v .letters) p ++ one (offer (v .tables .hints x .processor .0) d w (v .tables .hints x .moves))) v
 
--- "else held at d"
+-- where it is not, and none does
 pub record Held (p x d w k : ℕ) (v : View) : Type 0 where
   pub letter : getElem? (v .letters) p ≡ some (offer x d w k)
   pub away : v .receiver .at ≢ x
@@ -65,14 +66,14 @@ pub record Held (p x d w k : ℕ) (v : View) : Type 0 where
 abbrev pub held : ℕ → ℕ → ℕ → ℕ → View → View
 held p x d w v = heldAre (atNumber (v .tables .held) x (larger (v .tables .held x) (offerOf d w))) (taken p v)
 
--- "Advert: receiver here, receiving, called 0: answered."
+-- an advert, where the receiver waits and nothing was called
 pub record AdvertAnswered (p x d : ℕ) (v : View) : Type 0 where
   pub letter : getElem? (v .letters) p ≡ some (advert x d)
   pub here : v .receiver .at ≡ x
   pub receiving : v .receiver .receiving ≡ 1
   pub first : v .state .granted ≡ 0
 
--- "Else noted."
+-- any other
 pub record AdvertNoted (p x d : ℕ) (v : View) : Type 0 where
   pub letter : getElem? (v .letters) p ≡ some (advert x d)
   pub not-now : v .receiver .at ≡ x → v .receiver .receiving ≡ 1 → v .state .granted ≢ 0
@@ -80,7 +81,7 @@ pub record AdvertNoted (p x d : ℕ) (v : View) : Type 0 where
 abbrev pub advertNoted : ℕ → ℕ → ℕ → View → View
 advertNoted p x d v = notedAre (atNumber (v .tables .noted) x (firstNoted (v .tables .noted x) (processorId d))) (taken p v)
 
--- "Call: the sender is ready, its desk's pointer becomes the newer of the two, a word letter leaves."
+-- a call, and the sender's word leaves
 pub record Called (p x d k : ℕ) (v : View) : Type 0 where
   pub letter : getElem? (v .letters) p ≡ some (call x d k)
   pub sending : v .sender .sending ≡ 1
@@ -93,7 +94,7 @@ called p x d k value v =
     (hintsAre (atNumber (v .tables .hints) x (newer (v .tables .hints x) (hintTo d k)))
     (withLetters (without (v .letters) p ++ one (word d value)) v)))
 
--- "Word: the receiver takes it and is ready."
+-- a word
 pub record WordTaken (p x : ℕ) (value : Word) (v : View) : Type 0 where
   pub letter : getElem? (v .letters) p ≡ some (word x value)
   pub here : v .receiver .at ≡ x

@@ -1,7 +1,7 @@
 -- Locating a moving task by counted pointers: over any table of pointers and any history. A history says to which desk the task was sent with
 -- each move count; birth is count 1. Desks are numbers here, 0 is none.
 use mathlib.Core.Path.{_≡_}
-use Prim.Native.Nat.{ℕ, zero, suc, _+_, _≤_, _<_}
+use Prim.Native.Nat.{ℕ, zero, suc, _≤_, _<_}
 use lib.Dec.{eqb, ltb}
 use Rattle.base.specs.Choice.{pick}
 use Rattle.base.specs.Range.{sumBelow}

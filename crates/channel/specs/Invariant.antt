@@ -64,7 +64,9 @@ pub record Coming (at moves x last : ℕ) : Type 0 where
   pub sent : x ≡ last
 
 pub record Invariant (v : View) : Type 0 where
-  pub counts : Counts (v .sender .sent) (v .sender .sending) (v .receiver .received) (v .receiver .receiving) (v .state .granted) (v .state .awaiting) (calls (v .letters)) (words (v .letters))
+  pub counts :
+      Counts (v .sender .sent) (v .sender .sending) (v .receiver .received) (v .receiver .receiving) (v .state .granted) (v .state .awaiting)
+      (calls (v .letters)) (words (v .letters))
   -- who sends or receives stands at a desk
   pub sender-stands : v .sender .sending ≤ v .sender .at
   pub receiver-stands : v .receiver .receiving ≤ v .receiver .at
@@ -73,20 +75,27 @@ pub record Invariant (v : View) : Type 0 where
   pub travelling : Right (v .receiver .history) (v .receiver .moves) (v .state .travelling)
   pub way : (to d w k : ℕ) → In (offer to d w k) (v .letters) → Way (v .receiver .history) (v .receiver .moves) to k
   -- an offer or an advert that counts is of the send under way
-  pub offer-letters : (to d w k : ℕ) → In (offer to d w k) (v .letters) → Live (v .state .granted) (v .sender .sending) (v .sender .sent) (v .sender .at) d w
-  pub offer-held : (x : ℕ) → Live (v .state .granted) (v .sender .sending) (v .sender .sent) (v .sender .at) (v .tables .held x .processor .0) (v .tables .held x .number)
-  pub offer-carried : Live (v .state .granted) (v .sender .sending) (v .sender .sent) (v .sender .at) (v .state .carried .processor .0) (v .state .carried .number)
-  pub advert-letters : (to d : ℕ) → In (advert to d) (v .letters) → v .state .granted ≡ 0 → Advertised (v .sender .sending) (v .sender .at) d to
+  pub offer-letters : (to d w k : ℕ) → In (offer to d w k) (v .letters)
+      → Live (v .state .granted) (v .sender .sending) (v .sender .sent) (v .sender .at) d w
+  pub offer-held : (x : ℕ)
+      → Live (v .state .granted) (v .sender .sending) (v .sender .sent) (v .sender .at) (v .tables .held x .processor .0) (v .tables .held x .number)
+  pub offer-carried :
+      Live (v .state .granted) (v .sender .sending) (v .sender .sent) (v .sender .at) (v .state .carried .processor .0) (v .state .carried .number)
+  pub advert-letters : (to d : ℕ) → In (advert to d) (v .letters)
+      → v .state .granted ≡ 0 → Advertised (v .sender .sending) (v .sender .at) d to
   pub advert-noted : (x : ℕ) → 1 ≤ v .tables .noted x .0 → v .state .granted ≡ 0 → Advertised (v .sender .sending) (v .sender .at) (v .tables .noted x .0) x
   -- calls and words find what they suppose
-  pub call-letters : (to d k : ℕ) → In (call to d k) (v .letters) → CallOk (v .sender .sending) (v .sender .at) (v .receiver .at) (v .receiver .moves) to d k
+  pub call-letters : (to d k : ℕ) → In (call to d k) (v .letters)
+      → CallOk (v .sender .sending) (v .sender .at) (v .receiver .at) (v .receiver .moves) to d k
   pub word-letters : (to : ℕ) (x : Word) → In (word to x) (v .letters) → to ≡ v .receiver .at
   -- after the first word the sender's desk, or the sender on its way, knows where the receiver was
   pub known : 1 ≤ v .sender .sent → 1 ≤ v .sender .at → 1 ≤ v .tables .hints (v .sender .at) .moves
   pub known-travelling : 1 ≤ v .sender .sent → v .sender .at ≡ 0 → 1 ≤ v .state .travelling .moves
-  pub offered : v .sender .sending ≡ 1 → v .state .granted ≡ v .sender .sent → Offered (v .processors) (v .sender .sent) (v .sender .at) (v .tables .held) (v .tables .noted) (v .state .carried) (v .letters)
+  pub offered : v .sender .sending ≡ 1 → v .state .granted ≡ v .sender .sent
+      → Offered (v .processors) (v .sender .sent) (v .sender .at) (v .tables .held) (v .tables .noted) (v .state .carried) (v .letters)
   -- an offer that counts is held only where the receiver is about to arrive
-  pub held-for : (x : ℕ) → v .state .granted < v .tables .held x .number → Coming (v .receiver .at) (v .receiver .moves) x (v .receiver .history (v .receiver .moves))
+  pub held-for : (x : ℕ) → v .state .granted < v .tables .held x .number
+      → Coming (v .receiver .at) (v .receiver .moves) x (v .receiver .history (v .receiver .moves))
   -- who receives and has not called had nothing to answer
   pub idle-carried : v .receiver .receiving ≡ 1 → v .state .awaiting ≡ 0 → v .state .carried .number ≤ v .state .granted
   pub idle-noted : v .receiver .receiving ≡ 1 → v .state .awaiting ≡ 0 → v .state .granted ≡ 0 → v .tables .noted (v .receiver .at) .0 ≡ 0

@@ -46,6 +46,6 @@ calls = total isCall
 abbrev pub words : List Letter → ℕ
 words = total isWord
 
--- "an advert to every other desk in rising order": from desk d, of n desks
+-- the adverts of the sender at desk d, one to each other of n desks
 unfoldable pub adverts : ℕ → ℕ → List Letter
 adverts d n = joined n (λ k. pick (eqb (suc k) d) [] (advert (suc k) d ∷ []))

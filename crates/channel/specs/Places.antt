@@ -1,6 +1,6 @@
 -- Events of a channel: an end is born, departs or arrives. Each has a guard, when it can happen, and an effect.
 use mathlib.Core.Path.{_≡_}
-use Prim.Native.Nat.{ℕ, zero, suc, _≤_}
+use Prim.Native.Nat.{ℕ, suc, _≤_}
 use lib.Dec.{ltb}
 use Rattle.base.specs.Choice.{pick}
 use Rattle.rules.specs.declared.channel.Offer.{Offer}
@@ -64,7 +64,7 @@ pub record ReceiverArrives (d : ℕ) (v : View) : Type 0 where
   pub born : 1 ≤ v .receiver .moves
   pub sent : d ≡ v .receiver .history (v .receiver .moves)
 
--- "a held offer that counts is taken over": beside the carried one, with n called
+-- what is carried then: a held offer that counts, with n called, beside the carried one
 unfoldable pub takingOver : ℕ → Offer → Offer → Offer
 takingOver n carried held = pick (ltb n (held .number)) (larger carried held) carried
 

@@ -1,4 +1,4 @@
--- Events of a channel: a send or a receive on it.
+-- Events of a channel: a send or a receive on it. They are the branches of the rules `sendRule` and `receiveRule`, as the channel sees them.
 use mathlib.Core.Path.{_≡_}
 use mathlib.Core.Logic.{_≢_}
 use mathlib.Core.List.{_++_}
@@ -15,7 +15,7 @@ pub record Sends (v : View) : Type 0 where
   pub stands : 1 ≤ v .sender .at
   pub idle : v .sender .sending ≡ 0
 
--- "If the receiver is at d, receiving on c and has not called: the word passes directly"
+-- the receiver waits at the same desk
 pub record SendPasses (v : View) : Type 0 where
   pub send : Sends v
   pub here : v .receiver .at ≡ v .sender .at
@@ -25,7 +25,7 @@ pub record SendPasses (v : View) : Type 0 where
 abbrev pub sendPasses : View → View
 sendPasses v = sentIs (suc (v .sender .sent)) (awaitingIs 0 (grantedIs (suc (v .sender .sent)) (receivedIs (suc (v .receiver .received)) (receivingIs 0 v))))
 
--- "receiver at d, it carries offer (d, w)"
+-- it is at the same desk, and does not wait
 pub record SendCarried (v : View) : Type 0 where
   pub send : Sends v
   pub here : v .receiver .at ≡ v .sender .at
@@ -34,7 +34,7 @@ pub record SendCarried (v : View) : Type 0 where
 abbrev pub sendCarried : View → View
 sendCarried v = sendingIs 1 (carriedIs (larger (v .state .carried) (offerOf (v .sender .at) (suc (v .sender .sent)))) v)
 
--- "else pointer unknown, an advert to every other desk"
+-- it is elsewhere, nobody knows where
 pub record SendAdvertised (v : View) : Type 0 where
   pub send : Sends v
   pub away : v .receiver .at ≢ v .sender .at
@@ -43,7 +43,7 @@ pub record SendAdvertised (v : View) : Type 0 where
 abbrev pub sendAdvertised : View → View
 sendAdvertised v = sendingIs 1 (withLetters (v .letters ++ adverts (v .sender .at) (v .processors)) v)
 
--- "else pointer names d, the offer is held at d"
+-- it is elsewhere, and is to come here
 pub record SendHeld (v : View) : Type 0 where
   pub send : Sends v
   pub away : v .receiver .at ≢ v .sender .at
@@ -54,7 +54,7 @@ sendHeld v =
     sendingIs 1
     (heldAre (atNumber (v .tables .held) (v .sender .at) (larger (v .tables .held (v .sender .at)) (offerOf (v .sender .at) (suc (v .sender .sent))))) v)
 
--- "else an offer letter (c, d, w, the pointer's count) goes to the pointer's desk"
+-- it is elsewhere, and was sent to another desk
 pub record SendPosted (v : View) : Type 0 where
   pub send : Sends v
   pub away : v .receiver .at ≢ v .sender .at
@@ -66,7 +66,7 @@ sendPosted v =
     let h = v .tables .hints (v .sender .at) in
     sendingIs 1 (withLetters (v .letters ++ one (offer (h .processor .0) (v .sender .at) (suc (v .sender .sent)) (h .moves))) v)
 
--- "If its sender is sending on c at d: the word passes directly"
+-- the sender waits at the same desk
 pub record ReceivePasses (v : View) : Type 0 where
   pub stands : 1 ≤ v .receiver .at
   pub idle : v .receiver .receiving ≡ 0
@@ -78,7 +78,7 @@ receivePasses v =
     sentIs (suc (v .sender .sent))
     (carriedIs (offerOf 0 0) (awaitingIs 0 (grantedIs (suc (v .sender .sent)) (receivedIs (suc (v .receiver .received)) (sendingIs 0 v)))))
 
--- "Else it is receiving"
+-- it does not: the receive waits
 pub record Receives (v : View) : Type 0 where
   pub stands : 1 ≤ v .receiver .at
   pub idle : v .receiver .receiving ≡ 0
@@ -92,11 +92,11 @@ pub record ReceiveWaits (v : View) : Type 0 where
 abbrev pub receiveWaits : View → View
 receiveWaits v = receivingIs 1 v
 
--- "is answered: .. called goes up by one and a call letter with (d, move count) goes to the offering desk"
+-- an offer or an advert of desk d is answered by a call
 abbrev pub answered : ℕ → View → View
 answered d v = awaitingIs 1 (grantedIs (suc (v .state .granted)) (withLetters (v .letters ++ one (call d (v .receiver .at) (v .receiver .moves))) v))
 
--- "a carried offer that counts"
+-- a carried offer that counts is answered
 pub record CarriedAnswered (v : View) : Type 0 where
   pub receive : Receives v
   pub counts : v .state .granted < v .state .carried .number
@@ -104,7 +104,7 @@ pub record CarriedAnswered (v : View) : Type 0 where
 abbrev pub carriedAnswered : View → View
 carriedAnswered v = answered (v .state .carried .processor .0) (receivingIs 1 (carriedIs (offerOf 0 0) v))
 
--- "else if called is 0 an advert noted at d"
+-- else a noted advert, if nothing was called
 pub record NotedAnswered (v : View) : Type 0 where
   pub receive : Receives v
   pub stale : v .state .carried .number ≤ v .state .granted

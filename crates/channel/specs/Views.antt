@@ -74,17 +74,25 @@ sentIs n v = withSender (record { at = v .sender .at; sending = v .sender .sendi
 
 -- the same of the receiver
 abbrev pub receiverAt : ℕ → View → View
-receiverAt d v = withReceiver (record { at = d; receiving = v .receiver .receiving; received = v .receiver .received; moves = v .receiver .moves; history = v .receiver .history }) v
+receiverAt d v =
+    withReceiver
+    (record { at = d; receiving = v .receiver .receiving; received = v .receiver .received; moves = v .receiver .moves; history = v .receiver .history }) v
 
 abbrev pub receivingIs : ℕ → View → View
-receivingIs x v = withReceiver (record { at = v .receiver .at; receiving = x; received = v .receiver .received; moves = v .receiver .moves; history = v .receiver .history }) v
+receivingIs x v =
+    withReceiver
+    (record { at = v .receiver .at; receiving = x; received = v .receiver .received; moves = v .receiver .moves; history = v .receiver .history }) v
 
 abbrev pub receivedIs : ℕ → View → View
-receivedIs n v = withReceiver (record { at = v .receiver .at; receiving = v .receiver .receiving; received = n; moves = v .receiver .moves; history = v .receiver .history }) v
+receivedIs n v =
+    withReceiver
+    (record { at = v .receiver .at; receiving = v .receiver .receiving; received = n; moves = v .receiver .moves; history = v .receiver .history }) v
 
 -- it is sent somewhere with a new count: its count and its history
 abbrev pub sentWith : ℕ → (ℕ → ℕ) → View → View
-sentWith k h v = withReceiver (record { at = v .receiver .at; receiving = v .receiver .receiving; received = v .receiver .received; moves = k; history = h }) v
+sentWith k h v =
+    withReceiver
+    (record { at = v .receiver .at; receiving = v .receiver .receiving; received = v .receiver .received; moves = k; history = h }) v
 
 abbrev pub hintsAre : (ℕ → Hint) → View → View
 hintsAre x v = withTables (record { hints = x; held = v .tables .held; noted = v .tables .noted }) v

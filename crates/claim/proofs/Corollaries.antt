@@ -1,72 +1,46 @@
--- At most one call or word letter of each channel is under way, after any list of steps.
-use mathlib.Core.Path.{_≡_, refl, _∙_}
-use mathlib.Core.Bool.{Bool, true, false}
-use mathlib.Core.List.{List, [], _∷_}
-use Prim.Native.Nat.{ℕ, _+_, _≤_}
+-- What follows of rest: every rig can be brought to it, all lists to it have as many accepted runs, and it shows the net's normal form.
+use mathlib.Core.Path.{_≡_, refl}
+use mathlib.Core.Bool.{true}
+use mathlib.Core.List.{List}
+use Prim.Native.Nat.{ℕ, suc, _+_, _≤_}
 use native.Mathlib.Omega.{arith}
-use Rattle.base.specs.Choice.{pick}
-use Rattle.base.specs.Lists.{count}
+use lib.ListN.{length}
+use Rattle.base.proofs.Folds.{fold-same}
+use Rattle.base.proofs.Tests.{within-both}
 use Rattle.plan.specs.declared.PlanAnswer.the-variants.{Accepted}
 use Rattle.plan.specs.declared.Plan.{Plan}
-use Rattle.plan.specs.declared.ChannelId.{ChannelId}
-use Rattle.plan.specs.Numbers.{sameChannel}
+use Rattle.plan.specs.Numbers.{taskId}
 use Rattle.plan.specs.Programs.{programs}
 use Rattle.plan.specs.Refusals.{planAnswer}
-use Rattle.rules.specs.declared.message.Message.{Message}
-use Rattle.rules.specs.declared.message.Message.the-variants.{Empty, Offered, Advert, ReadyToReceive, Data, Terminated, Migration}
+use Rattle.plan.proofs.Parts.{tasks-of}
 use Rattle.rules.specs.declared.step.Step.{Step}
-use Rattle.rules.specs.Networks.{letters}
-use Rattle.channel.specs.Bags.{one, total}
-use Rattle.channel.specs.Letters.{Letter, offer, advert, call, word, isCall, isWord, calls, words}
-use Rattle.channel.proofs.Bags.{total-append}
-use Rattle.channel.proofs.Claims.{few-letters}
+use Rattle.rules.specs.Systems.{taskAt}
+use Rattle.rules.specs.Starts.{started}
+use Rattle.rules.specs.Steps.{isRun, quiescent, receivedOn}
 use Rattle.acts.specs.Readings.{reading}
-use Rattle.acts.specs.Letters.{flat, letterOn, lettersOn}
-use Rattle.acts.specs.Views.{viewOf}
-use Rattle.claim.specs.Statement.{from}
-use Rattle.claim.specs.Corollaries.{isCallOrWord}
-use Rattle.claim.proofs.Whole.{list-kept}
+use Rattle.acts.specs.Progress.{unexecutedOf, unexecuted}
+use Rattle.claim.specs.Statement.{acceptedOf, from, Rests}
+use Rattle.claim.specs.Corollaries.{Shows}
+use Rattle.claim.proofs.Whole.{list-kept, Rested, rested}
+use Rattle.claim.proofs.Demand3.{normal, all-received, counted, demand-3}
 
--- letters that are a call or a word
-abbrev callsAndWords : List Letter → ℕ
-callsAndWords ls = calls ls + words ls
+module _ (n : ℕ) (p : Plan) (ss : List Step) (some : 1 ≤ n) (few : n ≤ 6) (a : planAnswer (programs p) ≡ Accepted) where
+  pub on-to-rest : Rested (from n p ss .system)
+  on-to-rest = rested p a (list-kept n p some few a ss)
 
--- a letter of the channel, or none
-module _ (b : Bool) (l : Letter) where
-  picked : (n : ℕ) → isCall l + isWord l ≡ n → callsAndWords (pick b (one l) []) ≡ pick b n 0
-  unfolding total
-  picked n e = go b
-    where
-      go : (b : Bool) → callsAndWords (pick b (one l) []) ≡ pick b n 0
-      go true = omega (arith, e)
-      go false = omega arith
+  pub rest-shows : quiescent (from n p ss .system) ≡ true → Shows p (λ c. receivedOn c (from n p ss .reports))
+  rest-shows quiet =
+      let k = list-kept n p some few a ss in
+      record { labels = k .labels; state = k .state; reached = k .reached; normal = normal p a k quiet; passed = all-received p a k quiet }
 
-nothing : (b : Bool) → pick {A = ℕ} b 0 0 ≡ 0
-nothing true = refl
-nothing false = refl
-
--- one letter, as the channel sees it
-each : (c : ChannelId) (a : Message) → callsAndWords (letterOn c a) ≡ pick (isCallOrWord c a) 1 0
-unfolding letterOn isCallOrWord total isCall isWord
-each c Empty = refl
-each c (Offered e o h) = picked (sameChannel e c) (offer (h .processor .0) (o .processor .0) (o .number) (h .moves)) 0 refl ∙ nothing (sameChannel e c)
-each c (Advert e d x) = picked (sameChannel e c) (advert (d .0) (x .0)) 0 refl ∙ nothing (sameChannel e c)
-each c (ReadyToReceive e d h) = picked (sameChannel e c) (call (d .0) (h .processor .0) (h .moves)) 1 refl
-each c (Data e d w) = picked (sameChannel e c) (word (d .0) w) 1 refl
-each c (Terminated d t) = refl
-each c (Migration d t) = refl
-
-counted : (c : ChannelId) (ms : List Message) → callsAndWords (lettersOn c ms) ≡ count (isCallOrWord c) ms
-unfolding flat count total
-counted c [] = refl
-counted c (a ∷ ms) =
-    omega
-    (arith, total-append isCall (letterOn c a) (lettersOn c ms), total-append isWord (letterOn c a) (lettersOn c ms), each c a, counted c ms)
-
-pub one-call-or-word : (n : ℕ) (p : Plan) (ss : List Step) → 1 ≤ n → n ≤ 6 → planAnswer (programs p) ≡ Accepted → (c : ChannelId) → 1 ≤ c .0
-    → c .0 ≤ 128 → count (isCallOrWord c) (letters (from n p ss .system .network)) ≤ 1
-unfolding viewOf reading
-one-call-or-word n p ss some few a c low high =
-    let k = list-kept n p some few a ss in
-    let view = viewOf (programs p) (k .histories) (reading (from n p ss .system)) c in
-    omega (arith, counted c (letters (from n p ss .system .network)), few-letters view (k .running .views c low high))
+  pub same-runs : quiescent (from n p ss .system) ≡ true → (ts : List Step) → Rests p ts
+      → acceptedOf isRun (started n p) ss ≡ acceptedOf isRun (started 1 p) ts
+  unfolding unexecuted reading
+  same-runs quiet ts rests =
+      let left =
+      fold-same _+_ 0 (length (programs p)) (λ k. unexecutedOf (programs p) (taskAt (from n p ss .system)) (taskId (suc k)))
+      (λ k. unexecutedOf (programs p) (taskAt (from 1 p ts .system)) (taskId (suc k)))
+      (λ k l.
+      let is = within-both 1 (length (programs p)) (suc k) (omega arith) (omega arith) in
+      rw (demand-3 n p ss some few a .same-tasks quiet ts rests (taskId (suc k)) (rw (tasks-of p) at is) .place) refl) in
+      omega (arith, counted n p ss some few a, counted 1 p ts (omega arith) (omega arith) a, left)

@@ -49,14 +49,13 @@ use Rattle.acts.specs.Readings.{reading}
 use Rattle.acts.specs.Progress.{programOf, unexecuted}
 use Rattle.acts.specs.Letters.{flat, lettersOn, wordsIn}
 use Rattle.acts.specs.Agreement.{Running}
-use Rattle.running.specs.Weights.{weightOf}
-use Rattle.claim.specs.Statement.{wastes, noneWasted, acceptedOf, anyStep, from, answeredNine, notExecuted, underWay, ComesToRest, SameTask}
+use Rattle.claim.specs.Statement.{wastes, noneWasted, acceptedOf, anyStep, from, answeredNine, notExecuted, underWay, ComesToRest, SameTask, Claim}
 use Rattle.claim.specs.Statement.{Demand3}
 use Rattle.running.proofs.Falls.{few-left}
 use Rattle.running.proofs.Next.{Kept}
 use Rattle.claim.proofs.Lists.{kept-step, runs-counted, few-accepted}
 use Rattle.claim.proofs.Quiet.{rest-refuses, refuses-rest, quiet-letters, quiet-ready}
-use Rattle.claim.proofs.Whole.{start-kept, list-kept, start-work, comes-to-rest}
+use Rattle.claim.proofs.Whole.{start-kept, list-kept, start-work, rested}
 use Rattle.running.proofs.Rest.{Resting, rest-normal, at-rest-same}
 use Rattle.claim.proofs.Finds.{finds}
 
@@ -121,11 +120,11 @@ module _ (p : Plan) (a : planAnswer (programs p) ≡ PlanAccepted) where
         let q = quiet-ready r (k .shaped) (k .ok) quiet t (rw same is) ready in
         subst (λ (z : Plan). (isFinish (nextIn (programOf (programs z) t) (taskAt r t)) ≡ true) × (isChildless (taskAt r t) ≡ false)) (k .plan) q
 
-    normal : Normal (net m) (k .state)
+    pub normal : Normal (net m) (k .state)
     normal = rest-normal m a (k .reached) (k .running) no-letters resting
 
     -- all words that have passed are received
-    all-received : (c : ChannelId) → k .state .passed c ≡ w c
+    pub all-received : (c : ChannelId) → k .state .passed c ≡ w c
     unfolding flat
     all-received c = k .running .passed c ∙ ap (λ (ms : List Message). w c ++ wordsIn (lettersOn c ms)) no-letters ∙ append-nil (w c)
 
@@ -172,12 +171,11 @@ module _ (n : ℕ) (p : Plan) (ss : List Step) (some : 1 ≤ n) (few : n ≤ 6) 
 
   one-desk : ComesToRest p
   one-desk =
-      let k = start-kept 1 p (omega arith) (omega arith) a in
-      let done = comes-to-rest p a (weightOf (programs p) (k .histories) (reading (started 1 p))) k (omega arith) in
+      let done = rested p a (start-kept 1 p (omega arith) (omega arith) a) in
       record { list = done .list; rests = done .rests }
 
   -- N is what is executed and what is not
-  counted : totalOf (programs p) ≡ acceptedOf isRun (started n p) ss + unexecuted (programs p) (reading rig .tasks)
+  pub counted : totalOf (programs p) ≡ acceptedOf isRun (started n p) ss + unexecuted (programs p) (reading rig .tasks)
   counted = sym (start-work n p some few a) ∙ runs-counted p a (start-kept n p some few a) ss
 
   letters-there : length (reading rig .letters) ≡ rig .network .used
@@ -187,9 +185,8 @@ module _ (n : ℕ) (p : Plan) (ss : List Step) (some : 1 ≤ n) (few : n ≤ 6) 
   few-steps : (us : List Step) → acceptedOf isMove rig us ≡ 0 → acceptedOf anyStep rig us ≤ 10 * (notExecuted n p ss + underWay n p ss)
   few-steps us none = omega (arith, few-accepted p a here us none, few-left (programs p) (here .running), counted, letters-there)
 
-  -- the claim
-  pub demand-3 : Demand3 n p ss
-  demand-3 =
+  parts : Demand3 n p ss
+  parts =
       record {
         no-nine = no-nine p a (start-kept n p some few a) ss;
         none-wasted = none-wasted p a (start-kept n p some few a) ss;
@@ -202,3 +199,6 @@ module _ (n : ℕ) (p : Plan) (ss : List Step) (some : 1 ≤ n) (few : n ≤ 6) 
         rest-refuses = λ quiet s kind. rest-refuses rig (here .ok) quiet s kind;
         refuses-rest = refuses-rest rig (here .ok);
       }
+
+pub demand-3 : Claim
+demand-3 n p ss some few a = parts n p ss some few a

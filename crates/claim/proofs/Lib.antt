@@ -3,7 +3,10 @@
 pub mod Lists
 pub mod Quiet
 pub mod Whole
+pub mod Supposed
 pub mod Finds
 -- the claim, and what follows
 pub mod Demand3
+pub mod Files
 pub mod Corollaries
+pub mod OneLetter

@@ -114,7 +114,7 @@ pub record Rested (r : System) : Type 0 where
   pub list : List Step
   pub rests : quiescent (steps r list .system) ≡ true
 
-pub comes-to-rest : (p : Plan) → planAnswer (programs p) ≡ PlanAccepted → (n : ℕ) {r : System} {w : ChannelId → List Word} (k : Kept p r w)
+comes-to-rest : (p : Plan) → planAnswer (programs p) ≡ PlanAccepted → (n : ℕ) {r : System} {w : ChannelId → List Word} (k : Kept p r w)
     → weightOf (programs p) (k .histories) (reading r) ≤ n → Rested r
 unfolding stepsBy
 comes-to-rest p a zero {r} k small =
@@ -127,3 +127,6 @@ comes-to-rest p a (suc n) {r} k small =
     let then = next p a k (g .by) (g .accepted) in
     let later = comes-to-rest p a n (then .kept) (omega (arith, then .falls (g .still))) in
     record { list = g .by ∷ later .list; rests = later .rests })
+
+pub rested : (p : Plan) → planAnswer (programs p) ≡ PlanAccepted → {r : System} {w : ChannelId → List Word} → Kept p r w → Rested r
+rested p a {r} k = comes-to-rest p a (weightOf (programs p) (k .histories) (reading r)) k (omega arith)

@@ -9,11 +9,13 @@ use Rattle.base.specs.Lists.{every}
 use Rattle.base.specs.Sets.{member}
 use Rattle.base.specs.Beginnings.{Beginning}
 use Rattle.plan.specs.declared.Plan.{Plan}
+use Rattle.plan.specs.declared.PlanAnswer.the-variants.{Accepted}
 use Rattle.plan.specs.declared.TaskId.{TaskId}
 use Rattle.plan.specs.declared.ChannelId.{ChannelId}
 use Rattle.plan.specs.Programs.{programs}
 use Rattle.plan.specs.Users.{senderOf, receiverOf, parentOf}
 use Rattle.plan.specs.Layout.{totalOf}
+use Rattle.plan.specs.Refusals.{planAnswer}
 use Rattle.rules.specs.declared.task.TaskState.the-variants.{Sending, Receiving, Moving}
 use Rattle.rules.specs.declared.message.Message.{Message}
 use Rattle.rules.specs.declared.message.Message.the-variants.{Empty, Offered, Advert, ReadyToReceive, Data, Terminated, Migration}
@@ -29,7 +31,7 @@ use Rattle.rules.specs.Starts.{started}
 use Rattle.rules.specs.Steps.{isRun, isDeliver, isMove, stepAnswer, step, quiescent, History, steps, receivedOn}
 
 -- "A call supposes its sender sending on that channel at the letter's desk; a word, its receiver there, receiving and having called; ended, a
--- parent there with that child living; a mover, a moving task."
+-- parent there with that child living; a mover, a moving task." An offer and an advert suppose nothing; an empty slot is no letter.
 unfoldable pub findsIts : System → Message → Bool
 findsIts r Empty = false
 findsIts r (Offered c o h) = true
@@ -49,7 +51,7 @@ findsIts r (Migration d t) = isIn Moving (taskAt r t)
 unfoldable pub wastes : System → Step → Bool
 wastes r s = isDeliver s && (isAccepted (stepAnswer r s) && not (findsIts r (letterAt (r .network) (s .number))))
 
--- no step of the list does; "the first gets the rig from the start .., each next the rig that the last left"
+-- no step of the list does; "each next" gets "the rig that the last left"
 unfoldable pub noneWasted : System → List Step → Bool
 noneWasted r [] = true
 noneWasted r (s ∷ ss) = not (wastes r s) && noneWasted (step r s .system) ss
@@ -76,7 +78,7 @@ notExecuted n p ss = totalOf (programs p) - acceptedOf isRun (started n p) ss
 abbrev pub underWay : ℕ → Plan → List Step → ℕ
 underWay n p ss = from n p ss .system .network .used
 
--- the one-desk rig of the plan comes to rest by the list ts
+-- the one-desk rig of the plan is at rest after the list ts
 abbrev pub Rests : Plan → List Step → Type 0
 Rests p ts = quiescent (from 1 p ts .system) ≡ true
 
@@ -84,18 +86,19 @@ pub record ComesToRest (p : Plan) : Type 0 where
   pub list : List Step
   pub rests : Rests p list
 
--- two rigs agree on task t
+-- two rigs agree on task t's state, place and word
 pub record SameTask (r q : System) (t : TaskId) : Type 0 where
   pub state : taskAt r t .state ≡ taskAt q t .state
   pub place : taskAt r t .pc ≡ taskAt q t .pc
   pub word : taskAt r t .word ≡ taskAt q t .word
 
--- what is claimed of plan p on n desks and the list ss, of any length and with any steps
+-- what is claimed of plan p on n desks and the list ss, of any length and with any steps, "malformed ones too"
 pub record Demand3 (n : ℕ) (p : Plan) (ss : List Step) : Type 0 where
   -- (a) no step is answered 9, and no letter is removed without effect
   pub no-nine : every (λ q. not (answeredNine q)) (from n p ss .reports) ≡ true
   pub none-wasted : noneWasted (started n p) ss ≡ true
-  -- (b) each channel's received words are a beginning of those of the one-desk rig after any list that brings it to rest; there is such a list
+  -- (b) each channel's received words, "just as the steps' trace lines report", are a beginning of those of the one-desk rig of the same plan
+  -- after any list that brings it to rest; and there is such a list
   pub beginning : (ts : List Step) → Rests p ts → (c : ChannelId)
       → Beginning (receivedOn c (from n p ss .reports)) (receivedOn c (from 1 p ts .reports))
   pub one-desk : ComesToRest p
@@ -104,12 +107,17 @@ pub record Demand3 (n : ℕ) (p : Plan) (ss : List Step) : Type 0 where
       → receivedOn c (from n p ss .reports) ≡ receivedOn c (from 1 p ts .reports)
   pub same-tasks : quiescent (from n p ss .system) ≡ true → (ts : List Step) → Rests p ts → (t : TaskId) → within 1 (p .tasks) (t .0) ≡ true
       → SameTask (from n p ss .system) (from 1 p ts .system) t
-  -- (d) from there on a list in which no move is accepted has at most 10 × (instructions not yet executed + letters under way) accepted steps
+  -- (d) from there on a list in which no move is accepted has at most 10 × (instructions not yet executed + letters under way) accepted steps;
+  -- the accepted runs are at most N, so that the difference cuts nothing off
   pub few-runs : acceptedOf isRun (started n p) ss ≤ totalOf (programs p)
   pub few-steps : (us : List Step) → acceptedOf isMove (from n p ss .system) us ≡ 0
       → acceptedOf anyStep (from n p ss .system) us ≤ 10 * (notExecuted n p ss + underWay n p ss)
-  -- (e) the rig is at rest exactly when no run and no delivery would be accepted
+  -- (e) the rig is at rest exactly when no run and no delivery would be accepted, for every task number and every position
   pub rest-refuses : quiescent (from n p ss .system) ≡ true → (s : Step) → (isRun s || isDeliver s) ≡ true
       → isAccepted (stepAnswer (from n p ss .system) s) ≡ false
   pub refuses-rest : ((s : Step) → (isRun s || isDeliver s) ≡ true → isAccepted (stepAnswer (from n p ss .system) s) ≡ false)
       → quiescent (from n p ss .system) ≡ true
+
+-- the claim: for every accepted plan, 1 to 6 desks and every list of steps
+abbrev pub Claim : Type 0
+Claim = (n : ℕ) (p : Plan) (ss : List Step) → 1 ≤ n → n ≤ 6 → planAnswer (programs p) ≡ Accepted → Demand3 n p ss

@@ -10,7 +10,6 @@ use Rattle.plan.specs.declared.TaskId.{TaskId}
 use Rattle.plan.specs.declared.Word.{Word}
 use Rattle.plan.specs.Numbers.{taskId}
 use Rattle.plan.specs.Programs.{programs, canonical}
-use Rattle.plan.specs.Layout.{totalOf}
 use Rattle.plan.specs.Refusals.{planAnswer}
 use Rattle.plan.specs.Words.{wordOf}
 use Rattle.rules.specs.declared.step.Step.{Step}
@@ -18,12 +17,12 @@ use Rattle.rules.specs.declared.task.TaskState.the-variants.{Done}
 use Rattle.rules.specs.declared.task.Task.{Task}
 use Rattle.rules.specs.Systems.{taskAt}
 use Rattle.rules.specs.Starts.{started}
-use Rattle.rules.specs.Steps.{isRun, isMove, History, ruledSteps, quiescent, receivedOn}
+use Rattle.rules.specs.Steps.{History, ruledSteps, quiescent, receivedOn}
 use Rattle.rules.proofs.Evaluated.{evaluated}
 use Rattle.rules_laws.proofs.Shapes.{started-shaped}
 use Rattle.rules_sound.proofs.Kept.{ruled-steps}
 use Rattle.rules_sound.proofs.Starts.{started-ok}
-use Rattle.claim.specs.Statement.{acceptedOf, anyStep, from, Rests, Demand3}
+use Rattle.claim.specs.Statement.{from, Rests, Demand3}
 use Rattle.claim_example.specs.Example.{examplePlan, exampleBefore, exampleAll, exampleChannel}
 use Rattle.claim.proofs.Demand3.{demand-3}
 
@@ -87,22 +86,3 @@ receiver-done ts at-rest =
     let same = three-desks exampleAll .same-tasks rests ts at-rest receiver refl in
     let here : DoneAt 5 (wordOf 5178) (taskAt (from 3 examplePlan exampleAll .system) receiver) = rw (run-as-ruled exampleAll) ruled-receiver in
     record { state = sym (same .state) ∙ here .state; at = sym (same .place) ∙ here .at; with = sym (same .word) ∙ here .with }
-
--- (d): all 18 instructions are executed and nothing is under way, so that no list without an accepted move has an accepted step
-all-run : acceptedOf isRun (started 3 examplePlan) exampleAll ≡ 18
-unfolding evaluated acceptedOf
-all-run = refl
-
-of-all : totalOf (programs examplePlan) ≡ 18
-unfolding evaluated
-of-all = refl
-
-ruled-empty : ruledSteps (started 3 examplePlan) exampleAll .system .network .used ≡ 0
-unfolding evaluated
-ruled-empty = refl
-
-pub nothing-left : (us : List Step) → acceptedOf isMove (from 3 examplePlan exampleAll .system) us ≡ 0
-    → acceptedOf anyStep (from 3 examplePlan exampleAll .system) us ≡ 0
-nothing-left us none =
-    let empty = ap (λ (h : History). h .system .network .used) (run-as-ruled exampleAll) ∙ ruled-empty in
-    omega (arith, three-desks exampleAll .few-steps us none, all-run, of-all, empty)
