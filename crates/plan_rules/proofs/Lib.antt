@@ -2,5 +2,5 @@
 mod ByKind
 mod Scanning
 mod Using
-mod Meaning
+pub mod Meaning
 mod Tasks

@@ -1,7 +1,7 @@
 // Whether a plan value is refused, 2 to 6.
 mod scan;
 mod sizes;
-mod users;
+pub mod users;
 
 ghost use mathlib.Core.Path.{_≡_};
 ghost use Rattle.plan.specs.Programs.{programs};

@@ -94,7 +94,7 @@ fn argument(kind: u8, opcode: u8, operand: u16) -> usize
 }
 
 // For each argument up to 128, the instructions of a kind with that argument.
-fn uses<'a>(
+pub fn uses<'a>(
     kind: u8,
     tasks: u8,
     lengths: &'a [u8; 64],

@@ -45,7 +45,7 @@ withTask r t x = pick (eqb (t .0) 0) r (withTasks r (set (r .tasks) (t .0 - 1) x
 abbrev pub entryIndex : ProcessorId → ChannelId → ℕ
 entryIndex d c = 128 * (d .0 - 1) + (c .0 - 1)
 
-abbrev readEntry : Tables → ℕ → Entry
+abbrev pub readEntry : Tables → ℕ → Entry
 readEntry x i =
     record {
       hint = hint (processorId (getD (x .hintprocessors) i 0)) (getD (x .hintmoves) i 0);
@@ -53,7 +53,7 @@ readEntry x i =
       noted = processorId (getD (x .notes) i 0);
     }
 
-abbrev writeEntry : Tables → ℕ → Entry → Tables
+abbrev pub writeEntry : Tables → ℕ → Entry → Tables
 writeEntry x i e =
     record {
       hintprocessors = set (x .hintprocessors) i (e .hint .processor .0);
@@ -67,7 +67,7 @@ writeEntry x i e =
 unfoldable pub entryAt : System → ProcessorId → ChannelId → Entry
 entryAt r d c = readEntry (r .tables) (entryIndex d c)
 
-abbrev readChannel : Channels → ℕ → Channel
+abbrev pub readChannel : Channels → ℕ → Channel
 readChannel x i =
     record {
       granted = getD (x .granted) i 0;
@@ -76,7 +76,7 @@ readChannel x i =
       travelling = hint (processorId (getD (x .travellingprocessors) i 0)) (getD (x .travellingmoves) i 0);
     }
 
-abbrev writeChannel : Channels → ℕ → Channel → Channels
+abbrev pub writeChannel : Channels → ℕ → Channel → Channels
 writeChannel x i k =
     record {
       granted = set (x .granted) i (k .granted);

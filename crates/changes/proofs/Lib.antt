@@ -1,0 +1,2 @@
+-- Laws of what an instruction changes.
+pub mod ByKind

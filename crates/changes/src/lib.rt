@@ -1,0 +1,3 @@
+// What an instruction and a letter change at their site.
+pub mod letter;
+pub mod run;

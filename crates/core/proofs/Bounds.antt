@@ -1,0 +1,22 @@
+-- The letters of the parts of a rig that 9 does not refuse are letters that it does not refuse.
+use mathlib.Core.Path.{_≡_}
+use mathlib.Core.Bool.{true}
+use mathlib.Core.List.{List}
+use Prim.Native.Nat.{ℕ, _≤_}
+use Rattle.rules.specs.declared.task.Task.{Task}
+use Rattle.rules.specs.declared.message.Network.{Network}
+use Rattle.rules.specs.Networks.{letterAt}
+use Rattle.rules.specs.Sound.{messageOk}
+use Rattle.rules_sound.proofs.Mail.{letter-fine}
+use Rattle.rules_sound.proofs.Sound.{sound}
+use Rattle.tables.specs.declared.store.Store.{Store}
+use Rattle.judge.specs.Facts.{Facts}
+use Rattle.core.specs.Turns.{Rig}
+
+-- the letter at position q
+pub letter-ok : {f : Facts} {n : ℕ} {ts : List Task} {k : Network} {s : Store} (g : Rig f n ts k s) (q : ℕ) → 1 ≤ q → q ≤ k .used
+    → messageOk n (f .tasks) (letterAt k q) ≡ true
+letter-ok g q some there =
+    let r = g .system in
+    rw (g .facts-of, g .processors, g .network)
+    (letter-fine (r .processors) (r .plan) (r .network) (g .shaped .slots) (sound r (g .shaped) (g .sound) .mail) q some (rw (g .network) at there))

@@ -1,0 +1,85 @@
+-- One step carried out on the parts of a rig that 9 does not refuse.
+use mathlib.Core.Path.{_≡_}
+use mathlib.Core.Bool.{true}
+use mathlib.Core.List.{List}
+use Prim.Native.Nat.{ℕ}
+use lib.Dec.{eqb}
+use Rattle.base.specs.Choice.{pick, unless, within}
+use Rattle.rules.specs.declared.task.Task.{Task}
+use Rattle.rules.specs.declared.message.Network.{Network}
+use Rattle.rules.specs.declared.rule.Received.the-variants.{Nothing}
+use Rattle.rules.specs.declared.step.Step.{Step}
+use Rattle.rules.specs.declared.step.StepAnswer.{StepAnswer}
+use Rattle.rules.specs.declared.step.StepAnswer.the-variants.{Accepted, NoMessage, BadStep}
+use Rattle.rules.specs.declared.step.Report.{Report}
+use Rattle.rules.specs.declared.step.Stepped.{Stepped}
+use Rattle.rules.specs.declared.system.System.{System}
+use Rattle.rules.specs.Numbers.{taskId, processorId}
+use Rattle.rules.specs.Networks.{letterAt, enqueuedAll, dequeued, lettersOf}
+use Rattle.rules.specs.Sound.{systemOk}
+use Rattle.rules.specs.Steps.{isRun, isDeliver, isMove}
+use Rattle.rules_laws.specs.Shapes.{Shaped}
+use Rattle.tables.specs.declared.store.Store.{Store}
+use Rattle.tables.specs.Store.{storeIn, swept}
+use Rattle.core.specs.declared.carry.Turn.{Turn}
+use Rattle.judge.specs.declared.change.Change.{Change}
+use Rattle.judge.specs.declared.change.Verdict.{Verdict}
+use Rattle.judge.specs.declared.change.Verdict.the-variants.{Refused, Accepted as Allowed}
+use Rattle.judge.specs.Facts.{Facts, factsOf}
+use Rattle.judge.specs.Fetches.{taskStored, cellPut}
+use Rattle.judge.specs.RunVerdicts.{judgedRun}
+use Rattle.judge.specs.MoveVerdicts.{judgedMove}
+use Rattle.judge.specs.Openings.{openedIn}
+
+-- what a step leaves: its report, and the parts then
+abbrev pub turned : Report → List Task → Network → Store → Turn
+turned q ts k s = record { report = q; tasks = ts; network = k; store = s }
+
+abbrev pub reportOf : StepAnswer → Report
+reportOf a = record { answer = a; received = Nothing }
+
+-- a refused step leaves the parts as they were
+abbrev pub refusedTurn : StepAnswer → List Task → Network → Store → Turn
+refusedTurn a ts k s = turned (reportOf a) ts k s
+
+-- a change carried out, and its letters posted, on n desks
+unfoldable pub carriedOut : List ℕ → List ℕ → ℕ → Change → List Task → Network → Store → Turn
+carriedOut senders receivers n x ts k s =
+    let a = x .scope in
+    let o = x .outcome in
+    turned (record { answer = Accepted; received = o .received })
+    (taskStored (taskStored ts (a .sender) (o .sender)) (a .receiver) (o .receiver))
+    (enqueuedAll k (lettersOf n (o .posting)))
+    (swept senders receivers (x .sweep) (cellPut a (o .cell) s))
+
+abbrev pub settled : List ℕ → List ℕ → ℕ → Verdict → List Task → Network → Store → Turn
+settled senders receivers n (Refused a) ts k s = refusedTurn a ts k s
+settled senders receivers n (Allowed x) ts k s = carriedOut senders receivers n x ts k s
+
+unfoldable pub deliveredTurn : Facts → ℕ → List Task → Network → Store → ℕ → Turn
+deliveredTurn f n ts k s p =
+    unless (within 1 (k .used) p) (refusedTurn NoMessage ts k s)
+    (carriedOut (f .senders) (f .receivers) n (openedIn f ts s (letterAt k p)) ts (dequeued k p) s)
+
+-- one step
+unfoldable pub turnOf : Facts → ℕ → List Task → Network → Store → Step → Turn
+turnOf f n ts k s x =
+    pick (isRun x) (unless (eqb (x .number) 0) (refusedTurn BadStep ts k s) (settled (f .senders) (f .receivers) n (judgedRun f n ts s (k .used) (taskId (x .task))) ts k s))
+    (pick (isDeliver x) (unless (eqb (x .task) 0) (refusedTurn BadStep ts k s) (deliveredTurn f n ts k s (x .number)))
+    (pick (isMove x) (settled (f .senders) (f .receivers) n (judgedMove (f .tasks) n ts (k .used) (taskId (x .task)) (processorId (x .number))) ts k s)
+    (refusedTurn BadStep ts k s)))
+
+-- the parts of what a step of the rig gives
+abbrev pub partsOf : Stepped → Turn
+partsOf o = turned (o .report) (o .system .tasks) (o .system .network) (storeIn (o .system))
+
+-- these are the parts of a rig that 9 does not refuse
+pub record Rig (f : Facts) (n : ℕ) (ts : List Task) (k : Network) (s : Store) : Type 0 where
+  pub system : System
+  pub shaped : Shaped system
+  pub sound : systemOk system ≡ true
+  pub facts-of : f ≡ factsOf (system .plan)
+  pub processors : n ≡ system .processors
+  pub tasks : ts ≡ system .tasks
+  pub network : k ≡ system .network
+  pub store : s ≡ storeIn system

@@ -1,0 +1,42 @@
+// What is derived once a run from an accepted plan: which task sends and which receives on each
+// channel, each task's parent, and the number of each send.
+mod firsts;
+mod numbers;
+
+ghost use mathlib.Core.Path.{_≡_};
+ghost use Rattle.plan.specs.declared.PlanAnswer.the-variants.{Accepted};
+ghost use Rattle.plan.specs.Programs.{programs};
+ghost use Rattle.plan.specs.Refusals.{planAnswer};
+ghost use Rattle.ends.specs.Derived.{endsOf};
+use plan::CREATE;
+use plan::Plan;
+use plan::RECEIVE;
+use plan::SEND;
+
+pub struct Ends {
+    // the task that sends on channel c, and the one that receives on it, at c; 0 for none
+    pub senders: [u8; 129],
+    pub receivers: [u8; 129],
+    // the parent of task u, at u; 0 for none
+    pub parents: [u8; 129],
+    // the number of the send in slot s of the plan, at s; 0 where the slot has no send
+    pub numbers: [u8; 4096],
+}
+
+// The ends of an accepted plan.
+pub fn derive(p: Plan) -> Ends
+    requires { ⌜ planAnswer (programs p) ≡ Accepted ⌝ }
+    ensures { λ r. ⌜ r ≡ endsOf p ⌝ }
+{
+    let tasks = p.tasks;
+    let senders = firsts::first_users(SEND, tasks, &p.lengths, &p.opcodes, &p.operands);
+    let receivers = firsts::first_users(RECEIVE, tasks, &p.lengths, &p.opcodes, &p.operands);
+    let parents = firsts::first_users(CREATE, tasks, &p.lengths, &p.opcodes, &p.operands);
+    let numbers = numbers::send_numbers(tasks, &p.lengths, &p.opcodes, &p.operands);
+    Ends {
+        senders: senders,
+        receivers: receivers,
+        parents: parents,
+        numbers: numbers,
+    }
+}

@@ -1,0 +1,2 @@
+-- What the tests of a send and of a receive are.
+pub mod Tests

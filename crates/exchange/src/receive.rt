@@ -1,0 +1,117 @@
+// Run: "Receive on c."
+ghost use mathlib.Core.Path.{_≡_};
+ghost use Prim.Native.Nat.{_<_};
+ghost use Rattle.exchange.specs.Tests.{sendsHere, advertStands};
+ghost use Rattle.rules.specs.Cells.{granting};
+ghost use Rattle.rules.specs.Receive.{callTo, receivePasses, receiveWaits, receiveRule};
+use plan::ChannelId;
+use plan::ProcessorId;
+use rules::channel::Cell;
+use rules::channel::Hint;
+use rules::message::Message;
+use rules::rule::Outcome;
+use rules::rule::Posting;
+use rules::rule::Received;
+use rules::rule::Site;
+use rules::task::Task;
+use rules::task::TaskState;
+
+// "a call letter with (d, move count) goes to the offering desk": from the receiver x.
+pub fn call_to(from: ProcessorId, c: ChannelId, x: Task) -> Posting
+    ensures { λ r. ⌜ r ≡ callTo from c x ⌝ }
+{
+    let d = x.processor;
+    let h = Hint {
+        processor: d,
+        moves: x.moves,
+    };
+    Posting::Letter(Message::ReadyToReceive(c, from, h))
+}
+
+// "the word passes directly, called becomes that send's number, a carried offer for c is dropped, the sender is ready"
+fn receive_passes(x: Site, c: ChannelId, w: u8) -> Outcome
+    requires { ⌜ x .receiver .pc < 255 ⌝ }
+    ensures { λ r. ⌜ r ≡ receivePasses x c w ⌝ }
+{
+    let sender = x.sender;
+    let word = sender.word;
+    let received = tasks::change::advanced(x.receiver);
+    let ready = tasks::change::taking(received, word);
+    let resumed = tasks::change::readied(sender);
+    let passed = cells::change::passing(x.cell, w);
+    let none = cells::order::no_offer();
+    let dropped = cells::fields::with_carried(passed, none);
+    Outcome {
+        sender: resumed,
+        receiver: ready,
+        cell: dropped,
+        posting: Posting::Nothing,
+        received: Received::Word(c, word),
+    }
+}
+
+// "Else it is receiving": the cell then, and what is posted.
+fn receive_waits(x: Site, cell: Cell, posting: Posting) -> Outcome
+    requires { ⌜ x .receiver .pc < 255 ⌝ }
+    ensures { λ r. ⌜ r ≡ receiveWaits x cell posting ⌝ }
+{
+    let sender = x.sender;
+    let received = tasks::change::advanced(x.receiver);
+    let receiving = received.with_state(TaskState::Receiving);
+    Outcome {
+        sender: sender,
+        receiver: receiving,
+        cell: cell,
+        posting: posting,
+        received: Received::Nothing,
+    }
+}
+
+// "is answered: it is removed, called goes up by one and a call letter .. goes to the offering desk": the cell is the one without it.
+fn receive_answers(x: Site, cell: Cell, from: ProcessorId, c: ChannelId) -> Outcome
+    requires { ⌜ (x .receiver .pc < 255) × (cell .channel .granted < 255) ⌝ }
+    ensures { λ r. ⌜ r ≡ receiveWaits x (granting cell) (callTo from c (x .receiver)) ⌝ }
+{
+    let call = call_to(from, c, x.receiver);
+    let granted = cells::change::granting(cell);
+    receive_waits(x, granted, call)
+}
+
+// "its sender is sending on c at d"
+fn sends_here(x: Site) -> bool
+    ensures { λ r. ⌜ r ≡ sendsHere x ⌝ }
+{
+    let here = tasks::state::is_at(x.sender, x.receiver.processor);
+    base::both(x.sending, here)
+}
+
+// "called is 0", and there is "an advert noted at d"
+fn advert_stands(x: Site) -> bool
+    ensures { λ r. ⌜ r ≡ advertStands x ⌝ }
+{
+    let noted = !tasks::state::is_none(x.cell.entry.noted);
+    let first = cells::test::none_called(x.cell);
+    base::both(first, noted)
+}
+
+// A receive on c by a receiver at d; w is the number of the sender's last executed send on c.
+pub fn receive_rule(x: Site, c: ChannelId, w: u8) -> Outcome
+    requires { ⌜ (x .receiver .pc < 255) × (x .cell .channel .granted < 255) ⌝ }
+    ensures { λ r. ⌜ r ≡ receiveRule x c w ⌝ }
+{
+    let o = x.cell.channel.carried;
+    let a = x.cell.entry.noted;
+    if sends_here(x) {
+        return receive_passes(x, c, w);
+    }
+    if cells::test::counts(x.cell, o) {
+        let none = cells::order::no_offer();
+        let removed = cells::fields::with_carried(x.cell, none);
+        return receive_answers(x, removed, o.processor, c);
+    }
+    if advert_stands(x) {
+        let removed = cells::fields::with_noted(x.cell, ProcessorId(0));
+        return receive_answers(x, removed, a, c);
+    }
+    receive_waits(x, x.cell, Posting::Nothing)
+}

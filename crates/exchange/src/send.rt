@@ -1,0 +1,87 @@
+// Run: "Send on c, the sender's w-th on that channel by its instructions, from 1."
+ghost use mathlib.Core.Path.{_≡_};
+ghost use Prim.Native.Nat.{_<_};
+ghost use Rattle.exchange.specs.Tests.{receivesHere};
+ghost use Rattle.rules.specs.Send.{sendPasses, sendWaits, sendRule};
+use plan::ChannelId;
+use rules::channel::Cell;
+use rules::channel::Offer;
+use rules::message::Message;
+use rules::rule::Outcome;
+use rules::rule::Posting;
+use rules::rule::Received;
+use rules::rule::Site;
+use rules::task::TaskState;
+
+// "the word passes directly, called becomes w, the receiver is ready"
+fn send_passes(x: Site, c: ChannelId, w: u8) -> Outcome
+    requires { ⌜ x .sender .pc < 255 ⌝ }
+    ensures { λ r. ⌜ r ≡ sendPasses x c w ⌝ }
+{
+    let receiver = x.receiver;
+    let word = x.sender.word;
+    let sent = tasks::change::advanced(x.sender);
+    let ready = tasks::change::taking(receiver, word);
+    let passed = cells::change::passing(x.cell, w);
+    Outcome {
+        sender: sent,
+        receiver: ready,
+        cell: passed,
+        posting: Posting::Nothing,
+        received: Received::Word(c, word),
+    }
+}
+
+// "Else the sender is sending": the cell then, and what is posted.
+fn send_waits(x: Site, cell: Cell, posting: Posting) -> Outcome
+    requires { ⌜ x .sender .pc < 255 ⌝ }
+    ensures { λ r. ⌜ r ≡ sendWaits x cell posting ⌝ }
+{
+    let receiver = x.receiver;
+    let sent = tasks::change::advanced(x.sender);
+    let sending = sent.with_state(TaskState::Sending);
+    Outcome {
+        sender: sending,
+        receiver: receiver,
+        cell: cell,
+        posting: posting,
+        received: Received::Nothing,
+    }
+}
+
+// "the receiver is at d, receiving on c and has not called"
+fn receives_here(x: Site) -> bool
+    ensures { λ r. ⌜ r ≡ receivesHere x ⌝ }
+{
+    let uncalled = base::both(x.receiving, !x.cell.channel.awaiting);
+    let here = tasks::state::is_at(x.receiver, x.sender.processor);
+    base::both(here, uncalled)
+}
+
+// A send on c by a sender at d: the word passes, or the offer is carried, advertised, held or sent in a letter.
+pub fn send_rule(x: Site, c: ChannelId, w: u8) -> Outcome
+    requires { ⌜ x .sender .pc < 255 ⌝ }
+    ensures { λ r. ⌜ r ≡ sendRule x c w ⌝ }
+{
+    let d = x.sender.processor;
+    let h = x.cell.entry.hint;
+    let o = Offer {
+        processor: d,
+        number: w,
+    };
+    if receives_here(x) {
+        return send_passes(x, c, w);
+    }
+    if tasks::state::is_at(x.receiver, d) {
+        let carried = cells::change::carrying(x.cell, o);
+        return send_waits(x, carried, Posting::Nothing);
+    }
+    if tasks::state::is_none(h.processor) {
+        return send_waits(x, x.cell, Posting::Adverts(c, d));
+    }
+    if tasks::state::same_processor(h.processor, d) {
+        let held = cells::change::holding(x.cell, o);
+        return send_waits(x, held, Posting::Nothing);
+    }
+    send_waits(x, x.cell, Posting::Letter(Message::Offered(c, o, h)))
+}

@@ -1,0 +1,21 @@
+-- What is computed on the parts of a rig is what the rules say of the rig.
+pub mod Sweeps
+pub mod Fetching
+pub mod Names
+pub mod Effects
+pub mod SendNumbers
+pub mod LocalRuns
+pub mod ChannelRuns
+pub mod Answers
+pub mod Runs
+pub mod Moves
+pub mod Openings
+pub mod Deliveries
+pub mod AtRest
+pub mod BoundsParts
+pub mod BoundsScope
+pub mod BoundsReady
+pub mod BoundsRun
+pub mod BoundsVerdicts
+pub mod BoundsLetter
+pub mod BoundsOpening

@@ -1,0 +1,109 @@
+-- The verdict on a run.
+use mathlib.Core.Path.{_≡_}
+use mathlib.Core.Bool.{Bool, true, not, _&&_}
+use mathlib.Core.List.{List}
+use Prim.Native.Nat.{ℕ, _+_, _-_, _<_, _≤_}
+use lib.Dec.{eqb, leb}
+use lib.ListN.{getD, length}
+use Rattle.base.specs.Choice.{pick, unless, within}
+use Rattle.plan.specs.declared.TaskId.{TaskId}
+use Rattle.plan.specs.declared.Instruction.{Instruction}
+use Rattle.plan.specs.Kinds.{opCreate, opSync, opFinish, opSend, opReceive, opSet, isFinish}
+use Rattle.rules.specs.declared.task.Task.{Task}
+use Rattle.rules.specs.declared.task.TaskState.the-variants.{Ready}
+use Rattle.rules.specs.declared.rule.Site.{Site}
+use Rattle.rules.specs.declared.rule.Outcome.{Outcome}
+use Rattle.rules.specs.declared.rule.Posting.{Posting}
+use Rattle.rules.specs.declared.rule.Posting.the-variants.{Nothing as NoPosting}
+use Rattle.rules.specs.declared.rule.Received.the-variants.{Nothing as NoWord}
+use Rattle.rules.specs.declared.step.StepAnswer.the-variants.{NoTask, NotReady, FinishWithChildren, NetworkFull}
+use Rattle.rules.specs.Numbers.{taskId, channelId, taskNumberOk, mailSize}
+use Rattle.rules.specs.Tasks.{isIn, isChildless, born}
+use Rattle.rules.specs.Networks.{lettersOf}
+use Rattle.rules.specs.Local.{createRule, syncRule, finishRule, setRule, addRule}
+use Rattle.rules.specs.Send.{sendRule}
+use Rattle.rules.specs.Receive.{receiveRule}
+use Rattle.tables.specs.declared.sweep.Sweep.{Sweep}
+use Rattle.tables.specs.declared.sweep.Sweep.the-variants.{Nothing, Birth}
+use Rattle.tables.specs.declared.store.Store.{Store}
+use Rattle.judge.specs.declared.change.Scope.{Scope}
+use Rattle.judge.specs.declared.change.Change.{Change}
+use Rattle.judge.specs.declared.change.Verdict.{Verdict}
+use Rattle.judge.specs.declared.change.Verdict.the-variants.{Refused, Accepted}
+use Rattle.judge.specs.Facts.{Facts}
+use Rattle.judge.specs.Fetches.{taskIn, instructionIn, slotAt, lastOf, siteIn}
+use Rattle.judge.specs.Scopes.{runScope, argumentOk}
+
+abbrev pub change : Scope → Outcome → Sweep → Change
+change k o s = record { scope = k; outcome = o; sweep = s }
+
+-- two tasks are changed, and this is posted
+abbrev pub tasksOnly : Site → Task → Task → Posting → Outcome
+tasksOnly x s u p = record { sender = s; receiver = u; cell = x .cell; posting = p; received = NoWord }
+
+-- a create: the creating task and the child
+abbrev pub createChange : Scope → Site → Instruction → Change
+createChange k x i =
+    change k (tasksOnly x (createRule (x .sender) (taskId (i .operand))) (born (x .sender .processor)) NoPosting)
+    (Birth (taskId (i .operand)) (x .sender .processor))
+
+-- a finish of task t: its parent, and the task
+abbrev pub finishChange : Scope → Site → TaskId → Change
+finishChange k x t =
+    let o = finishRule t (x .receiver) (x .sender) in
+    change k (tasksOnly x (o .parent) (o .task) (o .posting)) Nothing
+
+-- another instruction changes its task alone
+abbrev pub taskChange : Scope → Site → Task → Change
+taskChange k x y = change k (tasksOnly x y (x .receiver) NoPosting) Nothing
+
+-- what a run of task t supposes of a site: numbers that can go on
+pub record RunnableAt (t : TaskId) (i : Instruction) (x : Site) : Type 0 where
+  pub task : within 1 64 (t .0) ≡ true
+  pub argument : argumentOk i ≡ true
+  pub child : eqb (i .opcode) opCreate ≡ true → i .operand ≤ 64
+  pub sender-place : x .sender .pc < 255
+  pub receiver-place : x .receiver .pc < 255
+  pub called : x .cell .channel .granted < 255
+
+-- a send is of the task at the site, which has a place
+abbrev pub sendsFrom : Instruction → Site → Bool
+sendsFrom i x = pick (eqb (i .opcode) opSend) (within 1 64 (x .sender .pc)) true
+
+-- instruction i of task t at a site; w is the number of the send
+unfoldable pub runChange : Scope → TaskId → Instruction → ℕ → Site → Change
+runChange k t i w x =
+    pick (eqb (i .opcode) opCreate) (createChange k x i)
+    (pick (eqb (i .opcode) opSync) (taskChange k x (syncRule (x .sender)))
+    (pick (eqb (i .opcode) opFinish) (finishChange k x t)
+    (pick (eqb (i .opcode) opSend) (change k (sendRule x (channelId (i .operand)) w) Nothing)
+    (pick (eqb (i .opcode) opReceive) (change k (receiveRule x (channelId (i .operand)) w) Nothing)
+    (pick (eqb (i .opcode) opSet) (taskChange k x (setRule (x .sender) i))
+    (taskChange k x (addRule (x .sender) i)))))))
+
+-- the number of the send that instruction i of task t is, or of the last one that the channel's sender executed
+unfoldable pub sendIn : List ℕ → TaskId → Instruction → Scope → Site → ℕ
+sendIn numbers t i k x =
+    pick (eqb (i .opcode) opReceive) (lastOf numbers (k .sender) (x .sender .pc))
+    (pick (eqb (i .opcode) opSend) (getD numbers (slotAt t (x .sender .pc - 1)) 0)
+    0)
+
+-- "13, the letters needed don't fit in the mail"
+abbrev pub fittingIn : ℕ → ℕ → Change → Verdict
+fittingIn n used k = unless (leb (used + length (lettersOf n (k .outcome .posting))) mailSize) (Refused NetworkFull) (Accepted k)
+
+-- what instruction i of task t would do
+unfoldable pub ranIn : Facts → List Task → Store → TaskId → Instruction → Change
+ranIn f ts s t i =
+    let k = runScope (f .senders) (f .receivers) (f .parents) t (taskIn ts t .processor) i in
+    let x = siteIn (f .operands) ts s k in
+    runChange k t i (sendIn (f .numbers) t i k x) x
+
+unfoldable pub judgedRun : Facts → ℕ → List Task → Store → ℕ → TaskId → Verdict
+judgedRun f n ts s used t =
+    let x = taskIn ts t in
+    let i = instructionIn (f .opcodes) (f .operands) t (x .pc) in
+    unless (taskNumberOk (f .tasks) t) (Refused NoTask)
+    (unless (isIn Ready x) (Refused NotReady)
+    (unless (not (isFinish i && not (isChildless x))) (Refused FinishWithChildren)
+    (fittingIn n used (ranIn f ts s t i))))

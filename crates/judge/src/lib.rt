@@ -1,0 +1,2 @@
+// What a step changes, and the verdict on a step.
+pub mod change;

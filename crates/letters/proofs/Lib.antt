@@ -1,0 +1,4 @@
+-- The laws of this crate's definitions.
+pub mod Others
+pub mod Cases
+pub mod Opened

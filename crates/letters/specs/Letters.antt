@@ -1,0 +1,98 @@
+-- What each letter does, by cases on the letter; one that it isn't about changes nothing.
+use Prim.Native.Nat.{ℕ}
+use Rattle.base.specs.Choice.{pick}
+use Rattle.rules.specs.declared.task.Task.{Task}
+use Rattle.rules.specs.declared.task.TaskState.the-variants.{Moving}
+use Rattle.rules.specs.declared.message.Message.{Message}
+use Rattle.rules.specs.declared.message.Message.the-variants.{Empty, Offered, Advert, ReadyToReceive, Data, Terminated, Migration}
+use Rattle.rules.specs.declared.rule.Site.{Site}
+use Rattle.rules.specs.declared.rule.Posting.the-variants.{Nothing}
+use Rattle.rules.specs.declared.rule.Outcome.{Outcome}
+use Rattle.rules.specs.Tasks.{isIn, arrived}
+use Rattle.rules.specs.Offers.{kept, offerRule, advertRule}
+use Rattle.rules.specs.Calls.{callRule, dataRule}
+use Rattle.rules.specs.Arrivals.{terminatedRule}
+
+-- "the letter is removed without effect": at the site x
+abbrev pub untouched : Site → Outcome
+untouched x = kept x (x .cell) Nothing
+
+-- "Offer at d: .."
+abbrev pub onOffer : Site → Message → Outcome
+onOffer x Empty = untouched x
+onOffer x (Offered c o h) = offerRule x c o h
+onOffer x (Advert c d from) = untouched x
+onOffer x (ReadyToReceive c d h) = untouched x
+onOffer x (Data c d w) = untouched x
+onOffer x (Terminated d t) = untouched x
+onOffer x (Migration d t) = untouched x
+
+-- "Advert: .."
+abbrev pub onAdvert : Site → Message → Outcome
+onAdvert x Empty = untouched x
+onAdvert x (Offered c o h) = untouched x
+onAdvert x (Advert c d from) = advertRule x c d from
+onAdvert x (ReadyToReceive c d h) = untouched x
+onAdvert x (Data c d w) = untouched x
+onAdvert x (Terminated d t) = untouched x
+onAdvert x (Migration d t) = untouched x
+
+-- "Call: .."
+abbrev pub onCall : Site → Message → Outcome
+onCall x Empty = untouched x
+onCall x (Offered c o h) = untouched x
+onCall x (Advert c d from) = untouched x
+onCall x (ReadyToReceive c d h) = callRule x c d h
+onCall x (Data c d w) = untouched x
+onCall x (Terminated d t) = untouched x
+onCall x (Migration d t) = untouched x
+
+-- "Word: .."
+abbrev pub onData : Site → Message → Outcome
+onData x Empty = untouched x
+onData x (Offered c o h) = untouched x
+onData x (Advert c d from) = untouched x
+onData x (ReadyToReceive c d h) = untouched x
+onData x (Data c d w) = dataRule x c d w
+onData x (Terminated d t) = untouched x
+onData x (Migration d t) = untouched x
+
+-- a letter about a channel, at its site
+abbrev pub onChannelLetter : Site → Message → Outcome
+onChannelLetter x Empty = untouched x
+onChannelLetter x (Offered c o h) = offerRule x c o h
+onChannelLetter x (Advert c d from) = advertRule x c d from
+onChannelLetter x (ReadyToReceive c d h) = callRule x c d h
+onChannelLetter x (Data c d w) = dataRule x c d w
+onChannelLetter x (Terminated d t) = untouched x
+onChannelLetter x (Migration d t) = untouched x
+
+-- "Ended: the child leaves the set.": the parent's record
+abbrev pub onTerminated : Task → Message → Task
+onTerminated parent Empty = parent
+onTerminated parent (Offered c o h) = parent
+onTerminated parent (Advert c d from) = parent
+onTerminated parent (ReadyToReceive c d h) = parent
+onTerminated parent (Data c d w) = parent
+onTerminated parent (Terminated d t) = terminatedRule parent d t
+onTerminated parent (Migration d t) = parent
+
+-- the child's number that an ended letter names, 1 of another letter: what a task number's limits are asked of
+abbrev pub childOf : Message → ℕ
+childOf Empty = 1
+childOf (Offered c o h) = 1
+childOf (Advert c d from) = 1
+childOf (ReadyToReceive c d h) = 1
+childOf (Data c d w) = 1
+childOf (Terminated d t) = t .0
+childOf (Migration d t) = 1
+
+-- "Mover: the task is ready here": its record; "a mover, a moving task"
+abbrev pub onMigration : Task → Message → Task
+onMigration x Empty = x
+onMigration x (Offered c o h) = x
+onMigration x (Advert c d from) = x
+onMigration x (ReadyToReceive c d h) = x
+onMigration x (Data c d w) = x
+onMigration x (Terminated d t) = x
+onMigration x (Migration d t) = pick (isIn Moving x) (arrived x d) x

@@ -1,0 +1,20 @@
+-- `letters::word_ok` is the test of a word letter.
+use borrow.Author.Needs.{needs}
+use Rattle.limits.proofs.letters.word_ok.Statement.{statement}
+use Rattle.limits.proofs.letters.word_ok.Tie as tie
+
+channel-number-ok-requires : tie.Need-channel-number-ok-requires
+channel-number-ok-requires c κs = search needs
+
+processor-ok-requires : tie.Need-processor-ok-requires
+processor-ok-requires c κs = search needs
+
+both-requires : tie.Need-both-requires
+both-requires c κs = search needs
+
+returns : tie.Need-returns
+returns c = cc
+
+pub word-ok-spec : {M : Type 1} → statement M
+word-ok-spec =
+    tie.close (tie.spec channel-number-ok-requires processor-ok-requires both-requires returns)

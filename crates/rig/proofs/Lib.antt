@@ -1,0 +1,2 @@
+-- The laws of one step.
+pub mod Parts

@@ -1,0 +1,3 @@
+-- What a step looks at, and what it may touch.
+mod Finding
+mod Arguments

@@ -1,0 +1,3 @@
+// What a step may touch, and what it finds there.
+pub mod fetch;
+pub mod scope;

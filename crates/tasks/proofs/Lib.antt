@@ -1,0 +1,2 @@
+-- Laws that the code's proofs cite.
+mod Bits

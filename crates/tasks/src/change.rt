@@ -1,0 +1,31 @@
+// The small changes of a task: its place, its state, its word.
+ghost use mathlib.Core.Path.{_≡_};
+ghost use Prim.Native.Nat.{_<_};
+ghost use Rattle.rules.specs.Tasks.{advanced, readied, taking};
+use plan::Word;
+use rules::task::Task;
+use rules::task::TaskState;
+
+// "An accepted instruction is executed and the place goes on by one, even if the task then waits."
+pub fn advanced(mut x: Task) -> Task
+    requires { ⌜ x .pc < 255 ⌝ }
+    ensures { λ r. ⌜ r ≡ advanced x ⌝ }
+{
+    x.pc = x.pc + 1;
+    x
+}
+
+// The task is ready.
+pub fn readied(x: Task) -> Task
+    ensures { λ r. ⌜ r ≡ readied x ⌝ }
+{
+    x.with_state(TaskState::Ready)
+}
+
+// "the receiver takes it and is ready".
+pub fn taking(mut x: Task, w: Word) -> Task
+    ensures { λ r. ⌜ r ≡ taking x w ⌝ }
+{
+    x.word = w;
+    readied(x)
+}
