@@ -1,0 +1,143 @@
+-- `run_file` is the paper's run: 1 to 6 as at start, 8, and the trace as far as it fits.
+use mathlib.Core.Path.{_≡_, sym, _∙_, ap}
+use mathlib.Core.Bool.{true}
+use native.Mathlib.Omega.{arith}
+use borrow.Author.Needs.{needs}
+use borrow.Author.Tests.{not-true, not-false}
+use Rattle.base.specs.Choice.{within}
+use Rattle.base.proofs.Tests.{within-high}
+use Rattle.plan.specs.declared.PlanAnswer.the-variants.{Accepted}
+use Rattle.plan.specs.Programs.{programs, canonical}
+use Rattle.plan.specs.Refusals.{planAnswer}
+use Rattle.plan.specs.Files.{filePrograms, fileAnswer}
+use Rattle.rules.specs.StepFiles.{stepsOk}
+use Rattle.ends.specs.Derived.{endsOf}
+use Rattle.stepfile.proofs.Outcomes.{read-answer, read-plan-is, plan-ok, start-is, steps-few, start-shaped, start-sound, start-plan, desks-refused, file-refused, steps-refused, traced, traced-short}
+use Rattle.stepfile.proofs.run.run_file.Statement.{statement}
+use Rattle.stepfile.proofs.run.run_file.Tie as tie
+
+-- what has passed: the desks, the plan file, the step file
+desks : (c : tie.Else1) → within 1 6 (c .before .before .before .before .before .args .desks) ≡ true
+desks c = let i = c .before .is-within in sym (i .ensures) ∙ not-false (i .result) (c .if1 .left)
+
+file : (c : tie.After-enum-told) → fileAnswer (c .before .before .before .before .before .before .before .before .args .plan .now) ≡ Accepted
+file c = let k = c .before .before in sym (read-answer (k .before .before .before .before .before .before .args .plan .now) (k .read-plan .ensures)) ∙ c .enum-told .given .1
+
+steps : (c : tie.Else2) → stepsOk (c .before .before .before .before .before .before .before .before .before .before .args .steps .now) ≡ true
+steps c = let i = c .before .steps-ok in sym (i .ensures) ∙ not-false (i .result) (c .if2 .left)
+
+-- the plan
+plan-is : (c : tie.After-p) → c .before .before .before .before .before .read-plan .result .plan ≡ canonical (filePrograms (c .before .before .before .before .before .before .before .before .before .before .before .args .plan .now))
+plan-is c = let k = c .before .before .before .before .before in read-plan-is (k .before .before .before .before .before .before .args .plan .now) (k .read-plan .ensures) (file (c .before .before .before))
+
+plan-passes : (c : tie.After-p) → planAnswer (programs (c .before .before .before .before .before .read-plan .result .plan)) ≡ Accepted
+plan-passes c = rw (plan-is c) (plan-ok (c .before .before .before .before .before .before .before .before .before .before .before .args .plan .now) (file (c .before .before .before)))
+
+is-within-requires : tie.Need-is-within-requires
+is-within-requires c κs = search needs
+
+refused-requires : tie.Need-refused-requires
+refused-requires c κs = search needs
+
+returns : tie.Need-returns
+returns c =
+    let i = c .before .before .is-within in
+    rw (c .refused .ensures) (desks-refused _ _ _ _ (sym (i .ensures) ∙ not-true (i .result) (c .before .if1 .taken)))
+
+read-plan-requires : tie.Need-read-plan-requires
+read-plan-requires c κs = search needs
+
+enum-known-answer : tie.Need-enum-known-answer
+enum-known-answer c = search needs
+
+refused-requires-2 : tie.Need-refused-requires-2
+refused-requires-2 c κs = search needs
+
+enum-told : tie.Need-enum-told
+enum-told c = search needs
+
+steps-ok-requires : tie.Need-steps-ok-requires
+steps-ok-requires c κs = search needs
+
+refused-requires-3 : tie.Need-refused-requires-3
+refused-requires-3 c κs = search needs
+
+returns-2 : tie.Need-returns-2
+returns-2 c =
+    let i = c .before .before .steps-ok in
+    rw (c .refused3 .ensures)
+    (steps-refused _ _ _ _ (desks (c .before .before .before .before .before .before)) (file (c .before .before .before)) (sym (i .ensures) ∙ not-true (i .result) (c .before .if2 .taken)))
+
+derive-requires : tie.Need-derive-requires
+derive-requires c κs = plan-passes c
+
+cast-start : tie.Need-cast-start
+cast-start c = let e = c .before .before .before .before .before .before .before in omega (arith, within-high 1 6 (e .before .before .before .before .before .args .desks) (desks e))
+
+start-requires : tie.Need-start-requires
+start-requires c κs = c .derive .ensures
+
+drive-requires : tie.Need-drive-requires
+drive-requires c κs =
+    let p = c .before .before .before in
+    let n = desks (p .before .before .before .before .before .before) in
+    let x = p .before .before .before .before .before .read-plan .result .plan in
+    let a = plan-passes p in
+    let r = c .before .start .ensures in (
+      start-shaped _ n x a r,
+      start-sound _ n x a r,
+      c .before .before .derive .ensures ∙ ap endsOf (sym (start-plan _ n x a r)),
+      steps-few _ (steps (p .before)),
+    )
+
+same-length : tie.Need-same-length
+same-length c = c .before .before .before .drive .kept .1 .1 .1 .0
+
+returns-3 : tie.Need-returns-3
+returns-3 c =
+    let d = c .before .before .before in
+    let p = d .before .before .before .before in
+    let x = p .before .before .before .before .before .read-plan .result .plan in
+    traced _ _ _ _ (desks (p .before .before .before .before .before .before)) (file (p .before .before .before)) (steps (p .before))
+    (start-is _ _ x (plan-is p) (d .before .before .start .ensures)) (d .drive .ensures) (c .if3 .taken)
+
+returns-4 : tie.Need-returns-4
+returns-4 c =
+    let k = c .before .before .before .before in
+    rw (c .refused2 .ensures)
+    (file-refused _ _ _ _ (desks (k .before)) _ (sym (read-answer (k .before .before .before .before .before .before .args .plan .now) (k .read-plan .ensures)) ∙ c .before .before .answer .given .1))
+
+same-length-2 : tie.Need-same-length-2
+same-length-2 c = c .before .before .before .drive .kept .1 .1 .1 .0
+
+returns-5 : tie.Need-returns-5
+returns-5 c =
+    let d = c .before .before .before in
+    let p = d .before .before .before .before in
+    let x = p .before .before .before .before .before .read-plan .result .plan in
+    traced-short _ _ _ _ (desks (p .before .before .before .before .before .before)) (file (p .before .before .before)) (steps (p .before))
+    (start-is _ _ x (plan-is p) (d .before .before .start .ensures)) (d .drive .ensures) (c .if3 .left)
+
+pub run-file-spec : {M : Type 1} → statement M
+run-file-spec =
+    tie.close
+    (tie.spec
+    is-within-requires
+    refused-requires
+    returns
+    read-plan-requires
+    enum-known-answer
+    refused-requires-2
+    enum-told
+    steps-ok-requires
+    refused-requires-3
+    returns-2
+    derive-requires
+    cast-start
+    start-requires
+    drive-requires
+    same-length
+    returns-3
+    returns-4
+    same-length-2
+    returns-5)
