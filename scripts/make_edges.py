@@ -1,5 +1,6 @@
 #!/usr/bin/env python3
-"""Writes crates/plan_test/data/edges.bin: plans at the paper's limits, in the format of the vectors.
+"""Writes plans at the paper's limits: crates/plan_test/data/edges.bin, in the format of the vectors, and
+three plan files in crates/edges_test/data.
 
 Each record holds desks, the lengths of plan, steps and output, and then these; the steps are empty.
 The plans are laid out here by hand, by the paper's layout, and not by the project's own code.
@@ -66,6 +67,10 @@ def main():
     ]
     there = pathlib.Path(__file__).resolve().parent.parent
     (there / "crates/plan_test/data/edges.bin").write_bytes(b"".join(records))
+    data = there / "crates/edges_test/data"
+    (data / "tasks64.plan").write_bytes(layout(created(64)))
+    (data / "code64.plan").write_bytes(layout(long(64)))
+    (data / "code65.plan").write_bytes(layout(long(65)))
 
 
 if __name__ == "__main__":

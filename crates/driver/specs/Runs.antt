@@ -19,12 +19,16 @@ packed number filled = number + 256 * (filled % 36028797018963968)
 unfoldable pub runOutcome : ℕ → List ℕ → List ℕ → List ℕ → ℕ
 runOutcome n p b out = packed (runNumber (runFileAnswer n p b out)) (length (runFileText n p b out))
 
+-- the lines of the reports that demand 3 speaks of, and the last line of the rig that it speaks of
+abbrev pub traceText : ℕ → List ℕ → List ℕ → List ℕ
+traceText n p b =
+    let h = from n (canonical (filePrograms p)) (fileSteps b) in
+    text (stepLines 0 (h .reports) ++ (endLine (h .system) ∷ []))
+
 -- a run answered and wrote so: `outcome` and `bytes` hold of every call. Where the plan is accepted, `demand-3` is the claim about this plan on
--- these desks and these steps; and where the run is, `lines` says that the output holds just the lines of the reports that the claim is about
+-- these desks and these steps; and where the run is, the output holds just the lines of the reports that the claim is about
 pub record RunMeets (n : ℕ) (p b before : List ℕ) (r : ℕ) (after : List ℕ) : Type 0 where
   pub outcome : r ≡ runOutcome n p b before
   pub bytes : after ≡ runFileOutput n p b before
   pub demand-3 : startAnswer n p ≡ Accepted → Demand3 n (canonical (filePrograms p)) (fileSteps b)
-  pub lines : runFileAnswer n p b before ≡ Traced → (out : List ℕ)
-      → out ≡ text (stepLines 0 (from n (canonical (filePrograms p)) (fileSteps b) .reports) ++ (endLine (from n (canonical (filePrograms p)) (fileSteps b) .system) ∷ []))
-      → after ≡ out ++ drop (length out) before
+  pub lines : runFileAnswer n p b before ≡ Traced → after ≡ traceText n p b ++ drop (length (traceText n p b)) before

@@ -25,8 +25,7 @@ use Rattle.rules.specs.declared.system.System.{System}
 use Rattle.rules.specs.Starts.{started}
 use Rattle.rules.specs.Sound.{systemOk}
 use Rattle.rules.specs.StepFiles.{stepsOk, fileSteps, startOf, traceLines, runFileAnswer, runFileText, runFileOutput}
-use Rattle.rules_laws.specs.Shapes.{Shaped}
-use Rattle.rules_laws.proofs.Shapes.{started-shaped, started-plan}
+use Rattle.rules_laws.proofs.Shapes.{started-plan}
 use Rattle.rules_sound.proofs.Starts.{started-ok}
 use Rattle.stepfile.specs.Writes.{Written, RunFile}
 use Rattle.stepfile.proofs.Fits.{written-filled}
@@ -57,9 +56,6 @@ steps-few b h = leb-true (length b / 4) 2000 (and-right (eqb (length b % 4) 0) (
 
 -- a rig at the start, of an accepted plan
 module _ (n : ℕ) (d : within 1 6 n ≡ true) (x : Plan) (a : planAnswer (programs x) ≡ Accepted) {r : System} (h : r ≡ started n x) where
-  pub start-shaped : Shaped r
-  start-shaped = rw h (started-shaped n x)
-
   pub start-sound : systemOk r ≡ true
   start-sound = rw h (started-ok n x (within-low 1 6 n d) (within-high 1 6 n d) a)
 

@@ -5,7 +5,6 @@ ghost use Prim.Native.Nat.{_≤_, _/_};
 ghost use lib.ListN.{length};
 ghost use Rattle.rules.specs.Sound.{systemOk};
 ghost use Rattle.rules.specs.StepFiles.{fileSteps, traceLines};
-ghost use Rattle.rules_laws.specs.Shapes.{Shaped};
 ghost use Rattle.ends.specs.Derived.{endsOf};
 ghost use Rattle.judge.specs.Facts.{facts};
 ghost use Rattle.core.specs.Turns.{Rig};
@@ -127,7 +126,7 @@ fn write_end(rest: bool, letters: usize, out: &mut [u8], filled: usize) -> Drive
 
 // The trace of a rig that 9 does not refuse, with what is derived of its plan.
 pub fn drive<'a>(r: System, e: Ends, steps: &'a [u8], out: &'a mut [u8]) -> Driven
-    requires { ⌜ (Shaped r) × (systemOk r ≡ true) × (e ≡ endsOf (r .plan)) × (length (now steps) / 4 ≤ 2000) ⌝ }
+    requires { ⌜ (systemOk r ≡ true) × (e ≡ endsOf (r .plan)) × (length (now steps) / 4 ≤ 2000) ⌝ }
     ensures { λ d. ⌜ Written (traceLines r (fileSteps (now (steps .entry)))) (now (out .entry)) (d .filled) (d .whole) (now (out .exit)) ⌝ }
 {
     let plan = r.plan;

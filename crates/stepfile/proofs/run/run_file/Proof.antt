@@ -12,7 +12,7 @@ use Rattle.plan.specs.Refusals.{planAnswer}
 use Rattle.plan.specs.Files.{filePrograms, fileAnswer}
 use Rattle.rules.specs.StepFiles.{stepsOk}
 use Rattle.ends.specs.Derived.{endsOf}
-use Rattle.stepfile.proofs.Outcomes.{read-answer, read-plan-is, plan-ok, start-is, steps-few, start-shaped, start-sound, start-plan, desks-refused, file-refused, steps-refused, traced, traced-short}
+use Rattle.stepfile.proofs.Outcomes.{read-answer, read-plan-is, plan-ok, start-is, steps-few, start-sound, start-plan, desks-refused, file-refused, steps-refused, traced, traced-short}
 use Rattle.stepfile.proofs.run.run_file.Statement.{statement}
 use Rattle.stepfile.proofs.run.run_file.Tie as tie
 
@@ -84,7 +84,6 @@ drive-requires c κs =
     let x = p .before .before .before .before .before .read-plan .result .plan in
     let a = plan-passes p in
     let r = c .before .start .ensures in (
-      start-shaped _ n x a r,
       start-sound _ n x a r,
       c .before .before .derive .ensures ∙ ap endsOf (sym (start-plan _ n x a r)),
       steps-few _ (steps (p .before)),

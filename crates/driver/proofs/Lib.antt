@@ -1,0 +1,3 @@
+-- What the exported run leaves, and its numbers.
+pub mod Traced
+pub mod Numbers

@@ -1,0 +1,42 @@
+-- `mortarsedge_run`.
+use mathlib.Core.Path.{refl, _∙_}
+use Rattle.claim.proofs.Files.{demand-3-file}
+use Rattle.driver.specs.Runs.{runOutcome}
+use Rattle.driver.proofs.Traced.{output-lines}
+use borrow.Author.Needs.{needs}
+use Rattle.driver.proofs.mortarsedge_run.Statement.{statement}
+use Rattle.driver.proofs.mortarsedge_run.Tie as tie
+use Rattle.driver.proofs.mortarsedge_run.Reads as reads
+use Rattle.driver.proofs.mortarsedge_run.Lts as lts
+use Rattle.driver.proofs.packed.Reads as packed-reads
+use Rattle.driver.proofs.run_number.Reads as run-number-reads
+use Rattle.stepfile.proofs.run.run_file.Reads as run-file-reads
+
+run-file-requires : tie.Need-run-file-requires
+run-file-requires c κs = search needs
+
+run-number-requires : tie.Need-run-number-requires
+run-number-requires c κs = search needs
+
+packed-requires : tie.Need-packed-requires
+packed-requires c κs = search needs
+
+same-length : tie.Need-same-length
+same-length c = search needs
+
+returns : tie.Need-returns
+unfolding runOutcome
+returns c =
+    let f = c .before .before .before .before in
+    let a = f .before .before .before .before .before .args in
+    let r = f .run-file .ensures in
+    record {
+      outcome = c .packed .ensures ∙ rw (c .before .run-number .ensures .0, r .answered, r .count) refl;
+      bytes = r .bytes;
+      demand-3 = λ h. demand-3-file (a .desks) (a .plan .now) h (a .steps .now);
+      lines = λ h. r .bytes ∙ output-lines (a .desks) (a .plan .now) (a .steps .now) (a .out .now) h;
+    }
+
+pub mortarsedge-run-spec : {M : Type 1} → statement M
+mortarsedge-run-spec =
+    tie.close (tie.spec run-file-requires run-number-requires packed-requires same-length returns)

@@ -1,0 +1,219 @@
+// Those edges of the paper's list that are compared by a run: the limits of a plan file, and the
+// last move of a task.
+ghost use Rattle.io.specs.Counts.{Counts};
+use libc::STDOUT_FILENO;
+use plan::FINISH;
+use plan::Plan;
+use plan::ProcessorId;
+use plan::Word;
+use rules::message::Message;
+use rules::message::Network;
+use rules::message::Slot;
+use rules::step::Step;
+use rules::system::Channels;
+use rules::system::System;
+use rules::system::Tables;
+use rules::task::Task;
+use rules::task::TaskState;
+
+fn say(what: &[u8], right: bool) {
+    io::write_all(STDOUT_FILENO, what);
+    if right {
+        io::write_all(STDOUT_FILENO, b": ok\n");
+        return;
+    }
+    io::write_all(STDOUT_FILENO, b": WRONG\n");
+}
+
+// Reads a file and answers how many bytes.
+fn load(name: &[u8], file: &mut [u8]) -> usize
+    ensures { λ r. ⌜ Counts r (now (file .exit)) ⌝ }
+{
+    let fd = os::open_read(name);
+    let size = io::read_full(fd, file);
+    libc::close(fd);
+    size
+}
+
+// What the run of a plan file with no step answers, on one desk, and the output then.
+pub struct Ran {
+    pub answer: u64,
+    pub out: [u8; 8],
+}
+
+fn run_no_step(name: &[u8]) -> Ran {
+    let mut plan = io::buffer();
+    let size = load(name, &mut plan);
+    let mut out = [165u8; 8];
+    let answer = driver::mortarsedge_run(1, &plan[..size], b"", &mut out);
+    Ran {
+        answer: answer,
+        out: out,
+    }
+}
+
+// Number 0, and the 8 bytes of the last line.
+fn accepted(r: Ran) -> bool {
+    let out = r.out;
+    if r.answer != 2048 {
+        return false;
+    }
+    check::same(&out, b"end 0 0\n")
+}
+
+// The number, and the output untouched.
+fn refused(r: Ran, number: u64) -> bool {
+    let out = r.out;
+    let before = [165u8; 8];
+    if r.answer != number {
+        return false;
+    }
+    check::same(&out, &before)
+}
+
+// A plan of one task that only finishes.
+fn single_finish() -> Plan {
+    let mut lengths = [0u8; 64];
+    lengths[0] = 1;
+    let mut opcodes = [0u8; 4096];
+    opcodes[0] = FINISH;
+    Plan {
+        tasks: 1,
+        lengths: lengths,
+        opcodes: opcodes,
+        operands: [0; 4096],
+    }
+}
+
+// Its task, ready at desk 1, where it was born, with this move count.
+fn moved(moves: u16) -> Task {
+    Task {
+        state: TaskState::Ready,
+        processor: ProcessorId(1),
+        pc: 1,
+        home: ProcessorId(1),
+        word: Word(0),
+        moves: moves,
+        children: 0,
+    }
+}
+
+fn unborn() -> Task {
+    Task {
+        state: TaskState::Unborn,
+        processor: ProcessorId(0),
+        pc: 1,
+        home: ProcessorId(0),
+        word: Word(0),
+        moves: 0,
+        children: 0,
+    }
+}
+
+// Nothing kept for any channel, at any desk.
+fn no_tables() -> Tables {
+    Tables {
+        hintprocessors: [0; 768],
+        hintmoves: [0; 768],
+        heldprocessors: [0; 768],
+        heldnumbers: [0; 768],
+        notes: [0; 768],
+    }
+}
+
+fn no_channels() -> Channels {
+    Channels {
+        granted: [0; 128],
+        awaiting: [false; 128],
+        carriedprocessors: [0; 128],
+        carriednumbers: [0; 128],
+        travellingprocessors: [0; 128],
+        travellingmoves: [0; 128],
+    }
+}
+
+fn empty_mail() -> Network {
+    let slot = Slot {
+        message: Message::Empty,
+    };
+    let slots = [slot; 256];
+    Network {
+        slots: slots,
+        used: 0,
+    }
+}
+
+// The rig of that plan on two desks, its task with this move count.
+fn rig_with(moves: u16) -> System {
+    let plan = single_finish();
+    let none = unborn();
+    let mut tasks = [none; 64];
+    let first = moved(moves);
+    tasks[0] = first;
+    let tables = no_tables();
+    let channels = no_channels();
+    let network = empty_mail();
+    System {
+        processors: 2,
+        plan: plan,
+        tasks: tasks,
+        tables: tables,
+        channels: channels,
+        network: network,
+    }
+}
+
+// What a step was answered, the move count of task 1 then, and the rig then.
+pub struct After {
+    pub number: u8,
+    pub moves: u16,
+    pub system: System,
+}
+
+fn take_step(r: System, kind: u8, task: u8, number: u16) -> After {
+    let s = Step {
+        kind: kind,
+        task: task,
+        number: number,
+    };
+    let q = rig::step(r, s);
+    let report = q.report;
+    let answer = report.answer;
+    let system = q.system;
+    let first = system.tasks[0];
+    After {
+        number: trace::answer_number(answer),
+        moves: first.moves,
+        system: system,
+    }
+}
+
+fn is_after(a: After, number: u8, moves: u16) -> bool {
+    if a.number != number {
+        return false;
+    }
+    a.moves == moves
+}
+
+// A task with a count of 9,998 moves to desk 2 and arrives there; it then moves no more.
+fn last_move() {
+    let r = rig_with(9998);
+    let a = take_step(r, 3, 1, 2);
+    say(b"move count 9,998 moves", is_after(a, 0, 9999));
+    let left = a.system;
+    let b = take_step(left, 2, 0, 1);
+    say(b"its mover letter delivered", is_after(b, 0, 9999));
+    let there = b.system;
+    let c = take_step(there, 3, 1, 1);
+    say(b"move count 9,999: 18", is_after(c, 18, 9999));
+}
+
+fn main() {
+    let tasks = run_no_step(b"tasks64.plan");
+    say(b"T 64 accepted", accepted(tasks));
+    let most = run_no_step(b"code64.plan");
+    say(b"64 instructions accepted", accepted(most));
+    let more = run_no_step(b"code65.plan");
+    say(b"65 instructions: 2", refused(more, 2));
+    last_move();
+}
