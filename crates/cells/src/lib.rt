@@ -1,6 +1,4 @@
-// What is kept for one channel: how it is read and changed, one function for each definition of the rules' Cells.
-pub mod change;
+// What is kept for one channel at a desk: a field changed, which of two is kept, what the number called tells.
 pub mod fields;
 pub mod order;
-pub mod sweeps;
 pub mod test;

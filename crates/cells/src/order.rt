@@ -5,7 +5,7 @@ use plan::ProcessorId;
 use rules::channel::Hint;
 use rules::channel::Offer;
 
-// "both 0 is unknown".
+// The pointer that names nothing.
 pub fn unknown() -> Hint
     ensures { λ r. ⌜ r ≡ unknown ⌝ }
 {
@@ -15,7 +15,7 @@ pub fn unknown() -> Hint
     }
 }
 
-// An offer of 0 from desk 0 is none.
+// The offer that is none.
 pub fn no_offer() -> Offer
     ensures { λ r. ⌜ r ≡ noOffer ⌝ }
 {
@@ -25,14 +25,14 @@ pub fn no_offer() -> Offer
     }
 }
 
-// "The newer pointer has the larger count; of equals the desk's own stays."
+// The pointer with the larger count; the desk's own of equals.
 pub fn newer(own: Hint, other: Hint) -> Hint
     ensures { λ r. ⌜ r ≡ newer own other ⌝ }
 {
     if own.moves < other.moves { other } else { own }
 }
 
-// "Of two, the larger number is kept, of equals the earlier."
+// The offer with the larger number; the earlier of equals.
 pub fn larger(earlier: Offer, later: Offer) -> Offer
     ensures { λ r. ⌜ r ≡ larger earlier later ⌝ }
 {
@@ -43,7 +43,7 @@ pub fn larger(earlier: Offer, later: Offer) -> Offer
     }
 }
 
-// The same of adverts: the first that was noted stays.
+// Of two adverts the first stays.
 pub fn first_noted(first: ProcessorId, later: ProcessorId) -> ProcessorId
     ensures { λ r. ⌜ r ≡ firstNoted first later ⌝ }
 {

@@ -4,7 +4,7 @@ ghost use Rattle.rules.specs.Cells.{counts, noneCalled};
 use rules::channel::Cell;
 use rules::channel::Offer;
 
-// "An offer numbered w counts only if w > called".
+// The offer is for a word that was not yet called for.
 pub fn counts(x: Cell, o: Offer) -> bool
     ensures { λ r. ⌜ r ≡ counts x o ⌝ }
 {
@@ -12,7 +12,7 @@ pub fn counts(x: Cell, o: Offer) -> bool
     k.granted < o.number
 }
 
-// "called 0".
+// No word was called for.
 pub fn none_called(x: Cell) -> bool
     ensures { λ r. ⌜ r ≡ noneCalled x ⌝ }
 {

@@ -9,6 +9,7 @@ use plan::ProcessorId;
 use plan::TaskId;
 use rules::message::Message;
 use rules::rule::Site;
+use rules::task::TaskState;
 use tables::sweep::Sweep;
 
 // The arrival of task t at desk d, where a mover letter finds a moving task.
@@ -19,7 +20,7 @@ fn arrival_change(k: Scope, m: Message, x: Site, d: ProcessorId, t: TaskId) -> C
     let task = x.sender;
     let y = letters::migration(task, m);
     let change = run::task_change(k, x, y);
-    if !tasks::state::is_moving(task) {
+    if !tasks::state::is_in(task, TaskState::Moving) {
         return change;
     }
     let outcome = change.outcome;
@@ -41,11 +42,11 @@ pub fn letter_change(k: Scope, m: Message, x: Site) -> Change
             run::task_change(k, x, task)
         }
         Message::Offered(_, _, _) => {
-            let o = letters::offer(x, m);
+            let o = offers::offer(x, m);
             run::channel_change(k, o)
         }
         Message::Advert(_, _, _) => {
-            let o = letters::advert(x, m);
+            let o = offers::advert(x, m);
             run::channel_change(k, o)
         }
         Message::ReadyToReceive(_, _, _) => {

@@ -51,7 +51,7 @@ fn create_change(k: Scope, x: Site, i: Instruction) -> Change
     let d = creator.processor;
     let child = x.receiver;
     let born = child.birth(d);
-    let y = tasks::local::create_rule(creator, u);
+    let y = instructions::create_rule(creator, u);
     let cell = x.cell;
     let outcome = Outcome {
         sender: y,
@@ -74,7 +74,7 @@ fn finish_change(k: Scope, x: Site, t: TaskId) -> Change
 {
     let task = x.receiver;
     let parent = x.sender;
-    let f = tasks::local::finish_rule(t, task, parent);
+    let f = instructions::finish_rule(t, task, parent);
     let after = f.parent;
     let done = f.task;
     let cell = x.cell;
@@ -114,7 +114,7 @@ pub fn run_change(k: Scope, t: TaskId, i: Instruction, w: u8, x: Site) -> Change
     match opcode {
         CREATE => create_change(k, x, i),
         SYNC => {
-            let synced = tasks::local::sync_rule(task);
+            let synced = instructions::sync_rule(task);
             task_change(k, x, synced)
         }
         FINISH => finish_change(k, x, t),
@@ -127,11 +127,11 @@ pub fn run_change(k: Scope, t: TaskId, i: Instruction, w: u8, x: Site) -> Change
             channel_change(k, o)
         }
         SET => {
-            let stored = tasks::local::set_rule(task, i);
+            let stored = instructions::set_rule(task, i);
             task_change(k, x, stored)
         }
         _ => {
-            let sum = tasks::local::add_rule(task, i);
+            let sum = instructions::add_rule(task, i);
             task_change(k, x, sum)
         }
     }

@@ -1,4 +1,4 @@
-// Run: "Receive on c."
+// A receive on a channel.
 ghost use mathlib.Core.Path.{_≡_};
 ghost use Prim.Native.Nat.{_<_};
 ghost use Rattle.exchange.specs.Tests.{sendsHere, advertStands};
@@ -7,28 +7,13 @@ ghost use Rattle.rules.specs.Receive.{callTo, receivePasses, receiveWaits, rece
 use plan::ChannelId;
 use plan::ProcessorId;
 use rules::channel::Cell;
-use rules::channel::Hint;
-use rules::message::Message;
 use rules::rule::Outcome;
 use rules::rule::Posting;
 use rules::rule::Received;
 use rules::rule::Site;
-use rules::task::Task;
 use rules::task::TaskState;
 
-// "a call letter with (d, move count) goes to the offering desk": from the receiver x.
-pub fn call_to(from: ProcessorId, c: ChannelId, x: Task) -> Posting
-    ensures { λ r. ⌜ r ≡ callTo from c x ⌝ }
-{
-    let d = x.processor;
-    let h = Hint {
-        processor: d,
-        moves: x.moves,
-    };
-    Posting::Letter(Message::ReadyToReceive(c, from, h))
-}
-
-// "the word passes directly, called becomes that send's number, a carried offer for c is dropped, the sender is ready"
+// The word passes directly.
 fn receive_passes(x: Site, c: ChannelId, w: u8) -> Outcome
     requires { ⌜ x .receiver .pc < 255 ⌝ }
     ensures { λ r. ⌜ r ≡ receivePasses x c w ⌝ }
@@ -38,7 +23,7 @@ fn receive_passes(x: Site, c: ChannelId, w: u8) -> Outcome
     let received = tasks::change::advanced(x.receiver);
     let ready = tasks::change::taking(received, word);
     let resumed = tasks::change::readied(sender);
-    let passed = cells::change::passing(x.cell, w);
+    let passed = cell_rules::change::passing(x.cell, w);
     let none = cells::order::no_offer();
     let dropped = cells::fields::with_carried(passed, none);
     Outcome {
@@ -50,7 +35,7 @@ fn receive_passes(x: Site, c: ChannelId, w: u8) -> Outcome
     }
 }
 
-// "Else it is receiving": the cell then, and what is posted.
+// The receiver waits, with this cell and this posting.
 fn receive_waits(x: Site, cell: Cell, posting: Posting) -> Outcome
     requires { ⌜ x .receiver .pc < 255 ⌝ }
     ensures { λ r. ⌜ r ≡ receiveWaits x cell posting ⌝ }
@@ -67,17 +52,17 @@ fn receive_waits(x: Site, cell: Cell, posting: Posting) -> Outcome
     }
 }
 
-// "is answered: it is removed, called goes up by one and a call letter .. goes to the offering desk": the cell is the one without it.
+// An offer or an advert is answered: the cell is the one without it.
 fn receive_answers(x: Site, cell: Cell, from: ProcessorId, c: ChannelId) -> Outcome
     requires { ⌜ (x .receiver .pc < 255) × (cell .channel .granted < 255) ⌝ }
     ensures { λ r. ⌜ r ≡ receiveWaits x (granting cell) (callTo from c (x .receiver)) ⌝ }
 {
-    let call = call_to(from, c, x.receiver);
-    let granted = cells::change::granting(cell);
+    let call = outcomes::call_to(from, c, x.receiver);
+    let granted = cell_rules::change::granting(cell);
     receive_waits(x, granted, call)
 }
 
-// "its sender is sending on c at d"
+// The sender is at the receiver's desk, and waits.
 fn sends_here(x: Site) -> bool
     ensures { λ r. ⌜ r ≡ sendsHere x ⌝ }
 {
@@ -85,7 +70,7 @@ fn sends_here(x: Site) -> bool
     base::both(x.sending, here)
 }
 
-// "called is 0", and there is "an advert noted at d"
+// An advert is noted, and no word was called for.
 fn advert_stands(x: Site) -> bool
     ensures { λ r. ⌜ r ≡ advertStands x ⌝ }
 {
@@ -94,7 +79,7 @@ fn advert_stands(x: Site) -> bool
     base::both(first, noted)
 }
 
-// A receive on c by a receiver at d; w is the number of the sender's last executed send on c.
+// A receive on c; w is the number of the sender's last executed send on c.
 pub fn receive_rule(x: Site, c: ChannelId, w: u8) -> Outcome
     requires { ⌜ (x .receiver .pc < 255) × (x .cell .channel .granted < 255) ⌝ }
     ensures { λ r. ⌜ r ≡ receiveRule x c w ⌝ }

@@ -1,4 +1,4 @@
-// Run: "Send on c, the sender's w-th on that channel by its instructions, from 1."
+// A send on a channel.
 ghost use mathlib.Core.Path.{_≡_};
 ghost use Prim.Native.Nat.{_<_};
 ghost use Rattle.exchange.specs.Tests.{receivesHere};
@@ -13,7 +13,7 @@ use rules::rule::Received;
 use rules::rule::Site;
 use rules::task::TaskState;
 
-// "the word passes directly, called becomes w, the receiver is ready"
+// The word passes directly.
 fn send_passes(x: Site, c: ChannelId, w: u8) -> Outcome
     requires { ⌜ x .sender .pc < 255 ⌝ }
     ensures { λ r. ⌜ r ≡ sendPasses x c w ⌝ }
@@ -22,7 +22,7 @@ fn send_passes(x: Site, c: ChannelId, w: u8) -> Outcome
     let word = x.sender.word;
     let sent = tasks::change::advanced(x.sender);
     let ready = tasks::change::taking(receiver, word);
-    let passed = cells::change::passing(x.cell, w);
+    let passed = cell_rules::change::passing(x.cell, w);
     Outcome {
         sender: sent,
         receiver: ready,
@@ -32,7 +32,7 @@ fn send_passes(x: Site, c: ChannelId, w: u8) -> Outcome
     }
 }
 
-// "Else the sender is sending": the cell then, and what is posted.
+// The sender waits, with this cell and this posting.
 fn send_waits(x: Site, cell: Cell, posting: Posting) -> Outcome
     requires { ⌜ x .sender .pc < 255 ⌝ }
     ensures { λ r. ⌜ r ≡ sendWaits x cell posting ⌝ }
@@ -49,7 +49,7 @@ fn send_waits(x: Site, cell: Cell, posting: Posting) -> Outcome
     }
 }
 
-// "the receiver is at d, receiving on c and has not called"
+// The receiver is at the sender's desk, and waits for a word that it has not called for.
 fn receives_here(x: Site) -> bool
     ensures { λ r. ⌜ r ≡ receivesHere x ⌝ }
 {
@@ -58,7 +58,7 @@ fn receives_here(x: Site) -> bool
     base::both(here, uncalled)
 }
 
-// A send on c by a sender at d: the word passes, or the offer is carried, advertised, held or sent in a letter.
+// The sender's w-th send on c: the word passes, or the offer is carried, advertised, held or sent in a letter.
 pub fn send_rule(x: Site, c: ChannelId, w: u8) -> Outcome
     requires { ⌜ x .sender .pc < 255 ⌝ }
     ensures { λ r. ⌜ r ≡ sendRule x c w ⌝ }
@@ -73,14 +73,14 @@ pub fn send_rule(x: Site, c: ChannelId, w: u8) -> Outcome
         return send_passes(x, c, w);
     }
     if tasks::state::is_at(x.receiver, d) {
-        let carried = cells::change::carrying(x.cell, o);
+        let carried = cell_rules::change::carrying(x.cell, o);
         return send_waits(x, carried, Posting::Nothing);
     }
     if tasks::state::is_none(h.processor) {
         return send_waits(x, x.cell, Posting::Adverts(c, d));
     }
     if tasks::state::same_processor(h.processor, d) {
-        let held = cells::change::holding(x.cell, o);
+        let held = cell_rules::change::holding(x.cell, o);
         return send_waits(x, held, Posting::Nothing);
     }
     send_waits(x, x.cell, Posting::Letter(Message::Offered(c, o, h)))

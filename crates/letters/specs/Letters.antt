@@ -6,38 +6,13 @@ use Rattle.rules.specs.declared.task.TaskState.the-variants.{Moving}
 use Rattle.rules.specs.declared.message.Message.{Message}
 use Rattle.rules.specs.declared.message.Message.the-variants.{Empty, Offered, Advert, ReadyToReceive, Data, Terminated, Migration}
 use Rattle.rules.specs.declared.rule.Site.{Site}
-use Rattle.rules.specs.declared.rule.Posting.the-variants.{Nothing}
 use Rattle.rules.specs.declared.rule.Outcome.{Outcome}
 use Rattle.rules.specs.Tasks.{isIn, arrived}
-use Rattle.rules.specs.Offers.{kept, offerRule, advertRule}
 use Rattle.rules.specs.Calls.{callRule, dataRule}
 use Rattle.rules.specs.Arrivals.{terminatedRule}
+use Rattle.outcomes.specs.Outcomes.{untouched}
 
--- "the letter is removed without effect": at the site x
-abbrev pub untouched : Site → Outcome
-untouched x = kept x (x .cell) Nothing
-
--- "Offer at d: .."
-abbrev pub onOffer : Site → Message → Outcome
-onOffer x Empty = untouched x
-onOffer x (Offered c o h) = offerRule x c o h
-onOffer x (Advert c d from) = untouched x
-onOffer x (ReadyToReceive c d h) = untouched x
-onOffer x (Data c d w) = untouched x
-onOffer x (Terminated d t) = untouched x
-onOffer x (Migration d t) = untouched x
-
--- "Advert: .."
-abbrev pub onAdvert : Site → Message → Outcome
-onAdvert x Empty = untouched x
-onAdvert x (Offered c o h) = untouched x
-onAdvert x (Advert c d from) = advertRule x c d from
-onAdvert x (ReadyToReceive c d h) = untouched x
-onAdvert x (Data c d w) = untouched x
-onAdvert x (Terminated d t) = untouched x
-onAdvert x (Migration d t) = untouched x
-
--- "Call: .."
+-- a call
 abbrev pub onCall : Site → Message → Outcome
 onCall x Empty = untouched x
 onCall x (Offered c o h) = untouched x
@@ -47,7 +22,7 @@ onCall x (Data c d w) = untouched x
 onCall x (Terminated d t) = untouched x
 onCall x (Migration d t) = untouched x
 
--- "Word: .."
+-- a word letter
 abbrev pub onData : Site → Message → Outcome
 onData x Empty = untouched x
 onData x (Offered c o h) = untouched x
@@ -57,17 +32,7 @@ onData x (Data c d w) = dataRule x c d w
 onData x (Terminated d t) = untouched x
 onData x (Migration d t) = untouched x
 
--- a letter about a channel, at its site
-abbrev pub onChannelLetter : Site → Message → Outcome
-onChannelLetter x Empty = untouched x
-onChannelLetter x (Offered c o h) = offerRule x c o h
-onChannelLetter x (Advert c d from) = advertRule x c d from
-onChannelLetter x (ReadyToReceive c d h) = callRule x c d h
-onChannelLetter x (Data c d w) = dataRule x c d w
-onChannelLetter x (Terminated d t) = untouched x
-onChannelLetter x (Migration d t) = untouched x
-
--- "Ended: the child leaves the set.": the parent's record
+-- an ended letter: the parent's record
 abbrev pub onTerminated : Task → Message → Task
 onTerminated parent Empty = parent
 onTerminated parent (Offered c o h) = parent
@@ -87,7 +52,7 @@ childOf (Data c d w) = 1
 childOf (Terminated d t) = t .0
 childOf (Migration d t) = 1
 
--- "Mover: the task is ready here": its record; "a mover, a moving task"
+-- a mover letter: the record of its task
 abbrev pub onMigration : Task → Message → Task
 onMigration x Empty = x
 onMigration x (Offered c o h) = x

@@ -1,10 +1,8 @@
-// Deliver: a call and a word letter.
+// What a call and a word letter do at their channel's site.
+ghost use mathlib.Core.Bool.{_&&_};
 ghost use mathlib.Core.Path.{_≡_};
 ghost use Rattle.rules.specs.Calls.{callRule, dataRule};
-ghost use Rattle.rules.specs.declared.message.Message.the-variants.{Data};
-ghost use Rattle.rules.specs.declared.rule.Posting.the-variants.{Letter};
-use crate::outcome;
-use crate::site;
+ghost use Rattle.rules.specs.Tasks.{isAt};
 use plan::ChannelId;
 use plan::ProcessorId;
 use plan::Word;
@@ -14,46 +12,55 @@ use rules::rule::Outcome;
 use rules::rule::Posting;
 use rules::rule::Received;
 use rules::rule::Site;
-use rules::task::Task;
 
-// "Call: the sender is ready, its desk's pointer becomes the newer of the two, a word letter leaves."; h is where the receiver is.
+// The sender is at d, and waits.
+fn sends_at(x: Site, d: ProcessorId) -> bool
+    ensures { λ r. ⌜ r ≡ x .sending && isAt d (x .sender) ⌝ }
+{
+    let here = tasks::state::is_at(x.sender, d);
+    base::both(x.sending, here)
+}
+
+// The receiver is at d, and waits for a word that it has called for.
+fn awaits_at(x: Site, d: ProcessorId) -> bool
+    ensures { λ r. ⌜ r ≡ isAt d (x .receiver) && (x .receiving && x .cell .channel .awaiting) ⌝ }
+{
+    let here = tasks::state::is_at(x.receiver, d);
+    let called = base::both(x.receiving, x.cell.channel.awaiting);
+    base::both(here, called)
+}
+
+// A call to the sender at d; h is where the receiver is.
 pub fn call_rule(x: Site, c: ChannelId, d: ProcessorId, h: Hint) -> Outcome
     ensures { λ r. ⌜ r ≡ callRule x c d h ⌝ }
 {
-    if !site::sends_at(x, d) {
-        return outcome::untouched(x);
+    if !sends_at(x, d) {
+        return outcomes::untouched(x);
     }
-    let own = site::own_hint(x);
+    let own = x.cell.entry.hint;
     let hint = cells::order::newer(own, h);
     let known = cells::fields::with_hint(x.cell, hint);
     let ready = tasks::change::readied(x.sender);
-    let letter = word_letter(c, h.processor, x.sender);
+    let word = x.sender.word;
+    let to = h.processor;
     let receiver = x.receiver;
     Outcome {
         sender: ready,
         receiver: receiver,
         cell: known,
-        posting: letter,
+        posting: Posting::Letter(Message::Data(c, to, word)),
         received: Received::Nothing,
     }
 }
 
-// The sender's word, to the receiver's desk.
-fn word_letter(c: ChannelId, to: ProcessorId, x: Task) -> Posting
-    ensures { λ r. ⌜ r ≡ Letter (Data c to (x .word)) ⌝ }
-{
-    let word = x.word;
-    Posting::Letter(Message::Data(c, to, word))
-}
-
-// "Word: the receiver takes it and is ready."
+// A word letter to the receiver at d.
 pub fn data_rule(x: Site, c: ChannelId, d: ProcessorId, w: Word) -> Outcome
     ensures { λ r. ⌜ r ≡ dataRule x c d w ⌝ }
 {
-    if !site::awaits_at(x, d) {
-        return outcome::untouched(x);
+    if !awaits_at(x, d) {
+        return outcomes::untouched(x);
     }
-    let cleared = cells::change::cleared(x.cell);
+    let cleared = cell_rules::change::cleared(x.cell);
     let ready = tasks::change::taking(x.receiver, w);
     let sender = x.sender;
     Outcome {

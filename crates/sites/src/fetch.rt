@@ -149,8 +149,8 @@ pub fn site_in(tasks: [Task; 64], operands: &[u16; 4096], store: Store, k: Scope
     let y = task_in(tasks, u);
     let sends = is_on(operands, s, c, x.pc);
     let receives = is_on(operands, u, c, y.pc);
-    let sending = base::both(tasks::state::is_sending(x), sends);
-    let receiving = base::both(tasks::state::is_receiving(y), receives);
+    let sending = base::both(tasks::state::is_in(x, TaskState::Sending), sends);
+    let receiving = base::both(tasks::state::is_in(y, TaskState::Receiving), receives);
     let cell = cell_of(store, k);
     Site {
         sender: x,

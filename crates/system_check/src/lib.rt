@@ -1,5 +1,5 @@
 // Whether a rig is refused by 9.
-pub mod tasks;
+pub mod records;
 
 ghost use mathlib.Core.Path.{_≡_};
 ghost use Rattle.plan.specs.Answers.{isAccepted};
@@ -33,7 +33,7 @@ pub fn system_ok(r: System) -> bool
     if !plan_ok(p) {
         return false;
     }
-    if !tasks::tasks_ok(r) {
+    if !records::tasks_ok(r) {
         return false;
     }
     let t = r.tables;

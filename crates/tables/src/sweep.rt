@@ -40,10 +40,10 @@ pub fn ruled(x: Cell, rule: CellRule) -> Cell
     ensures { λ r. ⌜ r ≡ ruleOf rule x ⌝ }
 {
     match rule {
-        CellRule::Locate(d, n) => cells::sweeps::located(x, d, n),
-        CellRule::ArriveReceiving(d, n) => cells::sweeps::arrival_receiving(x, d, n),
-        CellRule::ArriveSending => cells::sweeps::arrival_sending(x),
-        CellRule::DepartSending => cells::sweeps::departure_sending(x),
+        CellRule::Locate(d, n) => cell_rules::sweeps::located(x, d, n),
+        CellRule::ArriveReceiving(d, n) => cell_rules::sweeps::arrival_receiving(x, d, n),
+        CellRule::ArriveSending => cell_rules::sweeps::arrival_sending(x),
+        CellRule::DepartSending => cell_rules::sweeps::departure_sending(x),
     }
 }
 

@@ -6,7 +6,7 @@ use plan::Word;
 use rules::task::Task;
 use rules::task::TaskState;
 
-// "An accepted instruction is executed and the place goes on by one, even if the task then waits."
+// The place goes on by one.
 pub fn advanced(mut x: Task) -> Task
     requires { ⌜ x .pc < 255 ⌝ }
     ensures { λ r. ⌜ r ≡ advanced x ⌝ }
@@ -22,7 +22,7 @@ pub fn readied(x: Task) -> Task
     x.with_state(TaskState::Ready)
 }
 
-// "the receiver takes it and is ready".
+// The task has a word passed to it, and is ready.
 pub fn taking(mut x: Task, w: Word) -> Task
     ensures { λ r. ⌜ r ≡ taking x w ⌝ }
 {

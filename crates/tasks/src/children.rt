@@ -1,4 +1,4 @@
-// The living children of a task: "a 64-bit set .., bit t−1 for task t".
+// The living children of a task, a set in the bits of one number.
 ghost use mathlib.Core.Path.{_≡_};
 ghost use Prim.Native.Nat.{_≤_};
 ghost use Rattle.base.specs.Sets.{member};
@@ -8,6 +8,7 @@ use crate::set;
 use crate::state;
 use plan::TaskId;
 use rules::task::Task;
+use rules::task::TaskState;
 
 // No child lives.
 pub fn is_childless(x: Task) -> bool
@@ -24,7 +25,7 @@ pub fn has_child(x: Task, t: TaskId) -> bool
     set::contains(x.children, t.0)
 }
 
-// "joins the living children".
+// t is a child too.
 pub fn with_child(mut x: Task, t: TaskId) -> Task
     requires { ⌜ (1 ≤ t .0) × (t .0 ≤ 64) ⌝ }
     ensures { λ r. ⌜ r ≡ withChild x t ⌝ }
@@ -34,11 +35,11 @@ pub fn with_child(mut x: Task, t: TaskId) -> Task
     x
 }
 
-// "It is ready again when the set is empty."
+// A task that waits for no child is ready.
 fn woken(x: Task) -> Task
     ensures { λ r. ⌜ r ≡ woken x ⌝ }
 {
-    let waiting = state::is_waiting(x);
+    let waiting = state::is_in(x, TaskState::Waiting);
     let childless = is_childless(x);
     if base::both(waiting, childless) {
         change::readied(x)
@@ -47,7 +48,7 @@ fn woken(x: Task) -> Task
     }
 }
 
-// "loses the child from its set", "the child leaves the set".
+// t is no child any more.
 pub fn without_child(mut x: Task, t: TaskId) -> Task
     requires { ⌜ (1 ≤ t .0) × (t .0 ≤ 64) ⌝ }
     ensures { λ r. ⌜ r ≡ withoutChild x t ⌝ }

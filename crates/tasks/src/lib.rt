@@ -1,6 +1,5 @@
-// One task: its state and place, its living children, and the instructions that use no channel.
+// One task's record: its state and desk, its place and word, its living children.
 pub mod change;
 pub mod children;
-pub mod local;
 mod set;
 pub mod state;

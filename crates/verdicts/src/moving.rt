@@ -15,6 +15,7 @@ use rules::rule::Posting;
 use rules::rule::Received;
 use rules::step::StepAnswer;
 use rules::task::Task;
+use rules::task::TaskState;
 use sites::fetch;
 use sites::scope;
 use tables::sweep::Sweep;
@@ -65,7 +66,7 @@ pub fn judge_move(
     }
     let e = ProcessorId(to as u8);
     let x = fetch::task_in(tasks, t);
-    if !tasks::state::is_ready(x) {
+    if !tasks::state::is_in(x, TaskState::Ready) {
         return Verdict::Refused(StepAnswer::NotReady);
     }
     if tasks::state::is_at(x, e) {

@@ -16,6 +16,7 @@ use plan::TaskId;
 use rules::rule::Site;
 use rules::step::StepAnswer;
 use rules::task::Task;
+use rules::task::TaskState;
 use sites::fetch;
 use sites::scope;
 use tables::store::Store;
@@ -74,7 +75,7 @@ pub fn judge_run<'a>(
         return Verdict::Refused(StepAnswer::NoTask);
     }
     let x = fetch::task_in(tasks, t);
-    if !tasks::state::is_ready(x) {
+    if !tasks::state::is_in(x, TaskState::Ready) {
         return Verdict::Refused(StepAnswer::NotReady);
     }
     let i = fetch::instruction_in(opcodes, operands, t, x.pc);

@@ -1,7 +1,8 @@
 -- A call is opened, and its rule followed; another letter changes nothing.
 use mathlib.Core.Path.{refl, _∙_}
-use Rattle.letters.proofs.Others.{other}
-use Rattle.letters.specs.Letters.{untouched, onCall}
+use Rattle.outcomes.proofs.Others.{other}
+use Rattle.letters.specs.Letters.{onCall}
+use Rattle.outcomes.specs.Outcomes.{untouched}
 use borrow.Author.Needs.{needs}
 use Rattle.letters.proofs.call.Statement.{statement}
 use Rattle.letters.proofs.call.Tie as tie

@@ -1,7 +1,8 @@
 -- A word letter is opened, and its rule followed; another letter changes nothing.
 use mathlib.Core.Path.{refl, _∙_}
-use Rattle.letters.proofs.Others.{other}
-use Rattle.letters.specs.Letters.{untouched, onData}
+use Rattle.outcomes.proofs.Others.{other}
+use Rattle.letters.specs.Letters.{onData}
+use Rattle.outcomes.specs.Outcomes.{untouched}
 use borrow.Author.Needs.{needs}
 use Rattle.letters.proofs.data.Statement.{statement}
 use Rattle.letters.proofs.data.Tie as tie

@@ -1,6 +1,6 @@
 -- An ended letter is opened, and its rule followed; another letter changes nothing.
 use mathlib.Core.Path.{refl, _∙_}
-use Rattle.letters.proofs.Others.{other}
+use Rattle.outcomes.proofs.Others.{other}
 use Rattle.letters.specs.Letters.{onTerminated}
 use borrow.Author.Needs.{needs}
 use Rattle.letters.proofs.terminated.Statement.{statement}

@@ -18,9 +18,6 @@ returns c =
     let s = c .before .before .sends-at in
     simp (c .untouched .ensures, sym (s .ensures) ∙ not-true (s .result) (c .before .if1 .taken))
 
-own-hint-requires : tie.Need-own-hint-requires
-own-hint-requires c κs = search needs
-
 newer-requires : tie.Need-newer-requires
 newer-requires c κs = search needs
 
@@ -30,19 +27,15 @@ with-hint-requires c κs = search needs
 readied-requires : tie.Need-readied-requires
 readied-requires c κs = search needs
 
-word-letter-requires : tie.Need-word-letter-requires
-word-letter-requires c κs = search needs
-
 returns-2 : tie.Need-returns-2
 unfolding callRule
 returns-2 c =
-    let w = c .before in
-    let r = w .before in
+    let r = c .before .before .before in
     let h = r .before in
     let n = h .before in
     let l = n .before .before in
     let s = l .before .sends-at in
-    simp (w .word-letter .ensures, r .readied .ensures, h .with-hint .ensures, n .newer .ensures, n .before .own-hint .ensures, sym (s .ensures) ∙ not-false (s .result) (l .if1 .left))
+    simp (r .readied .ensures, h .with-hint .ensures, n .newer .ensures, sym (s .ensures) ∙ not-false (s .result) (l .if1 .left))
 
 pub call-rule-spec : {M : Type 1} → statement M
 call-rule-spec =
@@ -51,9 +44,7 @@ call-rule-spec =
     sends-at-requires
     untouched-requires
     returns
-    own-hint-requires
     newer-requires
     with-hint-requires
     readied-requires
-    word-letter-requires
     returns-2)

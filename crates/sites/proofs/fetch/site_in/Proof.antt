@@ -10,8 +10,7 @@ use Rattle.base.proofs.both.Reads as both-reads
 use Rattle.sites.proofs.fetch.cell_of.Reads as cell-of-reads
 use Rattle.sites.proofs.fetch.is_on.Reads as is-on-reads
 use Rattle.sites.proofs.fetch.task_in.Reads as task-in-reads
-use Rattle.tasks.proofs.state.is_receiving.Reads as is-receiving-reads
-use Rattle.tasks.proofs.state.is_sending.Reads as is-sending-reads
+use Rattle.tasks.proofs.state.is_in.Reads as is-in-reads
 
 task-in-requires : tie.Need-task-in-requires
 task-in-requires c κs = sender-ok (c .before .before .before .args .k) (c .before .before .before .pre .0)
@@ -25,14 +24,14 @@ is-on-requires c κs = (sender-ok (c .before .before .before .before .before .ar
 is-on-requires-2 : tie.Need-is-on-requires-2
 is-on-requires-2 c κs = (receiver-ok (c .before .before .before .before .before .before .args .k) (c .before .before .before .before .before .before .pre .0), rw (c .before .task-in2 .ensures) (c .before .before .before .before .before .before .pre .2))
 
-is-sending-requires : tie.Need-is-sending-requires
-is-sending-requires c κs = search needs
+is-in-requires : tie.Need-is-in-requires
+is-in-requires c κs = search needs
 
 both-requires : tie.Need-both-requires
 both-requires c κs = search needs
 
-is-receiving-requires : tie.Need-is-receiving-requires
-is-receiving-requires c κs = search needs
+is-in-requires-2 : tie.Need-is-in-requires-2
+is-in-requires-2 c κs = search needs
 
 both-requires-2 : tie.Need-both-requires-2
 both-requires-2 c κs = search needs
@@ -42,7 +41,7 @@ cell-of-requires c κs = search needs
 
 returns : tie.Need-returns
 unfolding siteIn
-returns c = simp (c .cell-of .ensures, c .before .both2 .ensures, c .before .before .is-receiving .ensures, c .before .before .before .both .ensures, c .before .before .before .before .is-sending .ensures, c .before .before .before .before .before .is-on2 .ensures, c .before .before .before .before .before .before .is-on .ensures, c .before .before .before .before .before .before .before .task-in2 .ensures, c .before .before .before .before .before .before .before .before .task-in .ensures)
+returns c = simp (c .cell-of .ensures, c .before .both2 .ensures, c .before .before .is-in2 .ensures, c .before .before .before .both .ensures, c .before .before .before .before .is-in .ensures, c .before .before .before .before .before .is-on2 .ensures, c .before .before .before .before .before .before .is-on .ensures, c .before .before .before .before .before .before .before .task-in2 .ensures, c .before .before .before .before .before .before .before .before .task-in .ensures)
 
 pub site-in-spec : {M : Type 1} → statement M
 site-in-spec =
@@ -52,9 +51,9 @@ site-in-spec =
     task-in-requires-2
     is-on-requires
     is-on-requires-2
-    is-sending-requires
+    is-in-requires
     both-requires
-    is-receiving-requires
+    is-in-requires-2
     both-requires-2
     cell-of-requires
     returns)

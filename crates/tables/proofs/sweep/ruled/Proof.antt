@@ -5,10 +5,10 @@ use Rattle.tables.proofs.sweep.ruled.Statement.{statement}
 use Rattle.tables.proofs.sweep.ruled.Tie as tie
 use Rattle.tables.proofs.sweep.ruled.Reads as reads
 use Rattle.tables.proofs.sweep.ruled.Lts as lts
-use Rattle.cells.proofs.sweeps.arrival_receiving.Reads as arrival-receiving-reads
-use Rattle.cells.proofs.sweeps.arrival_sending.Reads as arrival-sending-reads
-use Rattle.cells.proofs.sweeps.departure_sending.Reads as departure-sending-reads
-use Rattle.cells.proofs.sweeps.located.Reads as located-reads
+use Rattle.cell_rules.proofs.sweeps.arrival_receiving.Reads as arrival-receiving-reads
+use Rattle.cell_rules.proofs.sweeps.arrival_sending.Reads as arrival-sending-reads
+use Rattle.cell_rules.proofs.sweeps.departure_sending.Reads as departure-sending-reads
+use Rattle.cell_rules.proofs.sweeps.located.Reads as located-reads
 
 enum-known-rule : tie.Need-enum-known-rule
 enum-known-rule c = search needs

@@ -26,7 +26,7 @@ use Rattle.base.proofs.wide8.Reads as wide8-reads
 use Rattle.sites.proofs.fetch.task_in.Reads as task-in-reads
 use Rattle.tasks.proofs.children.is_childless.Reads as is-childless-reads
 use Rattle.tasks.proofs.state.is_at.Reads as is-at-reads
-use Rattle.tasks.proofs.state.is_ready.Reads as is-ready-reads
+use Rattle.tasks.proofs.state.is_in.Reads as is-in-reads
 use Rattle.verdicts.proofs.moving.move_change.Reads as move-change-reads
 use Rattle.verdicts.proofs.run.fitting.Reads as fitting-reads
 
@@ -62,26 +62,26 @@ cast-t16 c = record { fits = lt-of-le-of-lt (within-high 1 _ _ (tested (c .befor
 task-in-requires : tie.Need-task-in-requires
 task-in-requires c κs = le-trans (within-high 1 _ _ (tested (c .before .before .before .before .before .is-within .ensures) (c .before .before .before .before .before .before .before .wide8 .ensures) (c .before .before .before .before .before .before .wide82 .ensures) ∙ not-false _ (c .before .before .before .before .if1 .left))) (c .before .before .before .before .before .before .before .before .pre .0)
 
-is-ready-requires : tie.Need-is-ready-requires
-is-ready-requires c κs = search needs
+is-in-requires : tie.Need-is-in-requires
+is-in-requires c κs = search needs
 
 returns-3 : tie.Need-returns-3
 unfolding judgedMove
-returns-3 c = rw ((tested (c .before .before .before .before .before .before .before .before .is-within .ensures) (c .before .before .before .before .before .before .before .before .before .before .wide8 .ensures) (c .before .before .before .before .before .before .before .before .before .wide82 .ensures) ∙ not-false _ (c .before .before .before .before .before .before .before .if1 .left)), (tested (c .before .before .before .before .is-within2 .ensures) (c .before .before .before .before .before .before .wide83 .ensures) (c .before .before .before .before .before .wide16 .ensures) ∙ not-false _ (c .before .before .before .if2 .left)), (sym (c .before .is-ready .ensures ∙ ap (isIn Ready) (c .before .before .task-in .ensures)) ∙ not-true _ (c .if3 .taken))) refl
+returns-3 c = rw ((tested (c .before .before .before .before .before .before .before .before .is-within .ensures) (c .before .before .before .before .before .before .before .before .before .before .wide8 .ensures) (c .before .before .before .before .before .before .before .before .before .wide82 .ensures) ∙ not-false _ (c .before .before .before .before .before .before .before .if1 .left)), (tested (c .before .before .before .before .is-within2 .ensures) (c .before .before .before .before .before .before .wide83 .ensures) (c .before .before .before .before .before .wide16 .ensures) ∙ not-false _ (c .before .before .before .if2 .left)), (sym (c .before .is-in .ensures ∙ ap (isIn Ready) (c .before .before .task-in .ensures)) ∙ not-true _ (c .if3 .taken))) refl
 
 is-at-requires : tie.Need-is-at-requires
 is-at-requires c κs = search needs
 
 returns-4 : tie.Need-returns-4
 unfolding judgedMove
-returns-4 c = rw ((tested (c .before .before .before .before .before .before .before .before .before .before .is-within .ensures) (c .before .before .before .before .before .before .before .before .before .before .before .before .wide8 .ensures) (c .before .before .before .before .before .before .before .before .before .before .before .wide82 .ensures) ∙ not-false _ (c .before .before .before .before .before .before .before .before .before .if1 .left)), (tested (c .before .before .before .before .before .before .is-within2 .ensures) (c .before .before .before .before .before .before .before .before .wide83 .ensures) (c .before .before .before .before .before .before .before .wide16 .ensures) ∙ not-false _ (c .before .before .before .before .before .if2 .left)), (sym (c .before .before .before .is-ready .ensures ∙ ap (isIn Ready) (c .before .before .before .before .task-in .ensures)) ∙ not-false _ (c .before .before .if3 .left)), (sym (c .before .is-at .ensures ∙ ap (isAt _) (c .before .before .before .before .task-in .ensures)) ∙ c .if4 .taken)) refl
+returns-4 c = rw ((tested (c .before .before .before .before .before .before .before .before .before .before .is-within .ensures) (c .before .before .before .before .before .before .before .before .before .before .before .before .wide8 .ensures) (c .before .before .before .before .before .before .before .before .before .before .before .wide82 .ensures) ∙ not-false _ (c .before .before .before .before .before .before .before .before .before .if1 .left)), (tested (c .before .before .before .before .before .before .is-within2 .ensures) (c .before .before .before .before .before .before .before .before .wide83 .ensures) (c .before .before .before .before .before .before .before .wide16 .ensures) ∙ not-false _ (c .before .before .before .before .before .if2 .left)), (sym (c .before .before .before .is-in .ensures ∙ ap (isIn Ready) (c .before .before .before .before .task-in .ensures)) ∙ not-false _ (c .before .before .if3 .left)), (sym (c .before .is-at .ensures ∙ ap (isAt _) (c .before .before .before .before .task-in .ensures)) ∙ c .if4 .taken)) refl
 
 is-childless-requires : tie.Need-is-childless-requires
 is-childless-requires c κs = search needs
 
 returns-5 : tie.Need-returns-5
 unfolding judgedMove
-returns-5 c = rw ((tested (c .before .before .before .before .before .before .before .before .before .before .before .before .is-within .ensures) (c .before .before .before .before .before .before .before .before .before .before .before .before .before .before .wide8 .ensures) (c .before .before .before .before .before .before .before .before .before .before .before .before .before .wide82 .ensures) ∙ not-false _ (c .before .before .before .before .before .before .before .before .before .before .before .if1 .left)), (tested (c .before .before .before .before .before .before .before .before .is-within2 .ensures) (c .before .before .before .before .before .before .before .before .before .before .wide83 .ensures) (c .before .before .before .before .before .before .before .before .before .wide16 .ensures) ∙ not-false _ (c .before .before .before .before .before .before .before .if2 .left)), (sym (c .before .before .before .before .before .is-ready .ensures ∙ ap (isIn Ready) (c .before .before .before .before .before .before .task-in .ensures)) ∙ not-false _ (c .before .before .before .before .if3 .left)), (sym (c .before .before .before .is-at .ensures ∙ ap (isAt _) (c .before .before .before .before .before .before .task-in .ensures)) ∙ c .before .before .if4 .left), (sym (c .before .is-childless .ensures ∙ ap isChildless (c .before .before .before .before .before .before .task-in .ensures)) ∙ not-true _ (c .if5 .taken))) refl
+returns-5 c = rw ((tested (c .before .before .before .before .before .before .before .before .before .before .before .before .is-within .ensures) (c .before .before .before .before .before .before .before .before .before .before .before .before .before .before .wide8 .ensures) (c .before .before .before .before .before .before .before .before .before .before .before .before .before .wide82 .ensures) ∙ not-false _ (c .before .before .before .before .before .before .before .before .before .before .before .if1 .left)), (tested (c .before .before .before .before .before .before .before .before .is-within2 .ensures) (c .before .before .before .before .before .before .before .before .before .before .wide83 .ensures) (c .before .before .before .before .before .before .before .before .before .wide16 .ensures) ∙ not-false _ (c .before .before .before .before .before .before .before .if2 .left)), (sym (c .before .before .before .before .before .is-in .ensures ∙ ap (isIn Ready) (c .before .before .before .before .before .before .task-in .ensures)) ∙ not-false _ (c .before .before .before .before .if3 .left)), (sym (c .before .before .before .is-at .ensures ∙ ap (isAt _) (c .before .before .before .before .before .before .task-in .ensures)) ∙ c .before .before .if4 .left), (sym (c .before .is-childless .ensures ∙ ap isChildless (c .before .before .before .before .before .before .task-in .ensures)) ∙ not-true _ (c .if5 .taken))) refl
 
 returns-6 : tie.Need-returns-6
 unfolding judgedMove
@@ -89,7 +89,7 @@ returns-6 c =
     let x = taskIn (c .before .before .before .before .before .before .before .before .before .before .before .before .before .before .before .before .before .args .tasks) (c .before .before .before .before .before .before .before .before .before .before .before .before .before .before .before .before .before .args .t) in
     let m : c .before .before .before .before .before .before .before .before .task-in .result .moves ≡ x .moves = ap (λ (y : Task). y .moves) (c .before .before .before .before .before .before .before .before .task-in .ensures) in
     let a : within 1 (c .before .before .before .before .before .before .before .before .before .before .before .before .before .before .before .before .before .args .count) (c .before .before .before .before .before .before .before .before .before .before .before .before .before .before .before .before .before .args .t .0) ≡ true = tested (c .before .before .before .before .before .before .before .before .before .before .before .before .before .before .is-within .ensures) (c .before .before .before .before .before .before .before .before .before .before .before .before .before .before .before .before .wide8 .ensures) (c .before .before .before .before .before .before .before .before .before .before .before .before .before .before .before .wide82 .ensures) ∙ not-false _ (c .before .before .before .before .before .before .before .before .before .before .before .before .before .if1 .left) in
-    let r : isIn Ready x ≡ true = sym (c .before .before .before .before .before .before .before .is-ready .ensures ∙ ap (isIn Ready) (c .before .before .before .before .before .before .before .before .task-in .ensures)) ∙ not-false _ (c .before .before .before .before .before .before .if3 .left) in
+    let r : isIn Ready x ≡ true = sym (c .before .before .before .before .before .before .before .is-in .ensures ∙ ap (isIn Ready) (c .before .before .before .before .before .before .before .before .task-in .ensures)) ∙ not-false _ (c .before .before .before .before .before .before .if3 .left) in
     let e : eqb (x .moves) 9999 ≡ true = eq-eqb (x .moves) 9999 (omega (arith, c .before .before .before .before .before .before .before .before .before .before .before .before .before .before .before .before .before .pre .2 a r, c .if6 .taken, m)) in
     rw (a, tested (c .before .before .before .before .before .before .before .before .before .before .is-within2 .ensures) (c .before .before .before .before .before .before .before .before .before .before .before .before .wide83 .ensures) (c .before .before .before .before .before .before .before .before .before .before .before .wide16 .ensures) ∙ not-false _ (c .before .before .before .before .before .before .before .before .before .if2 .left), r, sym (c .before .before .before .before .before .is-at .ensures ∙ ap (isAt _) (c .before .before .before .before .before .before .before .before .task-in .ensures)) ∙ c .before .before .before .before .if4 .left, sym (c .before .before .before .is-childless .ensures ∙ ap isChildless (c .before .before .before .before .before .before .before .before .task-in .ensures)) ∙ not-false _ (c .before .before .if5 .left), e)
     refl
@@ -106,7 +106,7 @@ returns-7 c =
     let x = taskIn (c .before .before .before .before .before .before .before .before .before .before .before .before .before .before .before .before .before .before .before .args .tasks) (c .before .before .before .before .before .before .before .before .before .before .before .before .before .before .before .before .before .before .before .args .t) in
     let m : c .before .before .before .before .before .before .before .before .before .before .task-in .result .moves ≡ x .moves = ap (λ (y : Task). y .moves) (c .before .before .before .before .before .before .before .before .before .before .task-in .ensures) in
     let a : within 1 (c .before .before .before .before .before .before .before .before .before .before .before .before .before .before .before .before .before .before .before .args .count) (c .before .before .before .before .before .before .before .before .before .before .before .before .before .before .before .before .before .before .before .args .t .0) ≡ true = tested (c .before .before .before .before .before .before .before .before .before .before .before .before .before .before .before .before .is-within .ensures) (c .before .before .before .before .before .before .before .before .before .before .before .before .before .before .before .before .before .before .wide8 .ensures) (c .before .before .before .before .before .before .before .before .before .before .before .before .before .before .before .before .before .wide82 .ensures) ∙ not-false _ (c .before .before .before .before .before .before .before .before .before .before .before .before .before .before .before .if1 .left) in
-    let r : isIn Ready x ≡ true = sym (c .before .before .before .before .before .before .before .before .before .is-ready .ensures ∙ ap (isIn Ready) (c .before .before .before .before .before .before .before .before .before .before .task-in .ensures)) ∙ not-false _ (c .before .before .before .before .before .before .before .before .if3 .left) in
+    let r : isIn Ready x ≡ true = sym (c .before .before .before .before .before .before .before .before .before .is-in .ensures ∙ ap (isIn Ready) (c .before .before .before .before .before .before .before .before .before .before .task-in .ensures)) ∙ not-false _ (c .before .before .before .before .before .before .before .before .if3 .left) in
     let e : eqb (x .moves) 9999 ≡ false = ne-eqb (x .moves) 9999 (λ q. omega (arith, m, q, c .before .before .if6 .left)) in
     rw (a, tested (c .before .before .before .before .before .before .before .before .before .before .before .before .is-within2 .ensures) (c .before .before .before .before .before .before .before .before .before .before .before .before .before .before .wide83 .ensures) (c .before .before .before .before .before .before .before .before .before .before .before .before .before .wide16 .ensures) ∙ not-false _ (c .before .before .before .before .before .before .before .before .before .before .before .if2 .left), r, sym (c .before .before .before .before .before .before .before .is-at .ensures ∙ ap (isAt _) (c .before .before .before .before .before .before .before .before .before .before .task-in .ensures)) ∙ c .before .before .before .before .before .before .if4 .left, sym (c .before .before .before .before .before .is-childless .ensures ∙ ap isChildless (c .before .before .before .before .before .before .before .before .before .before .task-in .ensures)) ∙ not-false _ (c .before .before .before .before .if5 .left), e)
     (c .fitting .ensures ∙ ap (fittingIn _ _) (c .before .move-change .ensures ∙ ap (λ (y : Task). moveChange (c .before .before .before .before .before .before .before .before .before .before .before .before .before .before .before .before .before .before .before .args .t) y (processorId (c .before .before .before .before .before .before .before .before .before .before .before .before .before .before .before .before .before .before .before .args .to))) (c .before .before .before .before .before .before .before .before .before .before .task-in .ensures)))
@@ -125,7 +125,7 @@ judge-move-spec =
     returns-2
     cast-t16
     task-in-requires
-    is-ready-requires
+    is-in-requires
     returns-3
     is-at-requires
     returns-4

@@ -49,7 +49,7 @@ task-few c =
 ready : (c : tie.Else2) → let a = c .before .before .before .before .before .before .before .args in isIn Ready (taskIn (a .tasks) (a .t)) ≡ true
 ready c =
     let l = c .before in
-    rw (l .before .task-in .ensures) at (sym (l .is-ready .ensures) ∙ not-false (l .is-ready .result) (c .if2 .left))
+    rw (l .before .task-in .ensures) at (sym (l .is-in .ensures) ∙ not-false (l .is-in .result) (c .if2 .left))
 
 -- what each call gave
 next : (c : tie.After-instruction-in)
@@ -113,15 +113,15 @@ returns c =
 task-in-requires : tie.Need-task-in-requires
 task-in-requires c κs = task-few c
 
-is-ready-requires : tie.Need-is-ready-requires
-is-ready-requires c κs = search needs
+is-in-requires : tie.Need-is-in-requires
+is-in-requires c κs = search needs
 
 returns-2 : tie.Need-returns-2
 returns-2 c =
     let l = c .before in
     sym
     (run-not-ready _ _ _ _ _ _ (numbered (l .before .before))
-    (rw (l .before .task-in .ensures) at (sym (l .is-ready .ensures) ∙ not-true (l .is-ready .result) (c .if2 .taken))))
+    (rw (l .before .task-in .ensures) at (sym (l .is-in .ensures) ∙ not-true (l .is-in .result) (c .if2 .taken))))
 
 instruction-in-requires : tie.Need-instruction-in-requires
 instruction-in-requires c κs =
@@ -207,7 +207,7 @@ judge-run-spec =
     is-within-requires
     returns
     task-in-requires
-    is-ready-requires
+    is-in-requires
     returns-2
     instruction-in-requires
     is-childless-requires

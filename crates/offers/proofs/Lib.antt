@@ -1,0 +1,2 @@
+-- The ways of an offer letter.
+mod Cases

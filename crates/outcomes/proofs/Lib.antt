@@ -1,0 +1,2 @@
+-- How the variants of a letter are told apart.
+pub mod Others

@@ -1,0 +1,2 @@
+-- What a letter without effect leaves.
+pub mod Outcomes
