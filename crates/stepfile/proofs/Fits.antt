@@ -16,7 +16,7 @@ use Rattle.rules.specs.Trace.{stepLines}
 use Rattle.rules.specs.StepFiles.{text, fitting}
 use Rattle.trace.specs.Output.{Emitted, Filled}
 use Rattle.trace.proofs.Filling.{filled-length, filled-more, filled-same}
-use Rattle.trace.proofs.Texts.{text-append, text-more, fitting-stops, text-too-long}
+use Rattle.trace_laws.proofs.Texts.{text-append, text-more, fitting-stops, text-too-long}
 use Rattle.stepfile.specs.declared.drive.Driven.{Driven}
 use Rattle.stepfile.specs.Writes.{Written, Ended}
 

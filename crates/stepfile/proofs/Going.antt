@@ -26,7 +26,7 @@ use Rattle.core.specs.Turns.{turnOf, Rig}
 use Rattle.core.proofs.Rigs.{rig-next}
 use Rattle.trace.specs.Output.{Emitted, Filled}
 use Rattle.trace.proofs.Filling.{filled-none, filled-length, filled-more, filled-same, filled-fitted, filled-short}
-use Rattle.trace.proofs.Texts.{text-more, step-lines-more}
+use Rattle.trace_laws.proofs.Texts.{text-more, step-lines-more}
 use Rattle.stepfile.specs.Writes.{Turns, turnsOf, RanTo}
 use Rattle.stepfile.proofs.Fits.{step-lines-append, filled-written, filled-stopped}
 use Rattle.stepfile.proofs.Turns.{turns-append, turns-reports}

@@ -4,7 +4,7 @@ use native.Mathlib.Omega.{arith}
 use lib.ListN.{length}
 use borrow.Author.Needs.{needs}
 use Rattle.rules.specs.Trace.{decimal}
-use Rattle.trace.proofs.Decimals.{five-digits}
+use Rattle.trace_laws.proofs.Decimals.{five-digits}
 use Rattle.trace.proofs.Adding.{adds-more}
 use Rattle.trace.proofs.Lines.{held, end-text}
 use Rattle.trace.proofs.end_line.Statement.{statement}

@@ -4,7 +4,7 @@ use native.Mathlib.Omega.{arith}
 use borrow.Author.Needs.{needs}
 use borrow.Fn.Kinds.{In}
 use borrow.Fn.PlainCycle.{Measures, is, falls, and}
-use Rattle.trace.proofs.Decimals.{decimal-one, decimal-more, length-more, some-digit}
+use Rattle.trace_laws.proofs.Decimals.{decimal-one, decimal-more, length-more, some-digit}
 use Rattle.trace.proofs.Adding.{adds-more}
 use Rattle.trace.proofs.line.Line.number.Reads as number
 use Rattle.trace.proofs.line.Line.number.Kinds as number-kinds

@@ -1,0 +1,2 @@
+-- What a trace's bound is stated with.
+pub mod Words
