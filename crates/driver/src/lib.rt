@@ -3,7 +3,7 @@ ghost use mathlib.Core.Path.{_≡_};
 ghost use Prim.Native.Nat.{_≤_};
 ghost use Rattle.plan.specs.Outcomes.{startNumber};
 ghost use Rattle.rules.specs.Answers.{runNumber};
-ghost use Rattle.driver.specs.Runs.{packed, RunMeets};
+ghost use Rattle.driver.specs.Runs.{packed, enough, RunMeets};
 use plan::Refusal;
 use rules::step::RunAnswer;
 use stepfile::run::run_file;
@@ -35,11 +35,10 @@ fn run_number(a: RunAnswer) -> u32
 
 // Both numbers in one.
 fn packed(number: u32, filled: usize) -> u64
-    requires { ⌜ number ≤ 20 ⌝ }
+    requires { ⌜ (number ≤ 20) × (filled ≤ enough) ⌝ }
     ensures { λ r. ⌜ r ≡ packed number filled ⌝ }
 {
-    let bytes = filled % 36028797018963968;
-    number as u64 + 256 * (bytes as u64)
+    number as u64 + 256 * (filled as u64)
 }
 
 // The run: a plan file and a step file on this many desks, the trace into the lent output. The number

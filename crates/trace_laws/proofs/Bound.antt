@@ -88,7 +88,7 @@ written-short Accepted true ls room k h = go (leb (length (text ls)) room)
     go false = omega (arith, fitting-short room ls, h refl refl)
 
 -- the trace of an accepted file
-start-short : (n : ℕ) (p b : List ℕ) → startAnswer n p ≡ Accepted → stepsOk b ≡ true → length (text (traceLines (startOf n p) (fileSteps b))) ≤ 34010
+pub start-short : (n : ℕ) (p b : List ℕ) → startAnswer n p ≡ Accepted → stepsOk b ≡ true → length (text (traceLines (startOf n p) (fileSteps b))) ≤ 34010
 unfolding startOf
 start-short n p b a s =
     let x = canonical (filePrograms p) in

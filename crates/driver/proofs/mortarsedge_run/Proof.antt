@@ -1,7 +1,11 @@
 -- `mortarsedge_run`.
-use mathlib.Core.Path.{refl, _∙_}
+use mathlib.Core.Path.{_∙_, ap, ap₂}
+use Rattle.rules.specs.Answers.{runNumber}
 use Rattle.claim.proofs.Files.{demand-3-file}
-use Rattle.driver.specs.Runs.{runOutcome}
+use Rattle.driver.specs.Runs.{packed, runOutcome}
+use native.Mathlib.Omega.{arith}
+use Rattle.trace_laws.proofs.Bound.{run-text-short}
+use Rattle.driver.proofs.Room.{room-enough}
 use Rattle.driver.proofs.Traced.{output-lines}
 use borrow.Author.Needs.{needs}
 use Rattle.driver.proofs.mortarsedge_run.Statement.{statement}
@@ -19,7 +23,10 @@ run-number-requires : tie.Need-run-number-requires
 run-number-requires c κs = search needs
 
 packed-requires : tie.Need-packed-requires
-packed-requires c κs = search needs
+packed-requires c κs =
+    let f = c .before .before .before in
+    let a = f .before .before .before .before .before .args in
+    (c .run-number .ensures .1, omega (arith, f .run-file .ensures .count, run-text-short (a .desks) (a .plan .now) (a .steps .now) (a .out .now)))
 
 same-length : tie.Need-same-length
 same-length c = search needs
@@ -31,8 +38,9 @@ returns c =
     let a = f .before .before .before .before .before .args in
     let r = f .run-file .ensures in
     record {
-      outcome = c .packed .ensures ∙ rw (c .before .run-number .ensures .0, r .answered, r .count) refl;
+      outcome = c .packed .ensures ∙ ap₂ packed (c .before .run-number .ensures .0 ∙ ap runNumber (r .answered)) (r .count);
       bytes = r .bytes;
+      room = room-enough (a .desks) (a .plan .now) (a .steps .now) (a .out .now);
       demand-3 = λ h. demand-3-file (a .desks) (a .plan .now) h (a .steps .now);
       lines = λ h. r .bytes ∙ output-lines (a .desks) (a .plan .now) (a .steps .now) (a .out .now) h;
     }
