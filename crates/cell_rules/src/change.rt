@@ -2,8 +2,8 @@
 ghost use mathlib.Core.Path.{_≡_};
 ghost use Prim.Native.Nat.{_<_};
 ghost use Rattle.rules.specs.Cells.{carrying, holding, noting, granting, cleared, passing};
-use cells::fields;
-use cells::order;
+use crate::fields;
+use crate::order;
 use plan::ProcessorId;
 use rules::channel::Cell;
 use rules::channel::Offer;
@@ -12,18 +12,16 @@ use rules::channel::Offer;
 pub fn carrying(x: Cell, o: Offer) -> Cell
     ensures { λ r. ⌜ r ≡ carrying x o ⌝ }
 {
-    let k = x.channel;
-    let carried = k.carried;
+    let carried = x.channel.carried;
     let kept = order::larger(carried, o);
-    fields::with_carried(x, kept)
+    cells::fields::with_carried(x, kept)
 }
 
 // An offer is held at the desk, beside one that may be there.
 pub fn holding(x: Cell, o: Offer) -> Cell
     ensures { λ r. ⌜ r ≡ holding x o ⌝ }
 {
-    let e = x.entry;
-    let held = e.held;
+    let held = x.entry.held;
     let kept = order::larger(held, o);
     fields::with_held(x, kept)
 }
@@ -32,34 +30,40 @@ pub fn holding(x: Cell, o: Offer) -> Cell
 pub fn noting(x: Cell, d: ProcessorId) -> Cell
     ensures { λ r. ⌜ r ≡ noting x d ⌝ }
 {
-    let e = x.entry;
-    let noted = e.noted;
+    let noted = x.entry.noted;
     let kept = order::first_noted(noted, d);
-    fields::with_noted(x, kept)
+    cells::fields::with_noted(x, kept)
 }
 
 // One more word is called for, and the call is marked.
-pub fn granting(x: Cell) -> Cell
+pub fn granting(mut x: Cell) -> Cell
     requires { ⌜ x .channel .granted < 255 ⌝ }
     ensures { λ r. ⌜ r ≡ granting x ⌝ }
 {
-    let k = x.channel;
-    let called = k.granted + 1;
-    let counted = fields::with_granted(x, called);
-    fields::with_awaiting(counted, true)
+    let mut k = x.channel;
+    k.granted = k.granted + 1;
+    k.awaiting = true;
+    x.channel = k;
+    x
 }
 
 // The mark of a call is gone.
-pub fn cleared(x: Cell) -> Cell
+pub fn cleared(mut x: Cell) -> Cell
     ensures { λ r. ⌜ r ≡ cleared x ⌝ }
 {
-    fields::with_awaiting(x, false)
+    let mut k = x.channel;
+    k.awaiting = false;
+    x.channel = k;
+    x
 }
 
 // The w-th word passes directly.
 pub fn passing(x: Cell, w: u8) -> Cell
     ensures { λ r. ⌜ r ≡ passing x w ⌝ }
 {
-    let counted = fields::with_granted(x, w);
-    cleared(counted)
+    let mut y = cleared(x);
+    let mut k = y.channel;
+    k.granted = w;
+    y.channel = k;
+    y
 }

@@ -4,9 +4,7 @@ ghost use Rattle.rules.specs.Arrivals.{takenOver, arrivalReceiving, arrivalSend
 ghost use Rattle.rules.specs.Moves.{departureSending};
 ghost use Rattle.rules.specs.Starts.{located};
 use crate::change;
-use cells::fields;
-use cells::order;
-use cells::test;
+use crate::fields;
 use plan::ProcessorId;
 use rules::channel::Cell;
 use rules::channel::Hint;
@@ -19,17 +17,16 @@ pub fn located(x: Cell, d: ProcessorId, n: u16) -> Cell
         processor: d,
         moves: n,
     };
-    fields::with_hint(x, h)
+    cells::fields::with_hint(x, h)
 }
 
 // The desk's held offer is carried if it counts, and then held no more.
 fn taken_over(x: Cell) -> Cell
     ensures { λ r. ⌜ r ≡ takenOver x ⌝ }
 {
-    let e = x.entry;
-    let held = e.held;
-    let none = order::no_offer();
-    let counted = test::counts(x, held);
+    let held = x.entry.held;
+    let none = cells::order::no_offer();
+    let counted = cells::test::counts(x, held);
     if counted {
         let carried = change::carrying(x, held);
         fields::with_held(carried, none)
@@ -50,13 +47,11 @@ pub fn arrival_receiving(x: Cell, d: ProcessorId, n: u16) -> Cell
 pub fn arrival_sending(x: Cell) -> Cell
     ensures { λ r. ⌜ r ≡ arrivalSending x ⌝ }
 {
-    let e = x.entry;
-    let own = e.hint;
-    let k = x.channel;
-    let travelling = k.travelling;
-    let kept = order::newer(own, travelling);
-    let none = order::unknown();
-    let known = fields::with_hint(x, kept);
+    let own = x.entry.hint;
+    let travelling = x.channel.travelling;
+    let kept = cells::order::newer(own, travelling);
+    let none = cells::order::unknown();
+    let known = cells::fields::with_hint(x, kept);
     fields::with_travelling(known, none)
 }
 
@@ -64,7 +59,6 @@ pub fn arrival_sending(x: Cell) -> Cell
 pub fn departure_sending(x: Cell) -> Cell
     ensures { λ r. ⌜ r ≡ departureSending x ⌝ }
 {
-    let e = x.entry;
-    let h = e.hint;
+    let h = x.entry.hint;
     fields::with_travelling(x, h)
 }

@@ -1,6 +1,6 @@
-// Which of two is kept: pointers, offers, adverts; and what stands for none.
+// Which of two pointers is kept; what stands for none.
 ghost use mathlib.Core.Path.{_≡_};
-ghost use Rattle.rules.specs.Cells.{unknown, noOffer, newer, larger, firstNoted};
+ghost use Rattle.rules.specs.Cells.{unknown, noOffer, newer};
 use plan::ProcessorId;
 use rules::channel::Hint;
 use rules::channel::Offer;
@@ -19,8 +19,9 @@ pub fn unknown() -> Hint
 pub fn no_offer() -> Offer
     ensures { λ r. ⌜ r ≡ noOffer ⌝ }
 {
+    let none = ProcessorId(0);
     Offer {
-        processor: ProcessorId(0),
+        processor: none,
         number: 0,
     }
 }
@@ -30,22 +31,4 @@ pub fn newer(own: Hint, other: Hint) -> Hint
     ensures { λ r. ⌜ r ≡ newer own other ⌝ }
 {
     if own.moves < other.moves { other } else { own }
-}
-
-// The offer with the larger number; the earlier of equals.
-pub fn larger(earlier: Offer, later: Offer) -> Offer
-    ensures { λ r. ⌜ r ≡ larger earlier later ⌝ }
-{
-    if earlier.number < later.number {
-        later
-    } else {
-        earlier
-    }
-}
-
-// Of two adverts the first stays.
-pub fn first_noted(first: ProcessorId, later: ProcessorId) -> ProcessorId
-    ensures { λ r. ⌜ r ≡ firstNoted first later ⌝ }
-{
-    if first.0 == 0 { later } else { first }
 }

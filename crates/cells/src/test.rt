@@ -8,14 +8,12 @@ use rules::channel::Offer;
 pub fn counts(x: Cell, o: Offer) -> bool
     ensures { λ r. ⌜ r ≡ counts x o ⌝ }
 {
-    let k = x.channel;
-    k.granted < o.number
+    x.channel.granted < o.number
 }
 
 // No word was called for.
 pub fn none_called(x: Cell) -> bool
     ensures { λ r. ⌜ r ≡ noneCalled x ⌝ }
 {
-    let k = x.channel;
-    k.granted == 0
+    x.channel.granted == 0
 }

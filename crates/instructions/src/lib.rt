@@ -20,8 +20,8 @@ pub fn create_rule(x: Task, u: TaskId) -> Task
     requires { ⌜ (x .pc < 255) × (1 ≤ u .0) × (u .0 ≤ 64) ⌝ }
     ensures { λ r. ⌜ r ≡ createRule x u ⌝ }
 {
-    let joined = children::with_child(x, u);
-    change::advanced(joined)
+    let next = change::advanced(x);
+    children::with_child(next, u)
 }
 
 // Sync.
@@ -29,11 +29,11 @@ pub fn sync_rule(x: Task) -> Task
     requires { ⌜ x .pc < 255 ⌝ }
     ensures { λ r. ⌜ r ≡ syncRule x ⌝ }
 {
+    let next = change::advanced(x);
     if children::is_childless(x) {
-        change::advanced(x)
+        next
     } else {
-        let waiting = x.with_state(TaskState::Waiting);
-        change::advanced(waiting)
+        next.with_state(TaskState::Waiting)
     }
 }
 
@@ -44,8 +44,8 @@ pub fn finish_rule(t: TaskId, x: Task, parent: Task) -> Finished
 {
     let at = x.processor;
     let home = x.home;
-    let ended = x.with_state(TaskState::Done);
-    let done = change::advanced(ended);
+    let next = change::advanced(x);
+    let done = next.with_state(TaskState::Done);
     if t.0 == 1 {
         return Finished {
             task: done,

@@ -3,14 +3,14 @@ use borrow.Author.Needs.{needs}
 use Rattle.instructions.proofs.create_rule.Statement.{statement}
 use Rattle.instructions.proofs.create_rule.Tie as tie
 
+advanced-requires : tie.Need-advanced-requires
+advanced-requires c κs = search needs
+
 with-child-requires : tie.Need-with-child-requires
 with-child-requires c κs = search needs
 
-advanced-requires : tie.Need-advanced-requires
-advanced-requires c κs = simp (c .with-child .ensures) (search needs)
-
 returns : tie.Need-returns
-returns c = simp (c .advanced .ensures, c .before .with-child .ensures)
+returns c = simp (c .with-child .ensures, c .before .advanced .ensures)
 
 pub create-rule-spec : {M : Type 1} → statement M
-create-rule-spec = tie.close (tie.spec with-child-requires advanced-requires returns)
+create-rule-spec = tie.close (tie.spec advanced-requires with-child-requires returns)

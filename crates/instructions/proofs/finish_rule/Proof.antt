@@ -6,15 +6,15 @@ use borrow.Author.Needs.{needs}
 use Rattle.instructions.proofs.finish_rule.Statement.{statement}
 use Rattle.instructions.proofs.finish_rule.Tie as tie
 
+advanced-requires : tie.Need-advanced-requires
+advanced-requires c κs = search needs
+
 with-state-requires : tie.Need-with-state-requires
 with-state-requires c κs = search needs
 
-advanced-requires : tie.Need-advanced-requires
-advanced-requires c κs = simp (c .with-state .ensures) (search needs)
-
 returns : tie.Need-returns
 unfolding finishRule
-returns c = simp (eq-eqb _ _ (c .if1 .taken), c .before .before .advanced .ensures, c .before .before .before .with-state .ensures)
+returns c = simp (eq-eqb _ _ (c .if1 .taken), c .before .before .with-state .ensures, c .before .before .before .advanced .ensures)
 
 is-at-requires : tie.Need-is-at-requires
 is-at-requires c κs = search needs
@@ -26,20 +26,20 @@ returns-2 : tie.Need-returns-2
 unfolding finishRule
 returns-2 c =
     let here = sym (c .before .before .is-at .ensures) ∙ c .before .if2 .taken in
-    simp (ne-eqb _ _ (c .before .before .before .if1 .left), here, c .without-child .ensures, c .before .before .before .before .before .advanced .ensures, c .before .before .before .before .before .before .with-state .ensures)
+    simp (ne-eqb _ _ (c .before .before .before .if1 .left), here, c .without-child .ensures, c .before .before .before .before .before .with-state .ensures, c .before .before .before .before .before .before .advanced .ensures)
 
 returns-3 : tie.Need-returns-3
 unfolding finishRule
 returns-3 c =
     let elsewhere = sym (c .before .is-at .ensures) ∙ c .if2 .left in
-    simp (ne-eqb _ _ (c .before .before .if1 .left), elsewhere, c .before .before .before .before .advanced .ensures, c .before .before .before .before .before .with-state .ensures)
+    simp (ne-eqb _ _ (c .before .before .if1 .left), elsewhere, c .before .before .before .before .with-state .ensures, c .before .before .before .before .before .advanced .ensures)
 
 pub finish-rule-spec : {M : Type 1} → statement M
 finish-rule-spec =
     tie.close
     (tie.spec
-    with-state-requires
     advanced-requires
+    with-state-requires
     returns
     is-at-requires
     without-child-requires

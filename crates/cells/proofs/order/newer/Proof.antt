@@ -1,4 +1,5 @@
 -- `newer` keeps the pointer of the larger count.
+use native.Mathlib.Omega.{arith}
 use borrow.Author.Tests.{lt-ltb, le-ltb}
 use Rattle.rules.specs.Cells.{newer}
 use Rattle.cells.proofs.order.newer.Statement.{statement}
@@ -6,11 +7,11 @@ use Rattle.cells.proofs.order.newer.Tie as tie
 
 returns : tie.Need-returns
 unfolding newer
-returns c = simp (lt-ltb _ _ (c .if1 .taken))
+returns c = let a = c .before .before .before .args in simp (lt-ltb (a .own .moves) (a .other .moves) (omega arith))
 
 returns-2 : tie.Need-returns-2
 unfolding newer
-returns-2 c = simp (le-ltb _ _ (c .if1 .left))
+returns-2 c = let a = c .before .before .before .args in simp (le-ltb (a .own .moves) (a .other .moves) (omega arith))
 
 pub newer-spec : {M : Type 1} → statement M
 newer-spec = tie.close (tie.spec returns returns-2)

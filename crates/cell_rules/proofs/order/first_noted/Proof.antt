@@ -1,8 +1,8 @@
 -- `first_noted` keeps the first advert.
 use borrow.Author.Tests.{eq-eqb, ne-eqb}
 use Rattle.rules.specs.Cells.{firstNoted}
-use Rattle.cells.proofs.order.first_noted.Statement.{statement}
-use Rattle.cells.proofs.order.first_noted.Tie as tie
+use Rattle.cell_rules.proofs.order.first_noted.Statement.{statement}
+use Rattle.cell_rules.proofs.order.first_noted.Tie as tie
 
 returns : tie.Need-returns
 unfolding firstNoted
