@@ -5,14 +5,14 @@ use Rattle.rules.specs.Numbers.{isNone}
 use Rattle.rules.specs.Tasks.{isAt}
 use Rattle.rules.specs.Cells.{noneCalled}
 
--- "the receiver is at d, receiving on c and has not called", of a send at d
+-- of a send: the receiver is at the same desk, and waits for a word that it has not called for
 abbrev pub receivesHere : Site → Bool
 receivesHere x = isAt (x .sender .processor) (x .receiver) && (x .receiving && not (x .cell .channel .awaiting))
 
--- "its sender is sending on c at d", of a receive at d
+-- of a receive: the sender is at the same desk, and waits
 abbrev pub sendsHere : Site → Bool
 sendsHere x = x .sending && isAt (x .receiver .processor) (x .sender)
 
--- "called is 0", and there is "an advert noted at d"
+-- of a receive: an advert is noted, and no word was called for
 abbrev pub advertStands : Site → Bool
 advertStands x = noneCalled (x .cell) && not (isNone (x .cell .entry .noted))

@@ -52,8 +52,8 @@ returns-2 : tie.Need-returns-2
 unfolding sendRule
 returns-2 c =
     let t = c .before .before in
-    rw (not-received (t .before .before), sym (t .before .is-at .ensures) ∙ t .if2 .taken, ← c .before .carrying .ensures)
-    (c .send-waits .ensures)
+    rw (not-received (t .before .before), sym (t .before .is-at .ensures) ∙ t .if2 .taken)
+    (rw (c .before .carrying .ensures) at (c .send-waits .ensures))
 
 is-none-requires : tie.Need-is-none-requires
 is-none-requires c κs = search needs
@@ -84,8 +84,8 @@ returns-4 c =
     let t = c .before .before in
     let k = t .before .before in
     let e = k .before .before in
-    rw (not-received (e .before .before), not-here e, known k, sym (t .before .same-processor .ensures) ∙ t .if4 .taken, ← c .before .holding .ensures)
-    (c .send-waits3 .ensures)
+    rw (not-received (e .before .before), not-here e, known k, sym (t .before .same-processor .ensures) ∙ t .if4 .taken)
+    (rw (c .before .holding .ensures) at (c .send-waits3 .ensures))
 
 send-waits-requires-4 : tie.Need-send-waits-requires-4
 send-waits-requires-4 c κs = search needs
