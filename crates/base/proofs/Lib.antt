@@ -12,4 +12,5 @@ pub mod Beginnings
 pub mod Counts
 pub mod Maps
 pub mod Pairs
+pub mod Scans
 pub mod Sets

@@ -1,11 +1,11 @@
 -- Laws of a test of each element and of each pair of elements: what it says of one place, that it follows from all places, and that a store
--- keeps it.
+-- and a part keep it.
 use mathlib.Core.Path.{_≡_, refl}
 use mathlib.Core.Bool.{Bool, true}
 use mathlib.Core.List.{List, [], _∷_}
 use Prim.Native.Nat.{ℕ, zero, suc, _<_}
 use native.Mathlib.Omega.{arith}
-use lib.ListN.{length, getD, set}
+use lib.ListN.{length, getD, set, take, drop}
 use Rattle.base.specs.Lists.{every, everyPair}
 use Rattle.base.proofs.Tests.{and-left, and-right, and-both}
 
@@ -20,6 +20,26 @@ module _ {A : Type 0} (p : A → Bool) where
   every-set [] i y h q = refl
   every-set (x ∷ xs) zero y h q = and-both (p y) (every p xs) q (and-right (p x) (every p xs) h)
   every-set (x ∷ xs) (suc i) y h q = and-both (p x) _ (and-left (p x) (every p xs) h) (every-set xs i y (and-right (p x) (every p xs) h) q)
+
+  -- any place, where the default passes too
+  pub every-any : (xs : List A) (i : ℕ) (d : A) → p d ≡ true → every p xs ≡ true → p (getD xs i d) ≡ true
+  unfolding every
+  every-any [] i d z h = z
+  every-any (x ∷ xs) zero d z h = and-left (p x) (every p xs) h
+  every-any (x ∷ xs) (suc i) d z h = every-any xs i d z (and-right (p x) (every p xs) h)
+
+  -- a part
+  pub every-take : (n : ℕ) (xs : List A) → every p xs ≡ true → every p (take n xs) ≡ true
+  unfolding every
+  every-take zero xs h = refl
+  every-take (suc n) [] h = refl
+  every-take (suc n) (x ∷ xs) h = and-both (p x) _ (and-left (p x) (every p xs) h) (every-take n xs (and-right (p x) (every p xs) h))
+
+  pub every-drop : (n : ℕ) (xs : List A) → every p xs ≡ true → every p (drop n xs) ≡ true
+  unfolding every
+  every-drop zero xs h = h
+  every-drop (suc n) [] h = refl
+  every-drop (suc n) (x ∷ xs) h = every-drop n xs (and-right (p x) (every p xs) h)
 
 module _ {A : Type 0} {B : Type 0} (p : A → B → Bool) where
   pub everyPair-at : (xs : List A) (ys : List B) (i : ℕ) (a : A) (b : B) → i < length xs → i < length ys → everyPair p xs ys ≡ true

@@ -7,7 +7,7 @@ use Prim.Native.Nat.{ℕ, zero, suc, _+_, _<_}
 use native.Mathlib.Numerals.{add-one}
 use native.Mathlib.Omega.{arith}
 use native.Mathlib.Decide.{ℕ-discrete}
-use lib.ListN.{length, length-append, getD, set, length-set, List·getD-append}
+use lib.ListN.{length, length-append, getD, set, replicate, length-set, length-replicate, getD-replicate, List·getD-append}
 use lib.Seq.{ext-getD, getD-append-add, getD-set-same, getD-set-other}
 use Rattle.base.specs.Range.{fold, below}
 use Rattle.base.specs.Lists.{every, table, tableBefore}
@@ -57,6 +57,15 @@ module _ {A : Type 0} where
       ext-getD d (table (length l) (λ i. getD l i d)) l
       (length-table (length l) (λ i. getD l i d))
       (λ i h. getD-table (length l) (λ i. getD l i d) i d (rw (length-table (length l) (λ i. getD l i d)) at h))
+
+  -- one value throughout
+  pub all-same : (n : ℕ) (f : ℕ → A) (d : A) → ((i : ℕ) → i < n → f i ≡ d) → replicate n d ≡ table n f
+  all-same n f d h =
+      ext-getD d (replicate n d) (table n f)
+      (length-replicate n d ∙ sym (length-table n f))
+      (λ i q.
+      let l : i < n = rw (length-replicate n d) at q in
+      getD-replicate n i d d l ∙ sym (h i l) ∙ sym (getD-table n f i d l))
 
   -- a store changes one entry
   pub set-table : (n : ℕ) (f g : ℕ → A) (i : ℕ) (d : A) → i < n → ((j : ℕ) → j < n → j ≢ i → f j ≡ g j) → set (table n f) i (g i) ≡ table n g

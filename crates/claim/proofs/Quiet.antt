@@ -2,27 +2,20 @@
 use mathlib.Core.Path.{_≡_, refl, sym, ap, _∙_}
 use mathlib.Core.Logic.{by-cases}
 use mathlib.Core.Bool.{true, false, not, _||_}
-use mathlib.Core.List.{List, [], _∷_}
+use mathlib.Core.List.{[]}
 use Prim.Native.Nat.{ℕ, suc, _+_, _≤_}
 use native.Mathlib.Omega.{arith}
 use native.Mathlib.Decide.{ℕ-discrete}
 use lib.Dec.{eqb, leb}
 use lib.ListN.{length}
 use borrow.Author.Tests.{eqb-true, eq-eqb, le-leb, not-true}
-use Rattle.base.specs.Choice.{pick, within}
+use Rattle.base.specs.Choice.{within}
 use Rattle.base.proofs.Tests.{and-left, and-right, and-both, or-cases, within-low, within-high, within-both, up-to-at, below-all, is-false, is-true}
 use Rattle.base.proofs.Tests.{tests-differ}
-use Rattle.base.proofs.Choices.{pick-either}
-use Rattle.base.proofs.Joins.{length-joined}
-use Rattle.base.proofs.Sums.{sum-at-most}
 use Rattle.plan.specs.declared.TaskId.{TaskId}
-use Rattle.plan.specs.Numbers.{taskId, processorId}
+use Rattle.plan.specs.Numbers.{taskId}
 use Rattle.plan.specs.Kinds.{isFinish}
 use Rattle.rules.specs.declared.task.TaskState.the-variants.{Ready}
-use Rattle.rules.specs.declared.message.Message.{Message}
-use Rattle.rules.specs.declared.message.Message.the-variants.{Advert}
-use Rattle.rules.specs.declared.rule.Posting.{Posting}
-use Rattle.rules.specs.declared.rule.Posting.the-variants.{Nothing, Letter, Adverts}
 use Rattle.rules.specs.declared.step.Step.{Step}
 use Rattle.rules.specs.declared.step.StepAnswer.the-variants.{Accepted}
 use Rattle.rules.specs.declared.system.System.{System}
@@ -35,6 +28,7 @@ use Rattle.rules.specs.Systems.{taskAt}
 use Rattle.rules.specs.Runs.{nextOf, ran, fits, finishesEarly, runAnswer}
 use Rattle.rules.specs.Sound.{systemOk}
 use Rattle.rules_laws.specs.Shapes.{Shaped}
+use Rattle.rules_laws.proofs.Letters.{few-letters}
 use Rattle.rules_laws.proofs.Steps.{accepted-is, step-passed}
 use Rattle.rules_laws.proofs.StepKinds.{answer-run, answer-deliver, deliver-passed}
 use Rattle.rules_sound.proofs.Answers.{run-passed}
@@ -96,19 +90,6 @@ module _ (r : System) (ok : systemOk r ≡ true) where
       (λ ne. absurd (tests-differ (ap isAccepted (deliver-accepted 1 (omega arith) (omega arith))) (none (deliverStep 1) refl)))))
       (below-all (λ k. not (isAccepted (stepAnswer r (runStep (suc k))))) (r .plan .tasks) (λ k l. rw (none (runStep (suc k)) refl) refl))
 
--- the letters of one posting are few
-few-posted : (n : ℕ) (q : Posting) → length (lettersOf n q) ≤ suc n
-unfolding lettersOf
-few-posted n Nothing = omega arith
-few-posted n (Letter a) = omega arith
-few-posted n (Adverts c d) =
-    let f : ℕ → List Message = λ k. pick (eqb (suc k) (d .0)) [] (Advert c (processorId (suc k)) d ∷ []) in
-    let e = length-joined n f in
-    let q =
-    sum-at-most 1 n (λ k. length (f k))
-    (λ k l. pick-either (λ ls. length ls ≤ 1) (eqb (suc k) (d .0)) [] (Advert c (processorId (suc k)) d ∷ []) (omega arith) (omega arith)) in
-    omega (arith, e, q)
-
 module _ (r : System) (shaped : Shaped r) (ok : systemOk r ≡ true) (quiet : quiescent r ≡ true) where
   pub quiet-letters : reading r .letters ≡ []
   unfolding reading letters
@@ -120,7 +101,7 @@ module _ (r : System) (shaped : Shaped r) (ok : systemOk r ≡ true) (quiet : qu
   unfolding stepAnswer ruledAnswer wellFormed kindAnswer runAnswer fits
   quiet-ready t is ready =
       let few = desks-few r shaped ok in
-      let posted = few-posted (r .processors) (ran r t .posting) in
+      let posted = few-letters (r .processors) (ran r t .posting) in
       let fit : leb (r .network .used + length (lettersOf (r .processors) (ran r t .posting))) 256 ≡ true =
       le-leb (r .network .used + length (lettersOf (r .processors) (ran r t .posting))) 256 (let none = no-letters r ok quiet in omega arith) in
       let early : finishesEarly r t ≡ true =

@@ -5,13 +5,12 @@ use mathlib.Core.Logic.{_≢_, by-cases}
 use Prim.Native.Nat.{ℕ, _+_, _<_}
 use native.Mathlib.Omega.{arith}
 use native.Mathlib.Decide.{decLt}
-use lib.ListN.{set, replicate, length-replicate, getD-replicate}
-use lib.Seq.{ext-getD}
+use lib.ListN.{set}
 use lib.Dec.{ltb}
 use borrow.Author.Tests.{lt-ltb, le-ltb}
 use Rattle.base.specs.Choice.{pick}
 use Rattle.base.specs.Lists.{table}
-use Rattle.base.proofs.Tables.{length-table, getD-table, set-table}
+use Rattle.base.proofs.Tables.{set-table}
 
 -- one place more is below the bound
 pub ltb-other : (j s : ℕ) → j ≢ s → ltb j s ≡ ltb j (s + 1)
@@ -19,15 +18,6 @@ ltb-other j s e =
     by-cases (decLt j s) (λ l. simp (lt-ltb j s l, lt-ltb j (s + 1) (omega arith))) (λ l. simp (le-ltb j s (omega arith), le-ltb j (s + 1) (omega arith)))
 
 module _ {A : Type 0} where
-  -- one value throughout
-  pub all-same : (n : ℕ) (f : ℕ → A) (d : A) → ((i : ℕ) → i < n → f i ≡ d) → replicate n d ≡ table n f
-  all-same n f d h =
-      ext-getD d (replicate n d) (table n f)
-      (length-replicate n d ∙ sym (length-table n f))
-      (λ i q.
-      let l : i < n = rw (length-replicate n d) at q in
-      getD-replicate n i d d l ∙ sym (h i l) ∙ sym (getD-table n f i d l))
-
   -- one place more is done
   pub fill-more : (n : ℕ) (f old : ℕ → A) (done then : ℕ → Bool) (i : ℕ) → i < n → then i ≡ true → ((j : ℕ) → j ≢ i → done j ≡ then j)
       → set (table n (λ j. pick (done j) (f j) (old j))) i (f i) ≡ table n (λ j. pick (then j) (f j) (old j))

@@ -14,12 +14,12 @@ use Rattle.base.proofs.Choices.{pick-either}
 use Rattle.base.proofs.Folds.{fold-none, fold-more}
 use Rattle.base.proofs.Slots.{row-of, place-of}
 use Rattle.base.proofs.Sums.{sum-at-most}
-use Rattle.base.proofs.Tables.{as-table, getD-table, table-same, set-table}
+use Rattle.base.proofs.Tables.{all-same, as-table, getD-table, table-same, set-table}
 use Rattle.base.proofs.Tests.{and-false}
 use Rattle.plan.specs.Kinds.{opSend, isUse}
 use Rattle.plan_rules.specs.Slots.{slotIn}
 use Rattle.ends.specs.Numbers.{sentIn, slotNumber, sendOf, numberedTask, sendNumbers}
-use Rattle.ends.proofs.Filling.{ltb-other, all-same, fill-more}
+use Rattle.ends.proofs.Filling.{ltb-other, fill-more}
 
 module _ (opcodes operands : List ℕ) (k : ℕ) where
   pub sent-none : replicate 129 0 ≡ table 129 (sentIn opcodes operands k 0)

@@ -10,7 +10,7 @@ use lib.ListN.{length, length-append}
 use borrow.Author.Tests.{eq-eqb, ne-eqb}
 use Rattle.base.specs.Choice.{within}
 use Rattle.base.specs.Range.{fold}
-use Rattle.base.proofs.Choices.{pick-cases, pick-either}
+use Rattle.base.proofs.Choices.{pick-cases}
 use Rattle.base.proofs.Joins.{length-joined, part-of-sum}
 use Rattle.base.proofs.Tests.{within-low, within-high, within-both, tests-differ}
 use Rattle.plan.specs.declared.ChannelId.{ChannelId}
@@ -18,8 +18,6 @@ use Rattle.plan.specs.declared.ProcessorId.{ProcessorId}
 use Rattle.rules.specs.declared.message.Message.{Message}
 use Rattle.rules.specs.declared.message.Message.the-variants.{Advert}
 use Rattle.rules.specs.declared.message.Network.{Network}
-use Rattle.rules.specs.declared.rule.Posting.{Posting}
-use Rattle.rules.specs.declared.rule.Posting.the-variants.{Nothing, Letter, Adverts}
 use Rattle.rules.specs.Numbers.{processorId}
 use Rattle.rules.specs.Networks.{enqueued, enqueuedAll, lettersOf}
 use Rattle.network.specs.Adverts.{adverts, advertTo, otherProcessors}
@@ -80,10 +78,3 @@ module _ (c : ChannelId) (d : ProcessorId) where
       pick-cases (λ (x : ℕ). length (adverts n c d) ≡ x) (within 1 n (d .0)) (n - 1) n
       (λ e. length-with n (within-low 1 n (d .0) e) (within-high 1 n (d .0) e))
       (λ e. length-without n (λ k l (s : k + 1 ≡ d .0). tests-differ (within-both 1 n (d .0) (omega arith) (omega arith)) e))
-
--- no rule posts more letters than one a desk, or one
-pub few-letters : (n : ℕ) (p : Posting) → length (lettersOf n p) ≤ n + 1
-unfolding lettersOf
-few-letters n Nothing = omega arith
-few-letters n (Letter m) = omega arith
-few-letters n (Adverts c d) = rw (length-adverts c d n) (pick-either (λ (x : ℕ). x ≤ n + 1) (within 1 n (d .0)) (n - 1) n (omega arith) (omega arith))

@@ -4,7 +4,7 @@ use mathlib.Core.List.{[]}
 use lib.ListN.{length, replicate}
 use Rattle.plan.specs.declared.Plan.{Plan}
 use Rattle.plan.specs.Programs.{programAt, inSlot, canonical}
-use Rattle.plan_read.proofs.Filling.{all-same}
+use Rattle.base.proofs.Tables.{all-same}
 
 pub no-task : _≡_ {A = Plan} (record { tasks = 0; lengths = replicate 64 0; opcodes = replicate 4096 0; operands = replicate 4096 0 }) (canonical [])
 unfolding canonical

@@ -4,24 +4,14 @@ use mathlib.Core.Logic.{by-cases}
 use Prim.Native.Nat.{ℕ, _+_, _<_, _≤_}
 use native.Mathlib.Omega.{arith}
 use native.Mathlib.Decide.{decLt}
-use lib.ListN.{set, replicate, length-replicate, getD-replicate}
-use lib.Seq.{ext-getD}
+use lib.ListN.{set, replicate}
 use lib.Dec.{ltb}
 use borrow.Author.Tests.{lt-ltb, le-ltb}
 use Rattle.base.specs.Choice.{pick}
 use Rattle.base.specs.Lists.{table}
-use Rattle.base.proofs.Tables.{length-table, getD-table, table-same, set-table}
+use Rattle.base.proofs.Tables.{all-same, table-same, set-table}
 
 module _ {A : Type 0} where
-  -- one value throughout
-  pub all-same : (n : ℕ) (f : ℕ → A) (d : A) → ((i : ℕ) → i < n → f i ≡ d) → replicate n d ≡ table n f
-  all-same n f d h =
-      ext-getD d (replicate n d) (table n f)
-      (length-replicate n d ∙ sym (length-table n f))
-      (λ i q.
-      let l : i < n = rw (length-replicate n d) at q in
-      getD-replicate n i d d l ∙ sym (h i l) ∙ sym (getD-table n f i d l))
-
   -- the first s of f, and d behind them
   abbrev filled : (ℕ → A) → A → ℕ → ℕ → A
   filled f d s j = pick (ltb j s) (f j) d

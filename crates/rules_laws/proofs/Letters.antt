@@ -6,12 +6,20 @@ use native.Mathlib.Numerals.{add-one}
 use native.Mathlib.Omega.{arith}
 use lib.ListN.{length, getD, take, drop, length-append, length-take, length-drop, length-set, length-map, List·getD-map}
 use lib.Seq.{length-take-le, take-suc-set, take-at, take-take, split-at, getD-take}
+use lib.Dec.{eqb}
+use Rattle.base.specs.Choice.{pick}
+use Rattle.base.proofs.Choices.{pick-either}
+use Rattle.base.proofs.Joins.{length-joined}
+use Rattle.base.proofs.Sums.{sum-at-most}
 use Rattle.base.proofs.Maps.{map-take, map-drop}
 use Rattle.rules.specs.declared.message.Message.{Message}
-use Rattle.rules.specs.declared.message.Message.the-variants.{Empty}
+use Rattle.rules.specs.declared.message.Message.the-variants.{Empty, Advert}
 use Rattle.rules.specs.declared.message.Slot.{Slot}
 use Rattle.rules.specs.declared.message.Network.{Network}
-use Rattle.rules.specs.Networks.{slot, noSlot, letters, letterAt, enqueued, enqueuedAll, dequeued}
+use Rattle.rules.specs.declared.rule.Posting.{Posting}
+use Rattle.rules.specs.declared.rule.Posting.the-variants.{Nothing, Letter, Adverts}
+use Rattle.rules.specs.Numbers.{processorId}
+use Rattle.rules.specs.Networks.{slot, noSlot, letters, letterAt, enqueued, enqueuedAll, dequeued, lettersOf}
 
 abbrev inSlot : Slot → Message
 inSlot s = s .message
@@ -85,3 +93,15 @@ module _ (n : Network) (p : ℕ) (some : 1 ≤ p) (there : p ≤ n .used) where
         let rest = noSlot ∷ drop (n .used) (n .slots) in
         rw (← append-assoc (take (p - 1) (n .slots)) (drop p u) rest, take-at front rest (n .used - 1) length-front, map-append inSlot)
         (rw (← take-take (p - 1) (n .used) (n .slots) (omega arith), map-take inSlot (p - 1) u, map-drop inSlot p u) refl)
+
+-- no rule posts more letters than one a desk, or one
+pub few-letters : (n : ℕ) (p : Posting) → length (lettersOf n p) ≤ n + 1
+unfolding lettersOf
+few-letters n Nothing = omega arith
+few-letters n (Letter m) = omega arith
+few-letters n (Adverts c d) =
+    let f : ℕ → List Message = λ k. pick (eqb (suc k) (d .0)) [] (Advert c (processorId (suc k)) d ∷ []) in
+    let few =
+    sum-at-most 1 n (λ k. length (f k))
+    (λ k l. pick-either (λ ls. length ls ≤ 1) (eqb (suc k) (d .0)) [] (Advert c (processorId (suc k)) d ∷ []) (omega arith) (omega arith)) in
+    omega (arith, length-joined n f, few)

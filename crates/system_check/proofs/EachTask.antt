@@ -1,14 +1,15 @@
 -- The test of tasks 1 to T, task by task.
-use mathlib.Core.Path.{_≡_, refl}
+use mathlib.Core.Path.{_≡_, refl, sym, _∙_}
 use mathlib.Core.Bool.{Bool, true, _&&_}
-use Prim.Native.Nat.{ℕ, suc, _-_, _<_, _≤_}
+use Prim.Native.Nat.{ℕ, suc, _+_, _*_, _-_, _<_, _≤_}
 use native.Mathlib.Omega.{arith}
 use lib.ListN.{getD}
 use Rattle.base.specs.Range.{below}
 use Rattle.base.proofs.Tests.{tests-differ, is-true}
+use Rattle.base.proofs.Tables.{length-table}
 use Rattle.base.proofs.Folds.{fold-same}
 use Rattle.plan.specs.Answers.{isAccepted}
-use Rattle.plan.specs.Programs.{Programs, programOf}
+use Rattle.plan.specs.Programs.{Programs, slotOf, programOf}
 use Rattle.plan.specs.Refusals.{sizesOk, planAnswer}
 use Rattle.plan.proofs.Parts.{tasks-of, program-of, count-of}
 use Rattle.plan_laws.proofs.Answers.{sized}
@@ -18,7 +19,10 @@ use Rattle.rules.specs.Tasks.{noTask}
 use Rattle.rules.specs.Systems.{taskAt, taskProgram, meaning}
 use Rattle.rules.specs.Sound.{taskOk}
 use Rattle.rules_laws.proofs.TaskAt.{taskAt-some}
-use Rattle.system_check.specs.Tasks.{tasksOk}
+use Rattle.task_check.specs.Tests.{taskWith}
+use Rattle.task_check.proofs.Tests.{task-with}
+use Rattle.system_check.specs.Tasks.{lastKind, tasksOk}
+use Rattle.system_check.proofs.Programs.{last-kind}
 
 -- task k + 1 passes
 abbrev pub recordOk : System → ℕ → Bool
@@ -40,3 +44,12 @@ module _ (r : System) (h : sizesOk (meaning r) ≡ true) where
 
   pub short-program : (k : ℕ) → k < r .plan .tasks → getD (r .plan .lengths) k 0 ≤ 64
   short-program k l = omega (arith, count-of (r .plan) k l, sized (meaning r) h .counts k (omega (arith, tasks-of (r .plan))) .few)
+
+-- task k + 1, by what is looked at of its program
+pub record-with : (r : System) (k : ℕ)
+    → taskWith (r .processors) (r .plan .tasks) (getD (r .plan .lengths) k 0) (lastKind (r .plan .lengths) (r .plan .opcodes) k (getD (r .tasks) k noTask .pc)) (getD (r .tasks) k noTask)
+    ≡ recordOk r k
+record-with r k =
+    let x = getD (r .tasks) k noTask in
+    let p = r .plan in
+    sym (task-with (r .processors) (p .tasks) (programOf p k) x ∙ rw (length-table (getD (p .lengths) k 0) (λ i. slotOf p (64 * k + i)), last-kind p k x) refl)

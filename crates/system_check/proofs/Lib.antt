@@ -1,4 +1,3 @@
--- What the tests of the tasks compute is what the definitions ask.
-mod Children
+-- What the loop over the tasks computes is what the definition asks.
 mod Programs
 mod EachTask

@@ -1,20 +1,19 @@
--- The program of a task, read off the arrays of a plan value, and the test of tasks 1 to T.
-use mathlib.Core.Bool.{Bool}
+-- The kind of a task's last executed instruction, by the arrays of a plan value, and the test of tasks 1 to T.
+use mathlib.Core.Bool.{Bool, _&&_}
 use mathlib.Core.List.{List}
-use Prim.Native.Nat.{ℕ, _+_, _*_}
+use Prim.Native.Nat.{ℕ, _+_, _-_, _*_}
+use lib.Dec.{ltb}
 use lib.ListN.{getD}
+use Rattle.base.specs.Choice.{pick}
 use Rattle.base.specs.Range.{upTo}
-use Rattle.base.specs.Lists.{table}
-use Rattle.plan.specs.Programs.{Program}
-use Rattle.plan_rules.specs.Slots.{slotIn}
 use Rattle.rules.specs.declared.system.System.{System}
 use Rattle.rules.specs.Numbers.{taskId}
 use Rattle.rules.specs.Systems.{taskAt, taskProgram}
 use Rattle.rules.specs.Sound.{taskOk}
 
--- `programOf` of a plan value with these arrays
-abbrev pub programIn : List ℕ → List ℕ → List ℕ → ℕ → Program
-programIn lengths opcodes operands k = table (getD lengths k 0) (λ i. slotIn opcodes operands (64 * k + i))
+-- of task k + 1 at place pc; 0 where it has executed none
+abbrev pub lastKind : List ℕ → List ℕ → ℕ → ℕ → ℕ
+lastKind lengths opcodes k pc = pick (ltb 1 pc && ltb (pc - 2) (getD lengths k 0)) (getD opcodes (64 * k + (pc - 2)) 0) 0
 
 -- the part of `systemOk` about the tasks
 abbrev pub tasksOk : System → Bool

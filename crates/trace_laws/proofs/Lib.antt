@@ -2,7 +2,6 @@
 pub mod Decimals
 pub mod Texts
 pub mod Lengths
-mod Every
 mod Postings
 mod Rules
 mod Systems

@@ -8,7 +8,7 @@ use lib.ListN.{take, drop}
 use Rattle.base.specs.Lists.{every}
 use Rattle.base.proofs.Choices.{pick-either}
 use Rattle.base.proofs.Tests.{and-left, and-right, and-both, every-append}
-use Rattle.base.proofs.Pairs.{every-set}
+use Rattle.base.proofs.Pairs.{every-set, every-any, every-take, every-drop}
 use Rattle.plan.specs.declared.Plan.{Plan}
 use Rattle.plan.specs.declared.TaskId.{TaskId}
 use Rattle.plan.specs.declared.ProcessorId.{ProcessorId}
@@ -27,7 +27,6 @@ use Rattle.rules.specs.Effects.{Effect, completed, withOutcome, forChannels}
 use Rattle.rules.specs.Starts.{birth, blank, started}
 use Rattle.rules_laws.proofs.ForChannels.{forChannels-all}
 use Rattle.trace_laws.specs.Words.{taskFits, messageFits, slotFits, FitSystem, FitOutcome, FitEffect}
-use Rattle.trace_laws.proofs.Every.{every-any, every-take, every-drop}
 
 module _ (r : System) (h : FitSystem r) where
   pub task-fits : (t : TaskId) → taskFits (taskAt r t) ≡ true

@@ -8,12 +8,12 @@ use borrow.Author.Needs.{needs}
 use Rattle.system_check.proofs.system_ok.Statement.{statement}
 use Rattle.system_check.proofs.system_ok.Tie as tie
 
-is-within-requires : tie.Need-is-within-requires
-is-within-requires c κs = search needs
+desks-ok-requires : tie.Need-desks-ok-requires
+desks-ok-requires c κs = search needs
 
 returns : tie.Need-returns
 unfolding systemOk
-returns c = rw (← c .before .is-within .ensures, not-true (c .before .is-within .result) (c .if1 .taken)) refl
+returns c = rw (← c .before .desks-ok .ensures, not-true (c .before .desks-ok .result) (c .if1 .taken)) refl
 
 plan-ok-requires : tie.Need-plan-ok-requires
 plan-ok-requires c κs = search needs
@@ -23,8 +23,8 @@ unfolding systemOk
 returns-2 c =
     let d = c .before .before .before in
     rw (
-      ← d .before .is-within .ensures,
-      not-false (d .before .is-within .result) (d .if1 .left),
+      ← d .before .desks-ok .ensures,
+      not-false (d .before .desks-ok .result) (d .if1 .left),
       ← c .before .plan-ok .ensures,
       not-true (c .before .plan-ok .result) (c .if2 .taken),
     )
@@ -41,8 +41,8 @@ returns-3 c =
     let e = c .before .before in
     let d = e .before .before .before in
     rw (
-      ← d .before .is-within .ensures,
-      not-false (d .before .is-within .result) (d .if1 .left),
+      ← d .before .desks-ok .ensures,
+      not-false (d .before .desks-ok .result) (d .if1 .left),
       ← e .before .plan-ok .ensures,
       not-false (e .before .plan-ok .result) (e .if2 .left),
       ← c .before .tasks-ok .ensures,
@@ -72,8 +72,8 @@ returns-4 c =
     let e = f .before .before in
     let d = e .before .before .before in
     rw (
-      ← d .before .is-within .ensures,
-      not-false (d .before .is-within .result) (d .if1 .left),
+      ← d .before .desks-ok .ensures,
+      not-false (d .before .desks-ok .result) (d .if1 .left),
       ← e .before .plan-ok .ensures,
       not-false (e .before .plan-ok .result) (e .if2 .left),
       ← f .before .tasks-ok .ensures,
@@ -85,7 +85,7 @@ pub system-ok-spec : {M : Type 1} → statement M
 system-ok-spec =
     tie.close
     (tie.spec
-    is-within-requires
+    desks-ok-requires
     returns
     plan-ok-requires
     returns-2

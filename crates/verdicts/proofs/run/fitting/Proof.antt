@@ -1,6 +1,6 @@
 -- A change is accepted where its letters fit.
 use mathlib.Core.Path.{sym}
-use Rattle.network.proofs.Adverts.{few-letters}
+use Rattle.rules_laws.proofs.Letters.{few-letters}
 use borrow.Author.Needs.{needs}
 use Rattle.verdicts.proofs.RunVerdicts.{fits, overflows}
 use Rattle.verdicts.proofs.run.fitting.Statement.{statement}

@@ -1,3 +1,0 @@
--- What the loops compute is what the definitions ask.
-mod Lists
-mod Mail

@@ -1,0 +1,2 @@
+-- A desk with a number beside it.
+pub mod Pairs

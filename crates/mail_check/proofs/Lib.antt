@@ -1,0 +1,2 @@
+-- What the loop over the mail computes is what the definition asks.
+mod Mail
