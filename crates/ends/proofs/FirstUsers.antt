@@ -5,8 +5,8 @@ use Prim.Native.Nat.{ℕ, _*_}
 use Rattle.base.specs.Range.{joined}
 use Rattle.base.proofs.Tables.{getD-table, table-same}
 use Rattle.plan.specs.Users.{firstOf}
-use Rattle.plan_rules.specs.declared.users.Use.{Use}
-use Rattle.plan_rules.specs.Uses.{noUse, useOf, slotUser, usesTable}
+use Rattle.plan_users.specs.declared.Use.{Use}
+use Rattle.plan_users.specs.Uses.{noUse, useOf, slotUser, usesTable}
 use Rattle.ends.specs.Firsts.{firstTasks, firstUsers}
 
 first-use : (l : List ℕ) → useOf l .task .0 ≡ firstOf l

@@ -5,8 +5,8 @@ use lib.ListN.{getD}
 use Rattle.base.specs.Range.{joined}
 use Rattle.base.specs.Lists.{table}
 use Rattle.plan.specs.Users.{firstOf}
-use Rattle.plan_rules.specs.declared.users.Use.{Use}
-use Rattle.plan_rules.specs.Uses.{noUse, slotUser}
+use Rattle.plan_users.specs.declared.Use.{Use}
+use Rattle.plan_users.specs.Uses.{noUse, slotUser}
 
 -- the first task of each use
 abbrev pub firstTasks : List Use → List ℕ

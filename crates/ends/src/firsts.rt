@@ -2,8 +2,8 @@
 ghost use mathlib.Core.Path.{_≡_};
 ghost use Prim.Native.Nat.{_≤_};
 ghost use Rattle.ends.specs.Firsts.{firstTasks, firstUsers};
-use plan_rules::users::Use;
-use plan_rules::users::uses;
+use plan_users::Use;
+use plan_users::uses;
 
 // The first task of each use, 0 where there is none.
 fn first_tasks(found: [Use; 129]) -> [u8; 129]

@@ -24,10 +24,10 @@ use Rattle.plan.specs.Programs.{Program, slotOf, programOf, programs, programAt
 use Rattle.plan.specs.Users.{usesIn, users}
 use Rattle.plan.specs.Refusals.{sizeOk, sizesOk, instructionOk, instructionsOk, finishOk, finishesOk, createOk, createsOk, channelOk, channelsOk, structureAnswer, planAnswer}
 use Rattle.plan.proofs.Parts.{tasks-of, program-of}
-use Rattle.plan_rules.specs.declared.users.Use.{Use}
+use Rattle.plan_users.specs.declared.Use.{Use}
 use Rattle.plan_rules.specs.Slots.{sameTest, finishFits, scanned}
 use Rattle.plan_rules.specs.Sizes.{countFits, sizesIn}
-use Rattle.plan_rules.specs.Uses.{noUse, useOf, slotUser, usesTable, createFits, createAt, createsIn, endsFit, endsAt, channelsIn}
+use Rattle.plan_users.specs.Uses.{noUse, useOf, slotUser, usesTable, createFits, createAt, createsIn, endsFit, endsAt, channelsIn}
 use Rattle.plan_rules.proofs.Tasks.{create-use, ends-use}
 
 -- one task more behind the others is in order where none of them is a finish and it is one

@@ -10,7 +10,8 @@ use Rattle.base.proofs.Folds.{fold-more}
 use Rattle.base.proofs.Slots.{nextRow, below-skip}
 use Rattle.plan.specs.Refusals.{instructionOk}
 use Rattle.plan_rules.specs.declared.scan.Scan.{Scan}
-use Rattle.plan_rules.specs.Slots.{slotIn, finishFits, scanNext, scannedTo}
+use Rattle.plan_users.specs.Slots.{slotIn}
+use Rattle.plan_rules.specs.Slots.{finishFits, scanNext, scannedTo}
 
 module _ (n : ℕ) (lengths opcodes operands : List ℕ) where
   abbrev count : ℕ → ℕ

@@ -8,7 +8,7 @@ use borrow.Author.Tests.{eqb-true}
 use Rattle.base.specs.Lists.{every, any}
 use Rattle.base.proofs.Tests.{and-left, and-right}
 use Rattle.plan.specs.Users.{oneTask, share, onlyLower}
-use Rattle.plan_rules.specs.Uses.{useOf, createFits, endsFit}
+use Rattle.plan_users.specs.Uses.{useOf, createFits, endsFit}
 
 pub create-use : (u : ℕ) (l : List ℕ) → createFits (useOf l) u ≡ leb u 1 || onlyLower u l
 create-use u [] = refl

@@ -1,4 +1,4 @@
--- The slots of a plan value, and the pass over them that tests instructions and finishes.
+-- The pass over the slots of a plan value that tests instructions and finishes.
 use mathlib.Core.Bool.{Bool, true, false, not, _&&_}
 use mathlib.Core.List.{List}
 use Prim.Native.Nat.{ℕ, _*_, _-_, _/_, _%_}
@@ -9,16 +9,13 @@ use Rattle.base.specs.Range.{below}
 use Rattle.plan.specs.declared.Instruction.{Instruction}
 use Rattle.plan.specs.Kinds.{isFinish}
 use Rattle.plan.specs.Refusals.{instructionOk}
+use Rattle.plan_users.specs.Slots.{slotIn}
 use Rattle.plan_rules.specs.declared.scan.Scan.{Scan}
 
 -- both hold or neither
 abbrev pub sameTest : Bool → Bool → Bool
 sameTest true b = b
 sameTest false b = not b
-
--- slot s of these arrays
-abbrev pub slotIn : List ℕ → List ℕ → ℕ → Instruction
-slotIn opcodes operands s = record { opcode = getD opcodes s 0; operand = getD operands s 0 }
 
 -- instruction place + 1 of a program of `count` is a finish exactly where it is the last
 abbrev pub finishFits : ℕ → ℕ → Instruction → Bool

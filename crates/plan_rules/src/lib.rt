@@ -1,7 +1,6 @@
 // Whether a plan value is refused, 2 to 6.
 mod scan;
 mod sizes;
-pub mod users;
 
 ghost use mathlib.Core.Path.{_≡_};
 ghost use Rattle.plan.specs.Programs.{programs};
@@ -25,10 +24,10 @@ pub fn check(p: Plan) -> PlanAnswer
     if !seen.finishes {
         return PlanAnswer::Refused(Refusal::BadFinish);
     }
-    if !users::creates_fit(tasks, &p.lengths, &p.opcodes, &p.operands) {
+    if !plan_users::creates_fit(tasks, &p.lengths, &p.opcodes, &p.operands) {
         return PlanAnswer::Refused(Refusal::BadCreate);
     }
-    if !users::channels_fit(tasks, &p.lengths, &p.opcodes, &p.operands) {
+    if !plan_users::channels_fit(tasks, &p.lengths, &p.opcodes, &p.operands) {
         return PlanAnswer::Refused(Refusal::BadChannel);
     }
     PlanAnswer::Accepted

@@ -26,6 +26,7 @@ use Rattle.rules.specs.Runs.{ranCreate, ranFinish, ranSend, ranReceive, 
 use Rattle.rules.specs.Scripts.{sameBool, linesHold, startOn, historyHolds}
 use Rattle.rules.specs.Send.{sendPasses, sendWaits, sendRule}
 use Rattle.rules.specs.Sound.{tablesOk, channelEntriesOk, messageOk, networkOk, unbornOk, bornOk, taskOk, systemOk}
+use Rattle.rules.specs.Sites.{plain}
 use Rattle.rules.specs.Starts.{birth, blank, started}
 use Rattle.rules.specs.StepFiles.{fileSteps, startOf, traceLines, text, stepsOk, runFileAnswer, fitting, runFileText, runFileOutput, printed}
 use Rattle.rules.specs.Steps.{wellFormed, kindAnswer, ruledAnswer, stepAnswer, performed, answered, step, ruledStep, quiescent, stepsBy, wordOn, receivedOn}
@@ -34,5 +35,5 @@ use Rattle.rules.specs.Tasks.{woken}
 use Rattle.rules.specs.Trace.{digits, fields, stepLine, endLine, stepLines, refusedLine}
 
 unfoldable pub evaluated : Unit {0}
-unfolding sameBytes every everyPair any tableBefore table fold member inserted removed layoutOk filePrograms secondBytesOk fileAnswer startAnswer layout planRead writeAnswer writeOutput startNumber programs canonical sizesOk instructionOk instructionsOk finishOk finishesOk createsOk structureAnswer planAnswer users setWord addWord terminatedRule takenOver arrival callRule dataRule newer larger firstNoted gotTerminated gotMigration opened delivered deliverAnswer completed siteAt withOutcome forChannels syncRule finishRule moved moveAnswer letters letterAt enqueued enqueuedAll dequeued lettersOf offerRule advertRule nextIn lastIn isOn sendNumber receivePasses receiveWaits receiveRule ranCreate ranFinish ranSend ranReceive executed ran fits runAnswer sameBool linesHold startOn historyHolds sendPasses sendWaits sendRule tablesOk messageOk networkOk unbornOk bornOk taskOk systemOk birth blank started fileSteps startOf traceLines text stepsOk runFileAnswer fitting runFileText runFileOutput printed wellFormed kindAnswer ruledAnswer stepAnswer performed answered step ruledStep quiescent stepsBy wordOn receivedOn taskAt withTask entryAt channelAt withCell woken digits fields stepLine endLine stepLines refusedLine channelEntriesOk channelsOk
+unfolding sameBytes every everyPair any tableBefore table fold member inserted removed layoutOk filePrograms secondBytesOk fileAnswer startAnswer layout planRead writeAnswer writeOutput startNumber programs canonical sizesOk instructionOk instructionsOk finishOk finishesOk createsOk structureAnswer planAnswer users setWord addWord terminatedRule takenOver arrival callRule dataRule newer larger firstNoted gotTerminated gotMigration opened delivered deliverAnswer completed siteAt withOutcome forChannels syncRule finishRule moved moveAnswer letters letterAt enqueued enqueuedAll dequeued lettersOf offerRule advertRule nextIn lastIn isOn sendNumber receivePasses receiveWaits receiveRule ranCreate ranFinish ranSend ranReceive executed ran fits runAnswer sameBool linesHold startOn historyHolds sendPasses sendWaits sendRule tablesOk messageOk networkOk unbornOk bornOk taskOk systemOk birth blank started fileSteps startOf traceLines text stepsOk runFileAnswer fitting runFileText runFileOutput printed wellFormed kindAnswer ruledAnswer stepAnswer performed answered step ruledStep quiescent stepsBy wordOn receivedOn taskAt withTask entryAt channelAt withCell woken digits fields stepLine endLine stepLines refusedLine channelEntriesOk channelsOk plain
 evaluated = tt

@@ -2,11 +2,12 @@
 use mathlib.Core.Path.{_≡_, refl}
 use mathlib.Core.Bool.{true, false}
 use mathlib.Core.List.{[], _∷_}
+use Rattle.rules.specs.declared.task.TaskState.the-variants.{Receiving}
 use Rattle.rules.specs.declared.message.Message.the-variants.{Offered, ReadyToReceive}
 use Rattle.rules.specs.declared.rule.Posting.the-variants.{Nothing, Letter, Adverts}
 use Rattle.rules.specs.declared.rule.Received.the-variants.{Word}
 use Rattle.rules.specs.Numbers.{channelId}
-use Rattle.rules.specs.Tasks.{advanced, taking}
+use Rattle.rules.specs.Tasks.{withState, withPc, advanced, taking}
 use Rattle.rules.specs.Cells.{hint, offer, withHint, withHeld, withNoted, withGranted, withAwaiting, withCarried}
 use Rattle.rules.specs.Places.{sendNumber}
 use Rattle.rules.specs.Send.{sendRule, sendWaits}
@@ -52,6 +53,11 @@ send-posted : sendRule (site false 2 true (withHint empty (hint (desk 3) 4))) on
 unfolding evaluated
 send-posted = refl
 
+-- the sender then: it has executed the send
+send-waiting : sendWaits (site false 1 false empty) empty Nothing .sender ≡ withPc (talker true) 2
+unfolding evaluated
+send-waiting = refl
+
 -- the sender is here and sends: the word passes, the number called becomes 5, a carried offer is dropped
 receive-passes : receiveRule (site true 1 false (withCarried empty (offer (desk 1) 5))) one 5
     ≡ record { sender = talker false; receiver = advanced (taking (listener 1) seven); cell = withGranted empty 5; posting = Nothing; received = Word one seven }
@@ -62,6 +68,11 @@ receive-passes = refl
 receive-keeps-note : receiveRule (site true 1 false (withAwaiting (withNoted empty (desk 3)) true)) one 5 .cell ≡ withGranted (withNoted empty (desk 3)) 5
 unfolding evaluated
 receive-keeps-note = refl
+
+-- it waits: it has executed the receive
+receive-waiting : receiveWaits (site false 1 false empty) empty Nothing .receiver ≡ withPc (withState (listener 1) Receiving) 2
+unfolding evaluated
+receive-waiting = refl
 
 -- it sends elsewhere, or does not send on this channel
 receive-elsewhere : receiveRule (site true 2 false empty) one 5 ≡ receiveWaits (site true 2 false empty) empty Nothing

@@ -19,14 +19,12 @@ use Rattle.rules.specs.Systems.{entryAt, channelAt, withCell}
 use Rattle.rules.specs.Local.{syncRule, finishRule}
 use Rattle.rules.specs.Arrivals.{terminatedRule, takenOver, arrivalReceiving, arrivalSending}
 use Rattle.rules.specs.Moves.{departureSending}
-use Rattle.rules.specs.Steps.{step, ruledSteps, quiescent}
+use Rattle.rules.specs.Steps.{ruledSteps, quiescent}
 use Rattle.rules.specs.StepFiles.{stepsOk}
 use Rattle.rules.specs.Scripts.{create, finish, send, receive, run, deliver, move, startOn}
 use Rattle.rules.specs.Starts.{blank}
 use Rattle.rules.specs.Deliver.{gotMigration}
-use Rattle.rules.specs.Edges.{crowded, sender as sending}
-use Rattle.rules.specs.SoundEdges.{small}
-use Rattle.rules.specs.Sites.{desk, one, empty}
+use Rattle.rules.specs.Sites.{desk, one, empty, small, crowded}
 use Rattle.rules.proofs.Evaluated.{evaluated}
 
 -- "of equals the desk's own stays"; "the larger number is kept, of equals the earlier"
@@ -207,6 +205,11 @@ that-send : channelAt (ruledSteps (startOn 1 ((create 2 ∷ send 1 ∷ send 1 �
 unfolding evaluated
 that-send = refl
 
+-- and the offer that the receiver then carries has its number
+that-offer : channelAt (ruledSteps (startOn 1 ((create 2 ∷ send 1 ∷ send 1 ∷ finish ∷ []) ∷ (receive 1 ∷ finish ∷ []) ∷ [])) (run 1 ∷ run 1 ∷ []) .system) one .carried ≡ offer (desk 1) 1
+unfolding evaluated
+that-offer = refl
+
 -- the last entry of desk 1 and the first of desk 2 are two entries
 entries-apart : entryAt (withCell small (desk 1) (channelId 128) (withNoted empty (desk 1))) (desk 2) one .noted ≡ noProcessor
 unfolding evaluated small
@@ -239,10 +242,10 @@ taken-count : dequeued (crowded 256 small .network) 256 .used ≡ 255
 unfolding evaluated crowded small
 taken-count = refl
 
--- five adverts beside 251 letters
-filled : step (crowded 251 sending) (run 1) .system .network .used ≡ 256
-unfolding evaluated crowded sending
-filled = refl
+-- a rig whose task can run is not at rest
+ready-rest : quiescent small ≡ false
+unfolding evaluated small
+ready-rest = refl
 
 -- a rig that 9 refuses runs nothing, so without letters it is at rest
 refused-rest : quiescent (blank 7 (small .plan)) ≡ true

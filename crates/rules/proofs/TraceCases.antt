@@ -1,18 +1,18 @@
 -- Cases of numbers in a line, of lines, and of what fits into an output.
 use mathlib.Core.Path.{_≡_, refl}
 use mathlib.Core.Bool.{true, false}
-use mathlib.Core.List.{List, [], _∷_}
+use mathlib.Core.List.{List, [], _∷_, _++_}
 use Prim.Native.Nat.{ℕ}
+use Rattle.plan.specs.Edges.{single}
 use Rattle.plan.specs.declared.PlanAnswer.the-variants.{Accepted, Refused}
 use Rattle.plan.specs.declared.Refusal.the-variants.{BadFinish}
 use Rattle.rules.specs.declared.rule.Received.the-variants.{Nothing, Word}
 use Rattle.rules.specs.declared.step.StepAnswer.the-variants.{BadStep, Accepted as Ok}
 use Rattle.rules.specs.declared.step.RunAnswer.the-variants.{Traced, Unstarted, BadSteps, OutputShort}
-use Rattle.rules.specs.Trace.{decimal, stepLine, endLine}
-use Rattle.rules.specs.StepFiles.{answerAfter, fitting}
-use Rattle.rules.specs.Edges.{crowded}
-use Rattle.rules.specs.SoundEdges.{small}
-use Rattle.rules.specs.Sites.{one, seven}
+use Rattle.rules.specs.Trace.{decimal, stepLine, endLine, stepLines, refusedLine}
+use Rattle.rules.specs.StepFiles.{fileSteps, answerAfter, fitting, writtenAfter, printed}
+use Rattle.rules.specs.Scripts.{raw}
+use Rattle.rules.specs.Sites.{one, seven, small, crowded}
 use Rattle.rules.proofs.Evaluated.{evaluated}
 
 -- `0`, `100`, `65535`
@@ -41,6 +41,21 @@ refused-line = refl
 end-line : endLine (crowded 2 small) ≡ 101 ∷ 110 ∷ 100 ∷ 32 ∷ 48 ∷ 32 ∷ 50 ∷ 10 ∷ []
 unfolding evaluated crowded small
 end-line = refl
+
+-- `1 0` and `2 19`; `refused 8`
+two-lines : stepLines 0 (record { answer = Ok; received = Nothing } ∷ record { answer = BadStep; received = Nothing } ∷ [])
+    ≡ (49 ∷ 32 ∷ 48 ∷ 10 ∷ []) ∷ (50 ∷ 32 ∷ 49 ∷ 57 ∷ 10 ∷ []) ∷ []
+unfolding evaluated
+two-lines = refl
+
+refused-eight : refusedLine 8 ≡ 114 ∷ 101 ∷ 102 ∷ 117 ∷ 115 ∷ 101 ∷ 100 ∷ 32 ∷ 56 ∷ 10 ∷ []
+unfolding evaluated
+refused-eight = refl
+
+-- two steps of a file; the second has a number over 255
+two-steps : fileSteps (1 ∷ 2 ∷ 3 ∷ 0 ∷ 3 ∷ 4 ∷ 5 ∷ 6 ∷ []) ≡ raw 1 2 3 ∷ raw 3 4 1541 ∷ []
+unfolding evaluated
+two-steps = refl
 
 -- lines of two, one and two bytes: in five bytes, in four, in two, in one
 abbrev lines : List (List ℕ)
@@ -79,3 +94,21 @@ malformed = refl
 unstarted : answerAfter (Refused BadFinish) false lines 4 ≡ Unstarted BadFinish
 unfolding evaluated
 unstarted = refl
+
+-- what is written: all, what fits, nothing
+written-all : writtenAfter Traced lines 5 ≡ 1 ∷ 2 ∷ 3 ∷ 4 ∷ 5 ∷ []
+unfolding evaluated
+written-all = refl
+
+written-short : writtenAfter OutputShort lines 4 ≡ 1 ∷ 2 ∷ 3 ∷ []
+unfolding evaluated
+written-short = refl
+
+written-nothing : writtenAfter BadSteps lines 4 ++ writtenAfter (Unstarted BadFinish) lines 4 ≡ []
+unfolding evaluated
+written-nothing = refl
+
+-- three bytes of steps: `refused 8`
+printed-refusal : printed 2 single (1 ∷ 1 ∷ 0 ∷ []) ≡ refusedLine 8
+unfolding evaluated
+printed-refusal = refl

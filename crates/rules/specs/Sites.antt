@@ -1,18 +1,27 @@
 -- Small sites and rigs, for the cases.
 use mathlib.Core.Bool.{Bool, false}
-use Prim.Native.Nat.{ℕ}
+use mathlib.Core.List.{[], _∷_, _++_}
+use Prim.Native.Nat.{ℕ, _-_}
+use lib.ListN.{replicate}
 use Rattle.base.specs.Choice.{pick}
 use Rattle.plan.specs.declared.ProcessorId.{ProcessorId}
 use Rattle.plan.specs.declared.ChannelId.{ChannelId}
 use Rattle.plan.specs.declared.Word.{Word}
+use Rattle.plan.specs.Programs.{Programs, canonical}
 use Rattle.plan.specs.Words.{wordOf}
 use Rattle.rules.specs.declared.task.Task.{Task}
 use Rattle.rules.specs.declared.task.TaskState.the-variants.{Ready, Sending}
 use Rattle.rules.specs.declared.channel.Cell.{Cell}
+use Rattle.rules.specs.declared.message.Message.the-variants.{Advert}
 use Rattle.rules.specs.declared.rule.Site.{Site}
-use Rattle.rules.specs.Numbers.{processorId, channelId, noProcessor}
+use Rattle.rules.specs.declared.system.System.{System}
+use Rattle.rules.specs.Numbers.{taskId, processorId, channelId, noProcessor}
 use Rattle.rules.specs.Tasks.{born, withState, withWord, withMoves}
 use Rattle.rules.specs.Cells.{unknown, noOffer}
+use Rattle.rules.specs.Networks.{slot, noSlot}
+use Rattle.rules.specs.Systems.{withNetwork, withTask}
+use Rattle.rules.specs.Starts.{blank}
+use Rattle.rules.specs.Scripts.{finish}
 
 abbrev pub desk : ℕ → ProcessorId
 desk n = processorId n
@@ -41,3 +50,17 @@ listener d = withMoves (born (desk d)) 3
 -- the two, sending and receiving on the channel or not, and what is kept for it
 abbrev pub site : Bool → ℕ → Bool → Cell → Site
 site sending d receiving x = record { sender = talker sending; receiver = listener d; sending = sending; receiving = receiving; cell = x }
+
+-- a rig of n desks with plan m as at its start, but with no pointer
+unfoldable pub plain : ℕ → Programs → System
+plain n m = withTask (blank n (canonical m)) (taskId 1) (born (desk 1))
+
+-- two desks and one task, which finishes
+unfoldable pub small : System
+small = plain 2 ((finish ∷ []) ∷ [])
+
+-- a rig with n letters in its mail, all alike
+unfoldable pub crowded : ℕ → System → System
+crowded n r =
+    withNetwork r
+    (record { slots = replicate n (slot (Advert (channelId 1) (processorId 1) (processorId 1))) ++ replicate (256 - n) noSlot; used = n })

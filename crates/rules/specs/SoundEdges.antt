@@ -1,37 +1,35 @@
--- Both sides of each condition of 9: parts of a rig of two desks and three tasks, and whole rigs.
+-- Both sides of each condition of 9: parts of a rig of two desks and three tasks. Tables, channels and mail are shorter here than in a rig.
 use mathlib.Core.Bool.{Bool, true, false}
 use mathlib.Core.List.{List, [], _∷_}
 use Prim.Native.Nat.{ℕ}
 use Rattle.plan.specs.declared.Word.{Word}
-use Rattle.plan.specs.Programs.{Program, canonical}
+use Rattle.plan.specs.Programs.{Program}
 use Rattle.plan.specs.Words.{wordOf, zeroWord}
 use Rattle.rules.specs.declared.task.Task.{Task}
 use Rattle.rules.specs.declared.task.TaskState.{TaskState}
 use Rattle.rules.specs.declared.task.TaskState.the-variants.{Unborn, Ready, Waiting, Sending, Receiving, Moving, Done}
 use Rattle.rules.specs.declared.channel.Hint.{Hint}
 use Rattle.rules.specs.declared.channel.Offer.{Offer}
-use Rattle.rules.specs.declared.channel.Cell.{Cell}
 use Rattle.rules.specs.declared.message.Message.{Message}
 use Rattle.rules.specs.declared.message.Message.the-variants.{Empty, Offered, Advert, ReadyToReceive, Data, Terminated, Migration}
-use Rattle.rules.specs.declared.system.System.{System}
+use Rattle.rules.specs.declared.message.Network.{Network}
+use Rattle.rules.specs.declared.system.Tables.{Tables}
+use Rattle.rules.specs.declared.system.Channels.{Channels}
 use Rattle.rules.specs.Numbers.{taskId, processorId, channelId}
-use Rattle.rules.specs.Tasks.{noTask, unborn, born, withState, withProcessor, withPc, withWord, withMoves, withChildren}
-use Rattle.rules.specs.Cells.{hint, unknown, offer, noOffer, withHint, withHeld, withNoted, withGranted, withCarried, withTravelling}
-use Rattle.rules.specs.Networks.{enqueued}
-use Rattle.rules.specs.Systems.{withNetwork, withTask, cellAt, withCell}
-use Rattle.rules.specs.Starts.{blank}
-use Rattle.rules.specs.Edges.{crowded}
-use Rattle.rules.specs.Scripts.{create, sync, finish, send, receive, startOn, sameBool}
+use Rattle.rules.specs.Tasks.{unborn, born, withState, withProcessor, withPc, withWord, withMoves, withChildren}
+use Rattle.rules.specs.Cells.{hint, unknown, offer, noOffer}
+use Rattle.rules.specs.Networks.{slot, noSlot}
+use Rattle.rules.specs.Scripts.{create, finish, send, receive, sameBool}
 
 -- something of a rig, and whether 9 lets it pass
 pub record Sample (A : Type 0) : Type 0 where
   pub it : A
   pub ok : Bool
 
-abbrev fine : {A : Type 0} → A → Sample A
+abbrev pub fine : {A : Type 0} → A → Sample A
 fine x = record { it = x; ok = true }
 
-abbrev wrong : {A : Type 0} → A → Sample A
+abbrev pub wrong : {A : Type 0} → A → Sample A
 wrong x = record { it = x; ok = false }
 
 abbrev pub judged : {A : Type 0} → (A → Bool) → Sample A → Bool
@@ -105,35 +103,43 @@ taskSamples =
     ∷ fine (task Receiving 1 4 1 zeroWord 1 0) ∷ wrong (task Receiving 1 1 1 zeroWord 1 0) ∷ wrong (task Receiving 1 3 1 zeroWord 1 0)
     ∷ []
 
--- a rig of two desks; one with two tasks; with a cell changed at the last entry; with another plan; with 256 letters
-unfoldable pub small : System
-small = startOn 2 ((finish ∷ []) ∷ [])
+-- one pointer, one held offer and one note, behind an entry with none
+abbrev tables : Hint → Offer → ℕ → Tables
+tables h o d =
+    record {
+      hintprocessors = 0 ∷ h .processor .0 ∷ [];
+      hintmoves = 0 ∷ h .moves ∷ [];
+      heldprocessors = 0 ∷ o .processor .0 ∷ [];
+      heldnumbers = 0 ∷ o .number ∷ [];
+      notes = 0 ∷ d ∷ [];
+    }
 
-unfoldable pub pair : System
-pair = startOn 2 ((create 2 ∷ finish ∷ []) ∷ (finish ∷ []) ∷ [])
+unfoldable pub tablesSamples : List (Sample Tables)
+tablesSamples =
+    fine (tables (hint (processorId 2) 9999) (offer (processorId 2) 64) 2)
+    ∷ wrong (tables (hint (processorId 3) 1) noOffer 0) ∷ wrong (tables unknown (offer (processorId 2) 65) 0) ∷ wrong (tables unknown noOffer 3) ∷ []
 
-abbrev withCellBy : (Cell → Cell) → System → System
-withCellBy f r = withCell r (processorId 6) (channelId 128) (f (cellAt r (processorId 6) (channelId 128)))
+-- one channel behind one that was not used: "the number called (0 to 64)", a carried offer, a travelling pointer
+abbrev channels : ℕ → Offer → Hint → Channels
+channels w o h =
+    record {
+      granted = 0 ∷ w ∷ [];
+      awaiting = false ∷ true ∷ [];
+      carriedprocessors = 0 ∷ o .processor .0 ∷ [];
+      carriednumbers = 0 ∷ o .number ∷ [];
+      travellingprocessors = 0 ∷ h .processor .0 ∷ [];
+      travellingmoves = 0 ∷ h .moves ∷ [];
+    }
 
-abbrev withUsed : ℕ → System → System
-withUsed n r = withNetwork r (record { slots = r .network .slots; used = n })
+unfoldable pub channelsSamples : List (Sample Channels)
+channelsSamples =
+    fine (channels 64 (offer (processorId 2) 64) (hint (processorId 2) 9999))
+    ∷ wrong (channels 65 noOffer unknown) ∷ wrong (channels 0 (offer (processorId 0) 1) unknown) ∷ wrong (channels 0 noOffer (hint (processorId 1) 0)) ∷ []
 
-abbrev withPlan : List Program → System → System
-withPlan m r = record { processors = r .processors; plan = canonical m; tasks = r .tasks; tables = r .tables; channels = r .channels; network = r .network }
+-- a mover letter for task t and an unused slot, with a count of letters
+abbrev mail : ℕ → ℕ → Network
+mail t n = record { slots = slot (Migration (processorId 2) (taskId t)) ∷ noSlot ∷ []; used = n }
 
-unfoldable pub systemSamples : List (Sample System)
-systemSamples =
-    fine small ∷ wrong (blank 0 (small .plan)) ∷ fine (blank 1 (small .plan)) ∷ fine (blank 6 (small .plan)) ∷ wrong (blank 7 (small .plan))
-    ∷ wrong (withPlan ((sync ∷ []) ∷ []) small)
-    ∷ wrong (withTask small (taskId 1) noTask) ∷ fine (withTask small (taskId 2) noTask)
-    ∷ fine pair ∷ wrong (withTask pair (taskId 2) noTask) ∷ fine (withTask pair (taskId 3) noTask)
-    ∷ fine (withCellBy (λ x. withHint x (hint (processorId 2) 1)) small) ∷ wrong (withCellBy (λ x. withHint x (hint (processorId 3) 1)) small)
-    ∷ wrong (withCellBy (λ x. withHeld x (offer (processorId 2) 65)) small)
-    ∷ fine (withCellBy (λ x. withNoted x (processorId 2)) small) ∷ wrong (withCellBy (λ x. withNoted x (processorId 3)) small)
-    ∷ fine (withCellBy (λ x. withGranted x 64) small) ∷ wrong (withCellBy (λ x. withGranted x 65) small)
-    ∷ wrong (withCellBy (λ x. withCarried x (offer (processorId 0) 1)) small)
-    ∷ wrong (withCellBy (λ x. withTravelling x (hint (processorId 1) 0)) small)
-    ∷ wrong (withUsed 1 small) ∷ fine (crowded 256 small) ∷ wrong (withUsed 257 (crowded 256 small))
-    ∷ fine (withNetwork small (enqueued (small .network) (Migration (processorId 2) (taskId 1))))
-    ∷ wrong (withNetwork small (enqueued (small .network) (Migration (processorId 2) (taskId 2))))
-    ∷ []
+-- "256 letters in the mail"; only those in use are looked at
+unfoldable pub networkSamples : List (Sample Network)
+networkSamples = fine (mail 4 0) ∷ fine (mail 3 1) ∷ wrong (mail 4 1) ∷ wrong (mail 3 2) ∷ []

@@ -7,7 +7,7 @@ use Rattle.plan.specs.declared.Plan.{Plan}
 use Rattle.plan_rules.specs.declared.scan.Scan.{Scan}
 use Rattle.plan_rules.specs.Slots.{scanned}
 use Rattle.plan_rules.specs.Sizes.{sizesIn}
-use Rattle.plan_rules.specs.Uses.{createsIn}
+use Rattle.plan_users.specs.Uses.{createsIn}
 use Rattle.plan_rules.proofs.Meaning.{most, answer-of, answer-unsized}
 use Rattle.plan_rules.proofs.check.Statement.{statement}
 use Rattle.plan_rules.proofs.check.Tie as tie

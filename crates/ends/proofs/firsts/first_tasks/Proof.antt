@@ -8,7 +8,7 @@ use borrow.Author.Tests.{lt-ltb, le-ltb}
 use Rattle.base.specs.Choice.{pick}
 use Rattle.base.specs.Lists.{table}
 use Rattle.base.proofs.Tables.{table-same}
-use Rattle.plan_rules.specs.Uses.{noUse}
+use Rattle.plan_users.specs.Uses.{noUse}
 use Rattle.ends.proofs.Filling.{ltb-other, all-same, fill-more}
 use Rattle.ends.proofs.firsts.first_tasks.Statement.{statement}
 use Rattle.ends.proofs.firsts.first_tasks.Tie as tie

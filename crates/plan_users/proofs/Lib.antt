@@ -1,0 +1,2 @@
+-- The table of users, one slot more.
+mod Using

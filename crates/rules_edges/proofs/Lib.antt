@@ -1,0 +1,2 @@
+-- Each input has its outcome.
+pub mod Edges

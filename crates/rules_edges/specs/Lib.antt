@@ -1,0 +1,3 @@
+-- Inputs and outcomes.
+pub mod Edges
+pub mod SystemEdges

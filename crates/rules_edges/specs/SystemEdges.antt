@@ -1,0 +1,46 @@
+-- Both sides of each condition of 9, of whole rigs.
+use mathlib.Core.List.{List, [], _∷_}
+use Prim.Native.Nat.{ℕ}
+use Rattle.plan.specs.Programs.{Program, canonical}
+use Rattle.rules.specs.declared.channel.Cell.{Cell}
+use Rattle.rules.specs.declared.message.Message.the-variants.{Migration}
+use Rattle.rules.specs.declared.system.System.{System}
+use Rattle.rules.specs.Numbers.{taskId, processorId, channelId}
+use Rattle.rules.specs.Tasks.{noTask}
+use Rattle.rules.specs.Cells.{hint, offer, withHint, withHeld, withNoted, withGranted, withCarried, withTravelling}
+use Rattle.rules.specs.Networks.{enqueued}
+use Rattle.rules.specs.Systems.{withNetwork, withTask, cellAt, withCell}
+use Rattle.rules.specs.Starts.{blank}
+use Rattle.rules.specs.Scripts.{create, sync, finish, startOn}
+use Rattle.rules.specs.Sites.{small, crowded}
+use Rattle.rules.specs.SoundEdges.{Sample, fine, wrong}
+
+-- two tasks; a cell changed at the last entry; another count of letters; another plan
+unfoldable pub pair : System
+pair = startOn 2 ((create 2 ∷ finish ∷ []) ∷ (finish ∷ []) ∷ [])
+
+abbrev withCellBy : (Cell → Cell) → System → System
+withCellBy f r = withCell r (processorId 6) (channelId 128) (f (cellAt r (processorId 6) (channelId 128)))
+
+abbrev withUsed : ℕ → System → System
+withUsed n r = withNetwork r (record { slots = r .network .slots; used = n })
+
+abbrev withPlan : List Program → System → System
+withPlan m r = record { processors = r .processors; plan = canonical m; tasks = r .tasks; tables = r .tables; channels = r .channels; network = r .network }
+
+unfoldable pub systemSamples : List (Sample System)
+systemSamples =
+    fine small ∷ wrong (blank 0 (small .plan)) ∷ fine (blank 1 (small .plan)) ∷ fine (blank 6 (small .plan)) ∷ wrong (blank 7 (small .plan))
+    ∷ wrong (withPlan ((sync ∷ []) ∷ []) small)
+    ∷ wrong (withTask small (taskId 1) noTask) ∷ fine (withTask small (taskId 2) noTask)
+    ∷ fine pair ∷ wrong (withTask pair (taskId 2) noTask) ∷ fine (withTask pair (taskId 3) noTask)
+    ∷ fine (withCellBy (λ x. withHint x (hint (processorId 2) 1)) small) ∷ wrong (withCellBy (λ x. withHint x (hint (processorId 3) 1)) small)
+    ∷ wrong (withCellBy (λ x. withHeld x (offer (processorId 2) 65)) small)
+    ∷ fine (withCellBy (λ x. withNoted x (processorId 2)) small) ∷ wrong (withCellBy (λ x. withNoted x (processorId 3)) small)
+    ∷ fine (withCellBy (λ x. withGranted x 64) small) ∷ wrong (withCellBy (λ x. withGranted x 65) small)
+    ∷ wrong (withCellBy (λ x. withCarried x (offer (processorId 0) 1)) small)
+    ∷ wrong (withCellBy (λ x. withTravelling x (hint (processorId 1) 0)) small)
+    ∷ wrong (withUsed 1 small) ∷ fine (crowded 256 small) ∷ wrong (withUsed 257 (crowded 256 small))
+    ∷ fine (withNetwork small (enqueued (small .network) (Migration (processorId 2) (taskId 1))))
+    ∷ wrong (withNetwork small (enqueued (small .network) (Migration (processorId 2) (taskId 2))))
+    ∷ []
