@@ -9,8 +9,9 @@ use Rattle.base.proofs.Folds.{fold-none, fold-more}
 use Rattle.base.proofs.Joins.{part-of-sum, length-joined}
 use Rattle.base.proofs.Sums.{sum-const}
 use Rattle.plan.specs.Layout.{bytes16, offsetDue}
-use Rattle.plan_write.specs.Output.{overlay, totalIn, entryBytes}
-use Rattle.plan_write.proofs.Overlay.{overlay-none, overlay-more, length-overlay}
+use Rattle.plan_output.specs.Output.{overlay}
+use Rattle.plan_output.proofs.Overlay.{overlay-none, overlay-more, length-overlay}
+use Rattle.plan_write.specs.Header.{totalIn, entryBytes}
 
 pub total-none : (lengths : List ℕ) → totalIn lengths 0 ≡ 0
 total-none lengths = fold-none _+_ 0 (λ k. getD lengths k 0)

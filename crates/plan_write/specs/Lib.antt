@@ -1,2 +1,2 @@
--- What the parts of writing put where; the proofs show that together they are the paper's writing.
-pub mod Output
+-- What the header holds; the proofs show that header and code together are the paper's file.
+pub mod Header

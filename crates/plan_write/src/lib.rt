@@ -1,6 +1,4 @@
 // Plan files written.
-mod bytes;
-mod code;
 mod header;
 
 // A plan value written as a file.
@@ -9,14 +7,14 @@ ghost use Rattle.plan.specs.declared.PlanAnswer.the-variants.{Accepted};
 ghost use Rattle.plan.specs.Programs.{programs};
 ghost use Rattle.plan.specs.Refusals.{planAnswer};
 ghost use Rattle.plan.specs.Outcomes.{WritePlan};
-use bytes::put_word;
-use code::write_code;
 use header::total_of;
 use header::write_entries;
 use plan::Plan;
 use plan::PlanAnswer;
 use plan::Refusal;
 use plan::WriteAnswer;
+use plan_output::bytes::put_word;
+use plan_output::code::write_code;
 
 // An accepted plan, if the output has room for it.
 fn write_accepted(p: Plan, out: &mut [u8]) -> WriteAnswer

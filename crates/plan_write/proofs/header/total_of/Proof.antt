@@ -3,7 +3,7 @@ use mathlib.Core.Path.{_≡_, sym}
 use Prim.Native.Nat.{_≤_, _-_}
 use native.Mathlib.Omega.{arith}
 use borrow.Author.Needs.{needs}
-use Rattle.plan_write.specs.Output.{totalIn}
+use Rattle.plan_write.specs.Header.{totalIn}
 use Rattle.plan_write.proofs.Entries.{total-none, total-more, total-part}
 use Rattle.plan_write.proofs.header.total_of.Statement.{statement}
 use Rattle.plan_write.proofs.header.total_of.Tie as tie

@@ -2,7 +2,7 @@
 ghost use mathlib.Core.Path.{_≡_};
 ghost use Prim.Native.Nat.{_+_, _*_, _≤_};
 ghost use lib.ListN.{length};
-ghost use Rattle.plan_write.specs.Output.{overlay, bytesOf, slotsBytes};
+ghost use Rattle.plan_output.specs.Output.{overlay, bytesOf, slotsBytes};
 use super::bytes::put_word;
 
 // The bytes of an instruction put at a place of the output.

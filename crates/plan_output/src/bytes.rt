@@ -3,7 +3,7 @@ ghost use mathlib.Core.Path.{_≡_};
 ghost use Prim.Native.Nat.{_+_, _≤_};
 ghost use lib.ListN.{length};
 ghost use Rattle.plan.specs.Layout.{bytes16};
-ghost use Rattle.plan_write.specs.Output.{overlay};
+ghost use Rattle.plan_output.specs.Output.{overlay};
 
 // A field of 16 bits, put at a place of the output.
 pub fn put_word(out: &mut [u8], at: usize, n: u16)

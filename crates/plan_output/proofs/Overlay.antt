@@ -7,7 +7,7 @@ use native.Mathlib.Numerals.{add-one}
 use native.Mathlib.Omega.{arith}
 use lib.ListN.{length, take, drop, set, length-append, length-drop, take-append-drop}
 use lib.Seq.{length-take-le, take-at, drop-append-add, drop-drop, sets-eq}
-use Rattle.plan_write.specs.Output.{overlay, Put}
+use Rattle.plan_output.specs.Output.{overlay, Put}
 
 module _ (out : List ℕ) where
   pub overlay-none : (at : ℕ) → overlay out at [] ≡ out

@@ -2,9 +2,9 @@
 use native.Mathlib.Omega.{arith}
 use lib.ListN.{length-set}
 use borrow.Author.Needs.{needs}
-use Rattle.plan_write.proofs.Overlay.{two-stores}
-use Rattle.plan_write.proofs.bytes.put_word.Statement.{statement}
-use Rattle.plan_write.proofs.bytes.put_word.Tie as tie
+use Rattle.plan_output.proofs.Overlay.{two-stores}
+use Rattle.plan_output.proofs.bytes.put_word.Statement.{statement}
+use Rattle.plan_output.proofs.bytes.put_word.Tie as tie
 
 cast-out : tie.Need-cast-out
 cast-out c = search needs

@@ -2,9 +2,9 @@
 use native.Mathlib.Omega.{arith}
 use lib.ListN.{length-set}
 use borrow.Author.Needs.{needs}
-use Rattle.plan_write.proofs.Slot.{instruction-put}
-use Rattle.plan_write.proofs.code.put_instruction.Statement.{statement}
-use Rattle.plan_write.proofs.code.put_instruction.Tie as tie
+use Rattle.plan_output.proofs.Slot.{instruction-put}
+use Rattle.plan_output.proofs.code.put_instruction.Statement.{statement}
+use Rattle.plan_output.proofs.code.put_instruction.Tie as tie
 
 slice-write-out : tie.Need-slice-write-out
 slice-write-out c = search needs

@@ -4,10 +4,10 @@ use Prim.Native.Nat.{_≤_, _+_, _*_, _-_}
 use native.Mathlib.Omega.{arith}
 use lib.ListN.{length}
 use borrow.Author.Needs.{needs}
-use Rattle.plan_write.specs.Output.{slotsBytes, Put}
-use Rattle.plan_write.proofs.Slot.{slots-none, slots-room, slots-step, slots-skip}
-use Rattle.plan_write.proofs.code.write_code.Statement.{statement}
-use Rattle.plan_write.proofs.code.write_code.Tie as tie
+use Rattle.plan_output.specs.Output.{slotsBytes, Put}
+use Rattle.plan_output.proofs.Slot.{slots-none, slots-room, slots-step, slots-skip}
+use Rattle.plan_output.proofs.code.write_code.Statement.{statement}
+use Rattle.plan_output.proofs.code.write_code.Tie as tie
 
 abbrev Inv-loop : tie.InvT-loop
 Inv-loop out₀ start tasks lengths opcodes operands end at₀ s₀ out at s =

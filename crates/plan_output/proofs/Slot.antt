@@ -10,8 +10,8 @@ use Rattle.base.proofs.Folds.{fold-none, fold-more}
 use Rattle.base.proofs.Joins.{part-of-sum, length-joined}
 use Rattle.base.proofs.Slots.{nextRow, joined-skip}
 use Rattle.plan.specs.Layout.{bytes16}
-use Rattle.plan_write.specs.Output.{overlay, bytesOf, slotAt, slotsBytes, Put}
-use Rattle.plan_write.proofs.Overlay.{overlay-more, two-stores, put-none, put-more}
+use Rattle.plan_output.specs.Output.{overlay, bytesOf, slotAt, slotsBytes, Put}
+use Rattle.plan_output.proofs.Overlay.{overlay-more, two-stores, put-none, put-more}
 
 -- an instruction put byte by byte
 pub instruction-put : (out : List ℕ) (at opcode operand : ℕ) (after : List ℕ) → at + 4 ≤ length out

@@ -1,27 +1,16 @@
--- What the parts of writing put where.
+-- Bytes put at a place, and the bytes of slots.
 use mathlib.Core.Path.{_≡_}
 use mathlib.Core.List.{List, [], _++_}
 use Prim.Native.Nat.{ℕ, _+_, _/_, _%_}
 use lib.ListN.{length, getD, take, drop}
 use lib.Dec.{ltb}
 use Rattle.base.specs.Choice.{pick}
-use Rattle.base.specs.Range.{joined, sumBelow}
-use Rattle.plan.specs.Layout.{bytes16, offsetDue, instructionBytes}
+use Rattle.base.specs.Range.{joined}
+use Rattle.plan.specs.Layout.{instructionBytes}
 
 -- the bytes xs put at a place
 unfoldable pub overlay : List ℕ → ℕ → List ℕ → List ℕ
 overlay out at xs = take at out ++ (xs ++ drop (at + length xs) out)
-
--- how many instructions the first n tasks have
-abbrev pub totalIn : List ℕ → ℕ → ℕ
-totalIn lengths n = sumBelow n (λ k. getD lengths k 0)
-
--- the header entries of n tasks with these counts
-abbrev pub entryBytes : List ℕ → ℕ → ℕ → List ℕ
-entryBytes lengths n k = bytes16 (offsetDue n (λ j. getD lengths j 0) k) ++ bytes16 (getD lengths k 0)
-
-abbrev pub entriesBytes : List ℕ → ℕ → List ℕ
-entriesBytes lengths n = joined n (entryBytes lengths n)
 
 -- the bytes of an instruction
 abbrev pub bytesOf : ℕ → ℕ → List ℕ

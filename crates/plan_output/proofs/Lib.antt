@@ -1,0 +1,3 @@
+-- Bytes put at a place, and slot after slot.
+pub mod Overlay
+mod Slot

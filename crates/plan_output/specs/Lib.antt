@@ -1,0 +1,2 @@
+-- What is put where in an output.
+pub mod Output
