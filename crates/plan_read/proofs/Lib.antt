@@ -1,8 +1,5 @@
--- What reading computes is the paper's reading of a file.
-mod Filling
-mod Entries
-mod Headers
-mod Slots
+-- What the stages of reading give together is the paper's reading of a file.
 mod Empty
-pub mod Meaning
-mod Reading
+mod Answers
+mod Rest
+mod Meaning

@@ -5,16 +5,19 @@ use mathlib.Core.List.{List}
 use mathlib.Core.Logic.{by-cases}
 use Prim.Native.Nat.{ℕ, _+_, _*_, _/_, _%_, _<_, _≤_}
 use native.Mathlib.Omega.{arith}
+use native.Mathlib.Nat.{add-assoc, add-zero}
 use native.Mathlib.Decide.{decLt}
-use lib.ListN.{getD, List·getD-eq-default}
+use lib.ListN.{getD, drop, List·getD-eq-default}
 use lib.Dec.{ltb, eqb}
 use borrow.Author.Tests.{lt-ltb, le-ltb}
 use Rattle.base.specs.Choice.{pick, unless}
-use Rattle.base.specs.Range.{below}
-use Rattle.base.proofs.Folds.{fold-same}
-use Rattle.base.proofs.Slots.{row-of, below-slots}
+use Rattle.base.specs.Range.{below, sumBelow}
+use Rattle.base.proofs.Folds.{fold-same, fold-add, fold-grid, fold-front}
+use Rattle.base.proofs.Sums.{sum-const}
+use Rattle.base.proofs.Slots.{row-of, place-of, below-slots}
 use Rattle.base.proofs.Tables.{length-table, getD-table, table-same}
 use Rattle.plan.specs.declared.Instruction.{Instruction}
+use Rattle.plan.specs.declared.PlanAnswer.{PlanAnswer}
 use Rattle.plan.specs.declared.PlanAnswer.the-variants.{Accepted, Refused}
 use Rattle.plan.specs.declared.Refusal.{Refusal}
 use Rattle.plan.specs.declared.Refusal.the-variants.{BadLayout, BadInstruction}
@@ -27,8 +30,10 @@ use Rattle.plan.specs.Outcomes.{planRead}
 use Rattle.plan.proofs.Parts.{tasks-in, program-in, no-program-in, count-in}
 use Rattle.plan_laws.proofs.Answers.{laid, sized-ok}
 use Rattle.plan_laws.proofs.Canonical.{meaning-canonical}
-use Rattle.plan_read.specs.Header.{countsTo}
-use Rattle.plan_read.specs.Code.{usedSlot, slotRead, codeOf, readRefused}
+use Rattle.plan_parts.specs.Header.{noHeader, goodHeader, countsTo, headerOf}
+use Rattle.plan_parts.specs.Code.{usedSlot, usedTo, slotPlace, slotRead, codeOf}
+use Rattle.plan_read.specs.Stages.{readRefused, answered, ofCode, planOf}
+use Rattle.plan_read.proofs.Rest.{byte-rest, instruction-rest}
 
 -- the programs that a file holds
 module _ (b : List ℕ) where
@@ -58,6 +63,13 @@ module _ (b : List ℕ) where
 
 -- a file whose layout is right
 module _ (b : List ℕ) (h : layoutOk b ≡ true) where
+  -- what stands behind the header, and the counts that it says
+  abbrev rest : List ℕ
+  rest = drop (4 + 4 * fileTasks b) b
+
+  abbrev counts : List ℕ
+  counts = countsTo b (fileTasks b)
+
   few-tasks : fileTasks b ≤ 64
   few-tasks = laid b h .tasks .few
 
@@ -74,15 +86,62 @@ module _ (b : List ℕ) (h : layoutOk b ≡ true) where
       let q = few-tasks in
       rw (counts-at b (s / 64) (omega arith) (omega arith)) refl
 
+  -- how many slots before a used one are used
+  in-row : (k i : ℕ) → k < fileTasks b → i < 64 → usedSlot counts (64 * k + i) ≡ ltb i (fileCount b k)
+  in-row k i l q = used-of (64 * k + i) (omega arith) ∙ rw (row-of k i q, place-of k i q) refl
+
+  row-used : (k : ℕ) → k < fileTasks b → sumBelow 64 (λ i. pick (usedSlot counts (64 * k + i)) 1 0) ≡ fileCount b k
+  row-used k l =
+      fold-same _+_ 0 64 _ (λ i. pick (ltb i (fileCount b k)) 1 0) (λ i q. rw (in-row k i l q) refl)
+      ∙ fold-front _+_ 0 add-assoc add-zero (fileCount b k) 64 (λ i. 1) (few k l)
+      ∙ omega (arith, sum-const 1 (fileCount b k))
+
+  used-before : (k i : ℕ) → k < fileTasks b → i < fileCount b k → usedTo counts (64 * k + i) ≡ sumBelow k (fileCount b) + i
+  used-before k i l q =
+      let c = few k l in
+      let f : ℕ → ℕ = λ j. pick (usedSlot counts j) 1 0 in
+      let rows : sumBelow (64 * k) f ≡ sumBelow k (fileCount b) =
+      fold-grid _+_ 0 add-assoc add-zero 64 k f ∙ fold-same _+_ 0 k _ (fileCount b) (λ r p. row-used r (omega arith)) in
+      let here : sumBelow i (λ j. f (64 * k + j)) ≡ sumBelow i (λ j. 1) =
+      fold-same _+_ 0 i _ (λ j. 1) (λ j p. rw (in-row k j l (omega arith), lt-ltb j (fileCount b k) (omega arith)) refl) in
+      omega (arith, fold-add _+_ 0 add-assoc add-zero (64 * k) i f, sum-const 1 i)
+
+  -- the instruction of a used slot stands behind the header, where its task's offset says
+  place-read : (s : ℕ) → s < 64 * fileTasks b → s % 64 < fileCount b (s / 64)
+      → 4 + 4 * fileTasks b + slotPlace counts s ≡ placeOf b (s / 64) (s % 64)
+  place-read s l q =
+      let k = s / 64 in
+      let i = s % 64 in
+      let e : 64 * k + i ≡ s = omega arith in
+      let n = rw e at (used-before k i (omega arith) q) in
+      omega (arith, laid b h .offsets k (omega arith))
+
+  -- what is read of a slot's place, in the rest of the file and in the file
+  slot-of : {A : Type 0} (f : List ℕ → ℕ → A) (e : A) → ((at : ℕ) → f rest at ≡ f b (4 + 4 * fileTasks b + at))
+      → (s : ℕ) → s < 64 * fileTasks b
+      → pick (usedSlot counts s) (f rest (slotPlace counts s)) e
+      ≡ pick (ltb (s % 64) (fileCount b (s / 64))) (f b (placeOf b (s / 64) (s % 64))) e
+  slot-of f e same s l =
+      by-cases
+      (decLt (s % 64) (fileCount b (s / 64)))
+      (λ q.
+      rw (used-of s l, lt-ltb (s % 64) (fileCount b (s / 64)) q)
+      (same (slotPlace counts s) ∙ ap (f b) (place-read s l q)))
+      (λ q. rw (used-of s l, le-ltb (s % 64) (fileCount b (s / 64)) (omega arith)) refl)
+
   slot-field : (get : Instruction → ℕ) → get noInstruction ≡ 0 → (s : ℕ)
-      → pick (ltb s (64 * fileTasks b)) (get (slotRead b (countsTo b (fileTasks b)) s)) 0 ≡ get (inSlot (filePrograms b) s)
+      → pick (ltb s (64 * fileTasks b)) (get (slotRead rest counts s)) 0 ≡ get (inSlot (filePrograms b) s)
   slot-field get none s =
       by-cases
       (decLt s (64 * fileTasks b))
-      (λ l. simp (lt-ltb s (64 * fileTasks b) l, used-of s l) (ap get (used-slot b (s / 64) (s % 64) (omega arith))))
+      (λ l.
+      simp (lt-ltb s (64 * fileTasks b) l)
+      (ap get
+      (slot-of fileInstruction noInstruction (instruction-rest (4 + 4 * fileTasks b) b) s l
+      ∙ used-slot b (s / 64) (s % 64) (omega arith))))
       (λ l. simp (le-ltb s (64 * fileTasks b) (omega arith), no-program-in b (s / 64) (omega arith)) (sym none))
 
-  pub plan-read : codeOf b (fileTasks b) (countsTo b (fileTasks b)) .plan ≡ canonical (filePrograms b)
+  pub plan-read : codeOf rest (fileTasks b) counts .plan ≡ canonical (filePrograms b)
   unfolding canonical
   plan-read =
       let n = counts-read in
@@ -90,13 +149,15 @@ module _ (b : List ℕ) (h : layoutOk b ≡ true) where
       let a = table-same 4096 _ (λ s. inSlot (filePrograms b) s .operand) (λ s l. slot-field (λ x. x .operand) refl s) in
       λ i. record { tasks = sym (tasks-in b) i; lengths = n i; opcodes = o i; operands = a i }
 
-  pub zeros-read : codeOf b (fileTasks b) (countsTo b (fileTasks b)) .zeros ≡ secondBytesOk b
+  pub zeros-read : codeOf rest (fileTasks b) counts .zeros ≡ secondBytesOk b
   unfolding secondBytesOk
   zeros-read =
       let n = fileTasks b in
       let z : ℕ → ℕ → Bool = λ k i. eqb (byteAt b (placeOf b k i + 1)) 0 in
       fold-same _&&_ true (64 * n) _ (λ j. pick (ltb (j % 64) (fileCount b (j / 64))) (z (j / 64) (j % 64)) true)
-      (λ j l. rw (used-of j l) refl)
+      (λ j l.
+      slot-of (λ b at. eqb (byteAt b (at + 1)) 0) true
+      (λ at. ap (λ (x : ℕ). eqb x 0) (byte-rest (4 + 4 * n) b (at + 1) ∙ ap (byteAt b) (sym (add-assoc (4 + 4 * n) at 1)))) j l)
       ∙ below-slots n (fileCount b) (λ j count i. z (j / 64) i) few
       ∙ fold-same _&&_ true n _ (λ k. below (fileCount b k) (z k))
       (λ k l.
@@ -122,29 +183,57 @@ module _ (b : List ℕ) (h : layoutOk b ≡ true) where
       go true = refl
       go false = refl
 
-pub file-answer-bad : (b : List ℕ) → layoutOk b ≡ false → fileAnswer b ≡ Refused BadLayout
-unfolding fileAnswer
-file-answer-bad b h = rw h refl
-
 -- what reading gives
 read-answer : (b : List ℕ) (r : Refusal) → fileAnswer b ≡ Refused r → readRefused r ≡ planRead b
 unfolding planRead
 read-answer b r e = rw e refl
 
-pub read-bad : (b : List ℕ) → layoutOk b ≡ false → readRefused BadLayout ≡ planRead b
-read-bad b h = read-answer b BadLayout (file-answer-bad b h)
+bad-layout : (b : List ℕ) → layoutOk b ≡ false → readRefused BadLayout ≡ planRead b
+unfolding fileAnswer
+bad-layout b h = read-answer b BadLayout (rw h refl)
 
 module _ (b : List ℕ) (h : layoutOk b ≡ true) where
-  pub read-second : secondBytesOk b ≡ false → readRefused BadInstruction ≡ planRead b
-  read-second z = read-answer b BadInstruction (file-answer b h ∙ rw z refl)
-
   plan-answer : secondBytesOk b ≡ true → fileAnswer b ≡ planAnswer (filePrograms b)
   plan-answer z = file-answer b h ∙ rw z refl
 
-  pub read-refused : secondBytesOk b ≡ true → (r : Refusal) → planAnswer (filePrograms b) ≡ Refused r → readRefused r ≡ planRead b
-  read-refused z r e = read-answer b r (plan-answer z ∙ e)
-
-  pub read-accepted : secondBytesOk b ≡ true → planAnswer (filePrograms b) ≡ Accepted
-      → record { answer = Accepted; plan = canonical (filePrograms b) } ≡ planRead b
+  -- what the code is read as, by what it says of the file
+  of-answer : (z : Bool) → secondBytesOk b ≡ z → (a : PlanAnswer) → planAnswer (filePrograms b) ≡ a
+      → unless z (readRefused BadInstruction) (answered (canonical (filePrograms b)) a) ≡ planRead b
   unfolding planRead
-  read-accepted z e = rw (plan-answer z ∙ e) refl
+  of-answer false z a e = read-answer b BadInstruction (file-answer b h ∙ rw z refl)
+  of-answer true z Accepted e = rw (plan-answer z ∙ e) refl
+  of-answer true z (Refused r) e = read-answer b r (plan-answer z ∙ e)
+
+  pub code-read : ofCode (codeOf (rest b h) (fileTasks b) (counts b h)) ≡ planRead b
+  code-read =
+      rw (zeros-read b h, plan-read b h, programs-read b h)
+      (of-answer (secondBytesOk b) refl (planAnswer (filePrograms b)) refl)
+
+-- the stages together: the header, and then what stands behind it
+pub stages-read : (b : List ℕ) → planOf (headerOf b) (drop (headerOf b .size) b) ≡ planRead b
+unfolding headerOf planOf
+stages-read b = go (layoutOk b) refl
+  where
+    go : (t : Bool) → layoutOk b ≡ t
+        → unless (pick t (goodHeader b) noHeader .ok) (readRefused BadLayout)
+        (ofCode (codeOf (drop (pick t (goodHeader b) noHeader .size) b) (pick t (goodHeader b) noHeader .tasks) (pick t (goodHeader b) noHeader .lengths)))
+        ≡ planRead b
+    go true e = code-read b e
+    go false e = bad-layout b e
+
+-- a header that was read names 64 tasks at most, and takes few bytes
+pub header-tasks : (b : List ℕ) → headerOf b .tasks ≤ 64
+unfolding headerOf
+header-tasks b = go (layoutOk b) refl
+  where
+    go : (t : Bool) → layoutOk b ≡ t → pick t (goodHeader b) noHeader .tasks ≤ 64
+    go true e = laid b e .tasks .few
+    go false e = omega arith
+
+pub header-size : (b : List ℕ) → headerOf b .size ≤ 260
+unfolding headerOf
+header-size b = go (layoutOk b) refl
+  where
+    go : (t : Bool) → layoutOk b ≡ t → pick t (goodHeader b) noHeader .size ≤ 260
+    go true e = omega (arith, laid b e .tasks .few)
+    go false e = omega arith

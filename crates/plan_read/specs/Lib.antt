@@ -1,3 +1,3 @@
--- What the parts of reading compute; the proofs show that together they are the paper's reading.
-pub mod Header
-pub mod Code
+-- The reader, and what it reads of a file stage by stage; the proofs show that together this is the paper's reading.
+pub mod Reader
+pub mod Stages

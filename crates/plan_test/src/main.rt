@@ -3,10 +3,10 @@
 // then plan, steps and output.
 ghost use Prim.Native.Nat.{_<_, _≤_};
 ghost use lib.ListN.{length};
+use fields::byte_at;
+use fields::word_at;
 use libc::STDOUT_FILENO;
 use plan::WriteAnswer;
-use plan_read::bytes::byte_at;
-use plan_read::bytes::word_at;
 use std::num::wrapping_add_u64;
 
 // What the records of a file came to.

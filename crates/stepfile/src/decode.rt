@@ -2,8 +2,8 @@
 ghost use mathlib.Core.Path.{_≡_};
 ghost use Prim.Native.Nat.{_≤_};
 ghost use Rattle.rules.specs.StepFiles.{stepAt};
-use plan_read::bytes::byte_at;
-use plan_read::bytes::word_at;
+use fields::byte_at;
+use fields::word_at;
 use rules::step::Step;
 
 // The step after the first k.

@@ -1,0 +1,5 @@
+-- What reading the parts computes, entry by entry and slot by slot.
+pub mod Filling
+mod Entries
+mod Headers
+mod Slots

@@ -1,0 +1,3 @@
+-- What the parts of a plan file are read as.
+pub mod Header
+pub mod Code

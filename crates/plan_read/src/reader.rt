@@ -1,0 +1,49 @@
+// The reader of plan files: the caller's bytes and a place. Each function takes it apart and leaves the work to a function
+// of the bytes and the place.
+ghost use mathlib.Core.Path.{_≡_};
+ghost use Prim.Native.Nat.{_+_, _<_, _≤_, _^_};
+ghost use Rattle.plan_parts.specs.Header.{headerOf};
+ghost use Rattle.plan_read.specs.Reader.{atFront, moved, left};
+ghost use Rattle.plan_read.specs.Stages.{planOf};
+use super::stages::plan_at;
+use plan::PlanRead;
+use plan_parts::header::Header;
+use plan_parts::header::header_at;
+
+pub struct PlanReader<'a> {
+    pub bytes: &'a [u8],
+    pub at: usize,
+}
+
+// A reader at the front of a file.
+pub fn new<'a>(file: &'a [u8]) -> PlanReader<'a>
+    ensures { λ r. ⌜ r ≡ atFront (file .entry) ⌝ }
+{
+    PlanReader { bytes: file, at: 0 }
+}
+
+// The reader n bytes further on.
+pub fn advanced<'a>(r: PlanReader<'a>, n: usize) -> PlanReader<'a>
+    requires { ⌜ r .at + n < 2 ^ 64 ⌝ }
+    ensures { λ q. ⌜ q ≡ moved (r .entry) n ⌝ }
+{
+    PlanReader {
+        bytes: r.bytes,
+        at: r.at + n,
+    }
+}
+
+// The header that stands here.
+pub fn header<'a>(r: PlanReader<'a>) -> Header
+    ensures { λ h. ⌜ h ≡ headerOf (left (r .entry)) ⌝ }
+{
+    header_at(r.bytes, r.at)
+}
+
+// The plan whose instructions stand here, behind its header.
+pub fn plan<'a>(r: PlanReader<'a>, h: Header) -> PlanRead
+    requires { ⌜ h .tasks ≤ 64 ⌝ }
+    ensures { λ p. ⌜ p ≡ planOf h (left (r .entry)) ⌝ }
+{
+    plan_at(r.bytes, r.at, h)
+}
