@@ -1,5 +1,4 @@
--- "A plan file is read through one reader that holds the caller's bytes and a place": at the front of a file, n bytes further on, and
--- what is left from its place.
+-- The reader of plan files, the caller's bytes and a place: at the front of a file, n bytes further on, and what is left from its place.
 use mathlib.Core.List.{List}
 use Prim.Native.Nat.{ℕ, _+_}
 use lib.ListN.{drop}

@@ -3,7 +3,7 @@
 -- A reader is Copy: what it owns is had once more for each call but the last. In a local MIR erases the lifetime of its type, so a value is shown to have the type at `erased`. The header's machine value is written out, since its
 -- size is read off its local.
 use mathlib.Core.Path.{_≡_, refl, _∙_, ap}
-use Prim.Native.Nat.{ℕ, _<_, _≤_, _+_, _^_}
+use Prim.Native.Nat.{ℕ, _<_, _+_, _^_}
 use native.Mathlib.Nat.{zero-add}
 use native.Mathlib.Omega.{arith}
 use mathlib.Core.List.{List, [], _∷_}
@@ -18,19 +18,18 @@ use prog.Memory.{Memory}
 use prog.Routine.{Routine}
 use prog.Wp.{Heap, Calls, Loops, WpFn, Tables}
 use ghost.Atoms.{Atoms, sem}
-use contract.Lifetimes.{Lfts}
 use contract.Monad.{Fun, fact}
 use contract.Running.{givenOf, tables, tablesOf}
 use types.Kit.{Given, ‵, raw, _⊛_, ⋆, some, later, _$_, _∵_, !, qed, by, move, use1, use2, split, join, pick, rewrite, fsplit, fjoin, suffices, frame, await, done}
 use types.Part.{whole, sub, look-in}
 use types.Run.{look, init, forget, stop, fld, from, load, of-opd, and-then, no-more, assigns, land, returns, enter, alloc1, alloc0, params1, pass1, pass0, free1, free0}
 use sound.WpLaws.{FmC, fmOf, WpFn-mono}
-use denote.RattleType.{RattleType, owns}
+use denote.RattleType.{owns}
 use denote.Laws.{Is, shows}
 use denote.Plain.{uint-makes}
 use denote.Builtin.{u8, usize}
 use denote.Ref.{RefT, NamedLft, now}
-use denote.Signature.{plain, namedLft}
+use denote.Signature.{plain}
 use denote.Slice.{sliceVal, ShrSlice, slice-vals, shr-slice-tells, shr-slice-lawful, shr-slice-copy}
 use denote.Steps.{only, owned, peeks, heard, nothing}
 use denote.Struct.Laws as LL
@@ -54,6 +53,7 @@ use Rattle.plan_read.specs.declared.reader.PlanReader.{PlanReader}
 use Rattle.plan_read.specs.Reader.{atFront, moved, left}
 use Rattle.plan_read.specs.Stages.{planOf}
 use Rattle.plan_read.proofs.Meaning.{stages-read, header-tasks, header-size}
+use Rattle.plan_read.proofs.Held.{B, twice}
 use Rattle.plan_read.proofs.reader.PlanReader as T
 use Rattle.plan_read.proofs.reader.PlanReader.Laws as T′
 use Rattle.plan_read.proofs.reader.new as new
@@ -76,10 +76,6 @@ use Rattle.plan_read.proofs.read_plan.Key.{name as #plan-read·read-pla
 use Rattle.plan_read.proofs.read_plan as read-plan
 use Rattle.plan_read.proofs.read_plan.Statement as stated
 use Rattle.plan_read.proofs.read_plan.Code as code
-
--- the reader's type, over the signature's lifetimes
-abbrev B : Lfts 1 → RattleType
-B κs = T.the-row (namedLft 1 0 tt κs)
 
 abbrev stayed : Stays (read-plan.ended .signature .params) (read-plan.ended .kept)
 stayed = (stay-none-slice (0 ∷ []) tt (plain (λ _. u8)) yes, tt)
@@ -133,7 +129,7 @@ module _ {M : Type 1} (𝓤 : URA M) (H : Heap 𝓤) (A : Atoms 𝓤) (W : Given
   small : h .size < 2 ^ 64
   small = omega (arith, header-size (left start))
 
-  reached : 0 + h .size < 2 ^ 64
+  reached : start .at + h .size < 2 ^ 64
   reached = omega (arith, small)
 
   together : planOf h (left behind) ≡ planRead (now s)
@@ -212,7 +208,7 @@ module _ {M : Type 1} (𝓤 : URA M) (H : Heap 𝓤) (A : Atoms 𝓤) (W : Given
         peeks ! (B (κ, tt)) (Is (B (κ, tt))) (shows 𝓤 H A (B (κ, tt))) start (u ∷ []) (λ is.
         land ! (from ! (stop !)) (init ! 13 refl (LL.lawful (T.the-type αᵉ) (T′.the-laws αᵉ) 𝓤 H A W .typed start _ is .0)) $
         assigns ! (of-opd ! (load ! (from ! (stop !)) (look ! 13 refl))) (from ! (stop !)) (init ! 7 refl (LL.lawful (T.the-type αᵉ) (T′.the-laws αᵉ) 𝓤 H A W .typed start _ is .0)) $
-        use1 W (‵ (OwnR start u) ⊛ ‵ (OwnR start u)) (LL.copy (T.the-type (namedLft 1 0 tt (κ, tt))) (T′.the-copy (namedLft 1 0 tt (κ, tt))) 𝓤 H A W .twice start (u ∷ [])) $ split ! $
+        use1 W (‵ (OwnR start u) ⊛ ‵ (OwnR start u)) (twice 𝓤 H A W κ start u) $ split ! $
         -- `header`
         move ! (0 ∷ 2 ∷ []) $ use2 W (raw (Head 𝓤 H A mem run .pre (to-header u))) (goes-header u) $
         calls-at ! fm (Head 𝓤 H A mem run) known-header (to-header u) (and-then ! (load ! (from ! (stop !)) (look ! 7 refl)) (no-more !)) (λ w.
