@@ -22,7 +22,7 @@ use rules::task::Task;
 use tables::sweep::Sweep;
 
 // The instruction changes its task alone.
-pub fn task_change(k: Scope, x: Site, y: Task) -> Change
+pub(crate) fn task_change(k: Scope, x: Site, y: Task) -> Change
     ensures { λ r. ⌜ r ≡ taskChange k x y ⌝ }
 {
     let receiver = x.receiver;
@@ -94,7 +94,7 @@ fn finish_change(k: Scope, x: Site, t: TaskId) -> Change
 }
 
 // A rule about a channel.
-pub fn channel_change(k: Scope, outcome: Outcome) -> Change
+pub(crate) fn channel_change(k: Scope, outcome: Outcome) -> Change
     ensures { λ r. ⌜ r ≡ change k outcome Nothing ⌝ }
 {
     Change {

@@ -27,7 +27,7 @@ pub struct Turn {
 }
 
 // Task t becomes x; 0 is none.
-pub fn store_task(tasks: [Task; 64], t: TaskId, x: Task) -> [Task; 64]
+fn store_task(tasks: [Task; 64], t: TaskId, x: Task) -> [Task; 64]
     requires { ⌜ t .0 ≤ 64 ⌝ }
     ensures { λ r. ⌜ r ≡ taskStored tasks t x ⌝ }
 {
@@ -41,7 +41,7 @@ pub fn store_task(tasks: [Task; 64], t: TaskId, x: Task) -> [Task; 64]
 }
 
 // The cell of a scope becomes x; nothing where it has no channel.
-pub fn put_cell(k: Scope, x: Cell, store: Store) -> Store
+fn put_cell(k: Scope, x: Cell, store: Store) -> Store
     requires { ⌜ scopeOk k ≡ true ⌝ }
     ensures { λ r. ⌜ r ≡ cellPut k x store ⌝ }
 {

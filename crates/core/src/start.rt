@@ -1,4 +1,4 @@
-// "Rig at the start".
+// The rig at the start.
 ghost use mathlib.Core.Path.{_≡_};
 ghost use Rattle.rules.specs.Starts.{blank, started};
 ghost use Rattle.rules.specs.Tasks.{unborn};
@@ -20,7 +20,7 @@ use tables::store::Store;
 use tables::sweep::CellRule;
 use tables::sweep::for_ends;
 
-// "An unborn task has desk 0, place 1, word 0, count 0".
+// A task before its birth.
 fn unborn() -> Task
     ensures { λ r. ⌜ r ≡ unborn ⌝ }
 {

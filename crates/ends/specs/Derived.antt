@@ -11,7 +11,7 @@ use Rattle.plan.specs.Users.{users, firstOf}
 use Rattle.rules.specs.Places.{sendNumber}
 use Rattle.ends.specs.declared.Ends.{Ends}
 
--- the number of the send in slot s "by its instructions, from 1", 0 where the slot has no send
+-- the number of the send in slot s, 0 where the slot has no send
 unfoldable pub numberIn : Programs → ℕ → ℕ
 numberIn m s =
     pick (eqb (inSlot m s .opcode) opSend) (sendNumber (programAt m (s / 64)) (channelId (inSlot m s .operand)) (s % 64 + 1)) 0

@@ -20,7 +20,7 @@ use Rattle.tables.specs.declared.store.Store.{Store}
 use Rattle.tables.specs.Store.{cellIn, cellStored}
 use Rattle.judge.specs.declared.change.Scope.{Scope}
 
--- task t of the tasks; "0 means none"
+-- task t of the tasks; 0 is none
 unfoldable pub taskIn : List Task → TaskId → Task
 taskIn ts t = pick (eqb (t .0) 0) noTask (getD ts (t .0 - 1) noTask)
 

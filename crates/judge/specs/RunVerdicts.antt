@@ -88,7 +88,7 @@ sendIn numbers t i k x =
     (pick (eqb (i .opcode) opSend) (getD numbers (slotAt t (x .sender .pc - 1)) 0)
     0)
 
--- "13, the letters needed don't fit in the mail"
+-- 13, unless its letters fit
 abbrev pub fittingIn : ℕ → ℕ → Change → Verdict
 fittingIn n used k = unless (leb (used + length (lettersOf n (k .outcome .posting))) mailSize) (Refused NetworkFull) (Accepted k)
 

@@ -1,5 +1,4 @@
-// "3, kind unknown .. or argument out of range" and "4, finish not exactly the last instruction of a
-// task", in one pass over the slots.
+// 3 and 4 of a plan value, in one pass over the slots.
 ghost use mathlib.Core.Path.{_≡_};
 ghost use Prim.Native.Nat.{_<_, _≤_};
 ghost use Rattle.plan.specs.Refusals.{instructionOk};

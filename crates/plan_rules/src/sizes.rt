@@ -1,4 +1,4 @@
-// "2, .. T or a count out of range".
+// 2 of a plan value.
 ghost use mathlib.Core.Path.{_≡_};
 ghost use Rattle.plan_rules.specs.Sizes.{sizesIn};
 

@@ -1,5 +1,4 @@
-// Who uses what in a plan: "5, a task 2..T not created exactly once, or not by a lower number" and "6, a channel with two
-// sending or two receiving tasks, or one task at both ends", from a table of which task uses what.
+// Who uses what in a plan, in tables; 5 and 6 of a plan value, by these.
 ghost use mathlib.Core.Path.{_≡_};
 ghost use Prim.Native.Nat.{_≤_};
 ghost use Rattle.plan_users.specs.Uses.{usesTable, useNext, argumentIn, createFits, createsFit, createsIn, endsFit, endsFitAll, channelsIn};

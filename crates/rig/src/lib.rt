@@ -10,7 +10,7 @@ use rules::system::System;
 use tables::store::Store;
 use turns::turn;
 
-// "The rig stays as it was."
+// A refused step gives the rig back.
 fn refused(r: System, a: StepAnswer) -> Stepped
     ensures { λ q. ⌜ q ≡ refused r a ⌝ }
 {

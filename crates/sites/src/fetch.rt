@@ -65,7 +65,7 @@ pub fn instruction_in<'a>(
 }
 
 // The argument of the last executed instruction of task t at place pc, 0 if there is none.
-pub fn last_operand(operands: &[u16; 4096], t: TaskId, pc: u8) -> u16
+fn last_operand(operands: &[u16; 4096], t: TaskId, pc: u8) -> u16
     requires { ⌜ (t .0 ≤ 64) × (pc ≤ 65) ⌝ }
     ensures { λ r. ⌜ r ≡ lastOf (now (operands .entry)) t pc ⌝ }
 {
@@ -90,8 +90,8 @@ pub fn last_number(numbers: &[u8; 4096], t: TaskId, pc: u8) -> u8
     if pc < 2 {
         return 0;
     }
-    let at = 64 * (base::wide8(t.0) - 1) + (base::wide8(pc) - 2);
-    numbers[at]
+    let slot = 64 * (base::wide8(t.0) - 1) + (base::wide8(pc) - 2);
+    numbers[slot]
 }
 
 // A task's last executed instruction is on channel c.
@@ -125,7 +125,7 @@ pub fn no_cell() -> Cell
 }
 
 // The cell of a scope, an empty one where it has no channel.
-pub fn cell_of(store: Store, k: Scope) -> Cell
+fn cell_of(store: Store, k: Scope) -> Cell
     requires { ⌜ scopeOk k ≡ true ⌝ }
     ensures { λ r. ⌜ r ≡ cellOf store k ⌝ }
 {

@@ -19,7 +19,7 @@ use Rattle.core.specs.Turns.{turnOf}
 use Rattle.stepfile.specs.declared.drive.Ran.{Ran}
 use Rattle.stepfile.specs.declared.drive.Driven.{Driven}
 
--- "it holds the longest beginning of whole lines that fits": how many bytes are filled, whether all fit, and the output then
+-- as many whole lines as fit: how many bytes are filled, whether all fit, and the output then
 pub record Written (lines : List (List ℕ)) (before : List ℕ) (filled : ℕ) (whole : Bool) (after : List ℕ) : Type 0 where
   pub count : filled ≡ length (fitting (length before) lines)
   pub all : whole ≡ leb (length (text lines)) (length before)

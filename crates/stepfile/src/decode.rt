@@ -1,4 +1,4 @@
-// "A step is 4 bytes: kind (1 run, 2 deliver, 3 move), task, 16-bit number."
+// A step of a file, decoded.
 ghost use mathlib.Core.Path.{_≡_};
 ghost use Prim.Native.Nat.{_≤_};
 ghost use Rattle.rules.specs.StepFiles.{stepAt};

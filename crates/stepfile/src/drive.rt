@@ -36,7 +36,7 @@ pub struct Driven {
     pub whole: bool,
 }
 
-// A line for each step, "into the part of the output not yet filled".
+// A line for each step, each behind those before it.
 fn run_steps<'a>(
     count: u8,
     opcodes: &'a [u8; 4096],
@@ -105,7 +105,7 @@ fn run_steps<'a>(
     }
 }
 
-// "The last line is `end`, 1 if at rest else 0, and letters in the mail."
+// The last line.
 fn write_end(rest: bool, letters: usize, out: &mut [u8], filled: usize) -> Driven
     requires { ⌜ (letters ≤ 256) × (filled ≤ length (now out)) ⌝ }
     ensures { λ r. ⌜ Ended (endText rest letters) (now (out .entry)) filled r (now (out .exit)) ⌝ }

@@ -24,7 +24,7 @@ fn refused(answer: RunAnswer) -> Outcome
     }
 }
 
-// "8, length no multiple of 4 or over 2,000 steps".
+// Whether 8 is not answered.
 fn steps_ok(steps: &[u8]) -> bool
     ensures { λ r. ⌜ r ≡ stepsOk (now (steps .entry)) ⌝ }
 {

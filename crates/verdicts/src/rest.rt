@@ -1,4 +1,4 @@
-// "At rest: the mail is empty and .. no run step would be accepted."
+// Whether the rig is at rest: the mail, and the verdict on a run of each task.
 ghost use mathlib.Core.Path.{_≡_};
 ghost use Rattle.judge.specs.Facts.{facts, PartsOf};
 ghost use Rattle.judge.specs.Rests.{isRefused, restIn};
@@ -8,7 +8,7 @@ use plan::TaskId;
 use rules::task::Task;
 use tables::store::Store;
 
-pub fn is_refused(v: Verdict) -> bool
+fn is_refused(v: Verdict) -> bool
     ensures { λ r. ⌜ r ≡ isRefused v ⌝ }
 {
     match v {

@@ -39,8 +39,8 @@ fn send_number(numbers: &[u8; 4096], t: TaskId, i: Instruction, k: Scope, x: Sit
     0
 }
 
-// "13, the letters needed don't fit in the mail".
-pub fn fitting(processors: u8, used: usize, k: Change) -> Verdict
+// 13, unless its letters fit.
+pub(crate) fn fitting(processors: u8, used: usize, k: Change) -> Verdict
     requires { ⌜ used ≤ 256 ⌝ }
     ensures { λ r. ⌜ r ≡ fittingIn processors used k ⌝ }
 {

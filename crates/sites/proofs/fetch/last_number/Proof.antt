@@ -18,20 +18,20 @@ returns-2 c = sym (last-at-start _ _ _ (omega arith) (omega arith))
 wide8-requires : tie.Need-wide8-requires
 wide8-requires c κs = search needs
 
-sub-at : tie.Need-sub-at
-sub-at c = search needs
+sub-slot : tie.Need-sub-slot
+sub-slot c = search needs
 
-mul-at : tie.Need-mul-at
-mul-at c = search needs
+mul-slot : tie.Need-mul-slot
+mul-slot c = search needs
 
 wide8-requires-2 : tie.Need-wide8-requires-2
 wide8-requires-2 c κs = search needs
 
-sub-at-2 : tie.Need-sub-at-2
-sub-at-2 c = search needs
+sub-slot-2 : tie.Need-sub-slot-2
+sub-slot-2 c = search needs
 
-add-at : tie.Need-add-at
-add-at c = search needs
+add-slot : tie.Need-add-slot
+add-slot c = search needs
 
 element-copy-out-result : tie.Need-element-copy-out-result
 element-copy-out-result c = search needs
@@ -46,10 +46,10 @@ last-number-spec =
     returns
     returns-2
     wide8-requires
-    sub-at
-    mul-at
+    sub-slot
+    mul-slot
     wide8-requires-2
-    sub-at-2
-    add-at
+    sub-slot-2
+    add-slot
     element-copy-out-result
     returns-3)
