@@ -15,7 +15,7 @@ use tasks::change;
 use tasks::children;
 use tasks::state;
 
-// Create: the creating task.
+// Create: the creating task has one more child.
 pub fn create_rule(x: Task, u: TaskId) -> Task
     requires { ⌜ (x .pc < 255) × (1 ≤ u .0) × (u .0 ≤ 64) ⌝ }
     ensures { λ r. ⌜ r ≡ createRule x u ⌝ }
@@ -24,7 +24,7 @@ pub fn create_rule(x: Task, u: TaskId) -> Task
     children::with_child(next, u)
 }
 
-// Sync.
+// Sync: the task waits where children live.
 pub fn sync_rule(x: Task) -> Task
     requires { ⌜ x .pc < 255 ⌝ }
     ensures { λ r. ⌜ r ≡ syncRule x ⌝ }
@@ -69,7 +69,7 @@ pub fn finish_rule(t: TaskId, x: Task, parent: Task) -> Finished
     }
 }
 
-// Set.
+// Set: the word is the operand.
 pub fn set_rule(mut x: Task, i: Instruction) -> Task
     requires { ⌜ x .pc < 255 ⌝ }
     ensures { λ r. ⌜ r ≡ setRule x i ⌝ }
@@ -80,7 +80,7 @@ pub fn set_rule(mut x: Task, i: Instruction) -> Task
     change::advanced(x)
 }
 
-// Add.
+// Add: the operand is added to the word.
 pub fn add_rule(mut x: Task, i: Instruction) -> Task
     requires { ⌜ x .pc < 255 ⌝ }
     ensures { λ r. ⌜ r ≡ addRule x i ⌝ }
