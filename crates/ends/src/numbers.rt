@@ -1,4 +1,4 @@
-// The number of each send "by its instructions, from 1": how many sends on its channel the task has
+// The number of each send: how many sends on its channel the task has
 // up to it.
 ghost use mathlib.Core.Path.{_≡_};
 ghost use Prim.Native.Nat.{_<_, _≤_};

@@ -11,8 +11,8 @@ use rules::message::Network;
 use rules::message::Slot;
 use rules::rule::Posting;
 
-// "Letters join the mail's end".
-pub fn push(n: Network, m: Message) -> Network
+// A letter at the mail's end.
+fn push(n: Network, m: Message) -> Network
     requires { ⌜ n .used < 256 ⌝ }
     ensures { λ r. ⌜ r ≡ enqueued n m ⌝ }
 {
@@ -23,7 +23,7 @@ pub fn push(n: Network, m: Message) -> Network
     q
 }
 
-// "Taking one closes the gap": the letter at position p, from 1, leaves, those behind it move down
+// The letter at position p, from 1, leaves, those behind it move down
 // by one slot, and the slot that is free then is empty.
 pub fn remove(n: Network, p: usize) -> Network
     requires { ⌜ (1 ≤ p) × (p ≤ n .used) × (n .used ≤ 256) ⌝ }
@@ -81,7 +81,7 @@ pub fn post(n: Network, processors: u8, p: Posting) -> Network
     }
 }
 
-// "An advert to every other desk in rising order".
+// An advert to every other desk, in rising order.
 fn post_adverts(n: Network, processors: u8, c: ChannelId, d: ProcessorId) -> Network
     requires { ⌜ n .used + length (adverts processors c d) ≤ 256 ⌝ }
     ensures { λ r. ⌜ r ≡ enqueuedAll n (adverts processors c d) ⌝ }

@@ -64,7 +64,7 @@ pub fn tables_ok(n: u8, x: Tables) -> bool
     base::both(hints, base::both(offers, all_at_most(n, &x.notes)))
 }
 
-// What the channels keep; "the number called (0 to 64)".
+// What the channels keep.
 pub fn channel_entries_ok(n: u8, x: Channels) -> bool
     ensures { λ b. ⌜ b ≡ channelEntriesOk n x ⌝ }
 {

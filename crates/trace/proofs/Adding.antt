@@ -4,7 +4,7 @@ use mathlib.Core.Path.{refl}
 use Prim.Native.Nat.{ℕ}
 use native.Mathlib.Omega.{arith}
 use lib.ListN.{length-append}
-use Rattle.trace.specs.declared.line.Line.{Line}
+use Rattle.trace.specs.declared.Line.{Line}
 use Rattle.trace.specs.Lines.{Adds}
 
 pub adds-more : {l m r : Line} {s t : List ℕ} → Adds l s m → Adds m t r → Adds l (s ++ t) r

@@ -5,7 +5,7 @@ use Prim.Native.Nat.{ℕ, _+_, _≤_, _<_}
 use native.Mathlib.Omega.{arith}
 use lib.ListN.{length, take, drop, length-append, length-drop}
 use lib.Seq.{take-append-seam, drop-append-add, drop-drop}
-use Rattle.trace.specs.declared.line.Line.{Line}
+use Rattle.trace.specs.declared.Line.{Line}
 use Rattle.trace.specs.Lines.{textOf, Holds}
 use Rattle.trace.specs.Output.{Emitted, Filled}
 use Rattle.trace.proofs.Emitting.{count-fits, bytes-fit, bytes-same, fitted, fitted-not}

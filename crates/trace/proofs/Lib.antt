@@ -1,4 +1,4 @@
--- Numbers in decimal, lines put together, lines put behind one another in the output, and their text.
+-- Lines put together, and put behind one another in the output.
 pub mod Adding
 pub mod Lines
 pub mod Emitting

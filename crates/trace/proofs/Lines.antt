@@ -10,7 +10,7 @@ use Rattle.rules.specs.declared.system.System.{System}
 use Rattle.rules.specs.Answers.{stepNumber}
 use Rattle.rules.specs.Steps.{quiescent}
 use Rattle.rules.specs.Trace.{decimal, fields, receivedFields, stepLine, endLine}
-use Rattle.trace.specs.declared.line.Line.{Line}
+use Rattle.trace.specs.declared.Line.{Line}
 use Rattle.trace.specs.Lines.{textOf, Adds, Holds, endText}
 
 pub held : {l r : Line} {t : List ℕ} → (textOf l ≡ []) × (l .used ≡ 0) → Adds l t r → 1 ≤ r .used → r .used ≤ 24 → Holds t r

@@ -6,7 +6,7 @@ use Prim.Native.Nat.{ℕ, _+_, _≤_}
 use lib.ListN.{length, take}
 use Rattle.base.specs.Choice.{pick}
 use Rattle.rules.specs.Trace.{fields}
-use Rattle.trace.specs.declared.line.Line.{Line}
+use Rattle.trace.specs.declared.Line.{Line}
 
 abbrev pub textOf : Line → List ℕ
 textOf l = take (l .used) (l .bytes)
@@ -23,6 +23,6 @@ pub record Holds (t : List ℕ) (l : Line) : Type 0 where
   pub some : 1 ≤ l .used
   pub fits : l .used ≤ 24
 
--- "The last line is `end`, 1 if at rest else 0, and letters in the mail.": b says whether the rig is at rest
+-- the last line (`endLine`) of a rig with n letters; b says whether it is at rest
 unfoldable pub endText : Bool → ℕ → List ℕ
 endText b n = (101 ∷ 110 ∷ 100 ∷ []) ++ fields (pick b 1 0 ∷ n ∷ [])

@@ -6,13 +6,13 @@ use lib.ListN.{length, take, drop}
 use lib.Dec.{leb}
 use Rattle.base.specs.Choice.{pick}
 
--- "Each line is written into the part of the output not yet filled.": the line t behind the first `filled` bytes, where it fits; r is how many
+-- the line t behind the first `filled` bytes, where it fits; r is how many
 -- bytes were written. Where it does not fit, the output stays as it was.
 pub record Emitted (before : List ℕ) (filled : ℕ) (t : List ℕ) (r : ℕ) (after : List ℕ) : Type 0 where
   pub count : r ≡ pick (leb (filled + length t) (length before)) (length t) 0
   pub bytes : after ≡ pick (leb (filled + length t) (length before)) (take filled before ++ (t ++ drop (filled + length t) before)) before
 
--- out is o with t written at its front: "bytes behind the last line are unchanged"; `filled` is where t ends
+-- out is o with t written at its front: bytes behind it are unchanged; `filled` is where t ends
 pub record Filled (o t : List ℕ) (filled : ℕ) (out : List ℕ) : Type 0 where
   pub bytes : out ≡ t ++ drop (length t) o
   pub end : filled ≡ length t

@@ -1,20 +1,75 @@
-// The trace's lines.
-pub mod line;
+// The trace's lines: the line of a step, and the last one.
 pub mod output;
 
-// The line of a step, and the last one.
 ghost use mathlib.Core.Path.{_≡_};
-ghost use Prim.Native.Nat.{_<_, _≤_};
+ghost use mathlib.Core.List.{_∷_, []};
+ghost use Prim.Native.Nat.{_+_, _<_, _≤_};
+ghost use lib.ListN.{length};
 ghost use Rattle.base.specs.Choice.{pick};
 ghost use Rattle.rules.specs.Answers.{stepNumber};
-ghost use Rattle.rules.specs.Trace.{fields, receivedFields, stepLine};
-ghost use Rattle.trace.specs.Lines.{Adds, Holds, endText};
-use line::Line;
+ghost use Rattle.rules.specs.Trace.{decimal, fields, receivedFields, stepLine};
+ghost use Rattle.trace.specs.Lines.{textOf, Adds, Holds, endText};
 use rules::rule::Received;
 use rules::step::Report;
 use rules::step::StepAnswer;
 
-// The paper's number of an answer.
+// A line as it is put together: its text is its first `used` bytes.
+pub struct Line {
+    pub bytes: [u8; 24],
+    pub used: usize,
+}
+
+// A digit, below ten, as a byte.
+fn digit(n: usize) -> u8
+    requires { ⌜ n < 10 ⌝ }
+    ensures { λ r. ⌜ r ≡ 48 + n ⌝ }
+{
+    48 + n as u8
+}
+
+impl Line {
+    fn new() -> Line
+        ensures { λ r. ⌜ (textOf r ≡ []) × (r .used ≡ 0) ⌝ }
+    {
+        Line {
+            bytes: [0; 24],
+            used: 0,
+        }
+    }
+
+    // One byte more.
+    fn put(mut self, b: u8) -> Line
+        requires { ⌜ self .used < 24 ⌝ }
+        ensures { λ r. ⌜ Adds self (b ∷ []) r ⌝ }
+    {
+        let at = self.used;
+        self.bytes[at] = b;
+        self.used = at + 1;
+        self
+    }
+
+    // A number: its last digit behind the others.
+    fn number(self, n: usize) -> Line
+        requires { ⌜ self .used + length (decimal n) ≤ 24 ⌝ }
+        ensures { λ r. ⌜ Adds self (decimal n) r ⌝ }
+    {
+        if n < 10 {
+            return self.put(digit(n));
+        }
+        let front = self.number(n / 10);
+        front.put(digit(n % 10))
+    }
+
+    // A field behind another: a space and a number.
+    fn field(self, n: usize) -> Line
+        requires { ⌜ self .used + length (32 ∷ decimal n) ≤ 24 ⌝ }
+        ensures { λ r. ⌜ Adds self (32 ∷ decimal n) r ⌝ }
+    {
+        self.put(32).number(n)
+    }
+}
+
+// The number of an answer.
 pub fn answer_number(a: StepAnswer) -> u8
     ensures { λ r. ⌜ r ≡ stepNumber a ⌝ }
 {
@@ -34,7 +89,7 @@ pub fn answer_number(a: StepAnswer) -> u8
     }
 }
 
-// "if a word was received, channel and word"; with the line feed behind them.
+// The channel and the word, if one was received, and the line feed.
 fn add_received(l: Line, received: Received) -> Line
     requires { ⌜ l .used ≤ 11 ⌝ }
     ensures { λ r. ⌜ Adds l (fields (receivedFields received)) r × (r .used ≤ 24) ⌝ }
@@ -45,7 +100,7 @@ fn add_received(l: Line, received: Received) -> Line
     }
 }
 
-// "step number, answer (0 accepted) and, if a word was received, channel and word": the line of the k-th step.
+// The line of the k-th step.
 pub fn step_line(k: usize, q: Report) -> Line
     requires { ⌜ k < 100000 ⌝ }
     ensures { λ r. ⌜ Holds (stepLine k q) r ⌝ }
@@ -64,7 +119,7 @@ fn flag(b: bool) -> usize
     if b { 1 } else { 0 }
 }
 
-// "The last line is `end`, 1 if at rest else 0, and letters in the mail."
+// The last line.
 pub fn end_line(rest: bool, letters: usize) -> Line
     requires { ⌜ letters < 100000 ⌝ }
     ensures { λ r. ⌜ Holds (endText rest letters) r ⌝ }

@@ -3,7 +3,7 @@ ghost use Prim.Native.Nat.{_≤_};
 ghost use lib.ListN.{length};
 ghost use Rattle.trace.specs.Lines.{textOf};
 ghost use Rattle.trace.specs.Output.{Emitted};
-use super::line::Line;
+use super::Line;
 
 // The line at the front of the rest of the output, if it fits: how many bytes were written.
 fn write_line(rest: &mut [u8], l: Line) -> usize
@@ -22,7 +22,7 @@ fn write_line(rest: &mut [u8], l: Line) -> usize
     n
 }
 
-// "Each line is written into the part of the output not yet filled.": how many bytes were written, 0 where the line does not fit.
+// The line written into the part of the output that is not yet filled: how many bytes were written, 0 where it does not fit.
 pub fn emit(out: &mut [u8], filled: usize, l: Line) -> usize
     requires { ⌜ (filled ≤ length (now out)) × (l .used ≤ 24) ⌝ }
     ensures { λ r. ⌜ Emitted (now (out .entry)) filled (textOf l) r (now (out .exit)) ⌝ }

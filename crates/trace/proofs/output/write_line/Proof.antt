@@ -7,7 +7,7 @@ use lib.Seq.{length-take-le}
 use borrow.Author.Needs.{needs}
 use native.Mathlib.Nat.{zero-add}
 use native.Mathlib.Omega.{arith}
-use Rattle.trace.specs.declared.line.Line.{Line}
+use Rattle.trace.specs.declared.Line.{Line}
 use Rattle.trace.specs.Lines.{textOf}
 use Rattle.trace.proofs.Emitting.{fits, fits-not, copy-more}
 use Rattle.trace.proofs.output.write_line.Statement.{statement}

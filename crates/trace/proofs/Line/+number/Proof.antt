@@ -6,13 +6,13 @@ use borrow.Fn.Kinds.{In}
 use borrow.Fn.PlainCycle.{Measures, is, falls, and}
 use Rattle.trace_laws.proofs.Decimals.{decimal-one, decimal-more, length-more, some-digit}
 use Rattle.trace.proofs.Adding.{adds-more}
-use Rattle.trace.proofs.line.Line.number.Reads as number
-use Rattle.trace.proofs.line.Line.number.Kinds as number-kinds
-use Rattle.trace.proofs.line.Line.+number.Lts-number as number-lts
-use Rattle.trace.proofs.line.Line.put.Reads as put-reads
-use Rattle.trace.proofs.line.digit.Reads as digit-reads
-use Rattle.trace.proofs.line.Line.+number.{statement}
-use Rattle.trace.proofs.line.Line.+number.Tie.{close}
+use Rattle.trace.proofs.Line.number.Reads as number
+use Rattle.trace.proofs.Line.number.Kinds as number-kinds
+use Rattle.trace.proofs.Line.+number.Lts-number as number-lts
+use Rattle.trace.proofs.Line.put.Reads as put-reads
+use Rattle.trace.proofs.digit.Reads as digit-reads
+use Rattle.trace.proofs.Line.+number.{statement}
+use Rattle.trace.proofs.Line.+number.Tie.{close}
 
 abbrev μ-number : Measures 0 number-kinds.ps ℕ
 μ-number κs a = a .1 .0

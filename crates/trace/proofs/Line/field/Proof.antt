@@ -1,8 +1,8 @@
 -- `Line::field` adds a space and a number.
 use borrow.Author.Needs.{needs}
 use Rattle.trace.proofs.Adding.{adds-more}
-use Rattle.trace.proofs.line.Line.field.Statement.{statement}
-use Rattle.trace.proofs.line.Line.field.Tie as tie
+use Rattle.trace.proofs.Line.field.Statement.{statement}
+use Rattle.trace.proofs.Line.field.Tie as tie
 
 put-requires : tie.Need-put-requires
 put-requires c κs = search needs

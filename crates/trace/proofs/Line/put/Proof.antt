@@ -4,8 +4,8 @@ use lib.ListN.{length}
 use lib.Seq.{take-suc-set}
 use native.Mathlib.Numerals.{add-one}
 use borrow.Author.Needs.{needs}
-use Rattle.trace.proofs.line.Line.put.Statement.{statement}
-use Rattle.trace.proofs.line.Line.put.Tie as tie
+use Rattle.trace.proofs.Line.put.Statement.{statement}
+use Rattle.trace.proofs.Line.put.Tie as tie
 
 element-write-self : tie.Need-element-write-self
 element-write-self c = search needs
