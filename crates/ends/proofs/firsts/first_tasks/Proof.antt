@@ -7,9 +7,9 @@ use borrow.Author.Needs.{needs}
 use borrow.Author.Tests.{lt-ltb, le-ltb}
 use Rattle.base.specs.Choice.{pick}
 use Rattle.base.specs.Lists.{table}
-use Rattle.base.proofs.Tables.{table-same}
+use Rattle.base.proofs.Tables.{all-same, table-same}
 use Rattle.plan_users.specs.Uses.{noUse}
-use Rattle.ends.proofs.Filling.{ltb-other, all-same, fill-more}
+use Rattle.ends.proofs.Filling.{ltb-other, fill-more}
 use Rattle.ends.proofs.firsts.first_tasks.Statement.{statement}
 use Rattle.ends.proofs.firsts.first_tasks.Tie as tie
 use lib.ListN.{getD}
