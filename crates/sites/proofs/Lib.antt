@@ -1,3 +1,2 @@
--- What a step looks at, and what it may touch.
+-- What a step finds.
 mod Finding
-mod Arguments

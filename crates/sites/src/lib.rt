@@ -1,3 +1,2 @@
-// What a step may touch, and what it finds there.
+// What a step finds where it may look.
 pub mod fetch;
-pub mod scope;

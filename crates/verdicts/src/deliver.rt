@@ -9,7 +9,6 @@ use judge::change::Change;
 use rules::message::Message;
 use rules::task::Task;
 use sites::fetch;
-use sites::scope;
 use tables::store::Store;
 
 // The letter m, opened.
@@ -30,7 +29,7 @@ pub fn open<'a>(
     requires { ⌜ (PartsOf (facts count (now opcodes) (now operands) (now numbers) (now senders) (now receivers) (now parents)) processors tasks store used) × (messageOk processors count m ≡ true) ⌝ }
     ensures { λ r. ⌜ r ≡ openedIn (facts count (now (opcodes .entry)) (now (operands .entry)) (now (numbers .entry)) (now (senders .entry)) (now (receivers .entry)) (now (parents .entry))) tasks store m ⌝ }
 {
-    let k = scope::letter_scope(senders, receivers, parents, m);
+    let k = scopes::letter_scope(senders, receivers, parents, m);
     let site = fetch::site_in(tasks, operands, store, k);
     letter_change(k, m, site)
 }

@@ -17,7 +17,6 @@ use rules::step::StepAnswer;
 use rules::task::Task;
 use rules::task::TaskState;
 use sites::fetch;
-use sites::scope;
 use tables::sweep::Sweep;
 
 // Task t, with record x, leaves for desk e.
@@ -38,7 +37,7 @@ fn move_change(t: TaskId, x: Task, e: ProcessorId) -> Change
         posting: Posting::Letter(Message::Migration(e, t)),
         received: Received::Nothing,
     };
-    let k = scope::alone(t, d);
+    let k = scopes::alone(t, d);
     Change {
         scope: k,
         outcome: outcome,

@@ -18,7 +18,6 @@ use rules::step::StepAnswer;
 use rules::task::Task;
 use rules::task::TaskState;
 use sites::fetch;
-use sites::scope;
 use tables::store::Store;
 
 // The number of the send that the instruction of task t is, or of the last one that the channel's sender executed.
@@ -85,7 +84,7 @@ pub fn judge_run<'a>(
         }
     }
     let d = x.processor;
-    let k = scope::run_scope(senders, receivers, parents, t, d, i);
+    let k = scopes::run_scope(senders, receivers, parents, t, d, i);
     let site = fetch::site_in(tasks, operands, store, k);
     let w = send_number(numbers, t, i, k, site);
     let change = run_change(k, t, i, w, site);

@@ -7,7 +7,7 @@ use Rattle.verdicts.proofs.deliver.open.Reads as reads
 use Rattle.verdicts.proofs.deliver.open.Lts as lts
 use Rattle.changes.proofs.letter.letter_change.Reads as letter-change-reads
 use Rattle.sites.proofs.fetch.site_in.Reads as site-in-reads
-use Rattle.sites.proofs.scope.letter_scope.Reads as letter-scope-reads
+use Rattle.scopes.proofs.letter_scope.Reads as letter-scope-reads
 
 letter-scope-requires : tie.Need-letter-scope-requires
 letter-scope-requires c κs = names-ok (c .pre .0) (c .args .m) (c .pre .1)

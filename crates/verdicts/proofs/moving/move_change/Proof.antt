@@ -7,7 +7,7 @@ use Rattle.verdicts.proofs.moving.move_change.Lts as lts
 use Rattle.rules.proofs.task.Task.departure.Reads as departure-reads
 use Rattle.sites.proofs.fetch.no_cell.Reads as no-cell-reads
 use Rattle.sites.proofs.fetch.no_task.Reads as no-task-reads
-use Rattle.sites.proofs.scope.alone.Reads as alone-reads
+use Rattle.scopes.proofs.alone.Reads as alone-reads
 
 add-t9 : tie.Need-add-t9
 add-t9 c = search needs

@@ -1,9 +1,9 @@
 -- `channel_scope`.
 use borrow.Author.Needs.{needs}
-use Rattle.sites.proofs.scope.channel_scope.Statement.{statement}
-use Rattle.sites.proofs.scope.channel_scope.Tie as tie
-use Rattle.sites.proofs.scope.channel_scope.Reads as reads
-use Rattle.sites.proofs.scope.channel_scope.Lts as lts
+use Rattle.scopes.proofs.channel_scope.Statement.{statement}
+use Rattle.scopes.proofs.channel_scope.Tie as tie
+use Rattle.scopes.proofs.channel_scope.Reads as reads
+use Rattle.scopes.proofs.channel_scope.Lts as lts
 use Rattle.base.proofs.wide8.Reads as wide8-reads
 
 wide8-requires : tie.Need-wide8-requires

@@ -4,15 +4,15 @@ use native.Mathlib.Omega.{arith}
 use borrow.Author.Tests.{ne-eqb}
 use Rattle.plan.specs.Kinds.{opCreate, opFinish, opSend, opReceive}
 use Rattle.judge.specs.Scopes.{runScope}
-use Rattle.sites.proofs.Arguments.{create-ok, send-ok, receive-ok}
+use Rattle.scopes.proofs.Arguments.{create-ok, send-ok, receive-ok}
 use borrow.Author.Needs.{needs}
-use Rattle.sites.proofs.scope.run_scope.Statement.{statement}
-use Rattle.sites.proofs.scope.run_scope.Tie as tie
-use Rattle.sites.proofs.scope.run_scope.Reads as reads
-use Rattle.sites.proofs.scope.run_scope.Lts as lts
+use Rattle.scopes.proofs.run_scope.Statement.{statement}
+use Rattle.scopes.proofs.run_scope.Tie as tie
+use Rattle.scopes.proofs.run_scope.Reads as reads
+use Rattle.scopes.proofs.run_scope.Lts as lts
 use Rattle.base.proofs.wide16.Reads as wide16-reads
 use Rattle.base.proofs.wide8.Reads as wide8-reads
-use Rattle.sites.proofs.scope.alone.Reads as alone-reads
+use Rattle.scopes.proofs.alone.Reads as alone-reads
 
 cast-t13 : tie.Need-cast-t13
 cast-t13 c = omega (arith, create-ok (c .before .args .i) (c .before .pre .1) (omega arith))

@@ -4,13 +4,13 @@ use native.Mathlib.Omega.{arith}
 use borrow.Author.Tests.{leb-true}
 use Rattle.judge.specs.Scopes.{namesOk}
 use borrow.Author.Needs.{needs}
-use Rattle.sites.proofs.scope.letter_scope.Statement.{statement}
-use Rattle.sites.proofs.scope.letter_scope.Tie as tie
-use Rattle.sites.proofs.scope.letter_scope.Reads as reads
-use Rattle.sites.proofs.scope.letter_scope.Lts as lts
+use Rattle.scopes.proofs.letter_scope.Statement.{statement}
+use Rattle.scopes.proofs.letter_scope.Tie as tie
+use Rattle.scopes.proofs.letter_scope.Reads as reads
+use Rattle.scopes.proofs.letter_scope.Lts as lts
 use Rattle.base.proofs.wide8.Reads as wide8-reads
-use Rattle.sites.proofs.scope.alone.Reads as alone-reads
-use Rattle.sites.proofs.scope.channel_scope.Reads as channel-scope-reads
+use Rattle.scopes.proofs.alone.Reads as alone-reads
+use Rattle.scopes.proofs.channel_scope.Reads as channel-scope-reads
 
 enum-told : tie.Need-enum-told
 enum-told c = search needs

@@ -1,0 +1,2 @@
+-- What a step may touch.
+mod Arguments
