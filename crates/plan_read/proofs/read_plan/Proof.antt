@@ -130,7 +130,7 @@ module _ {M : Type 1} (𝓤 : URA M) (H : Heap 𝓤) (A : Atoms 𝓤) (W : Given
   small = omega (arith, header-size (left start))
 
   reached : start .at + h .size < 2 ^ 64
-  reached = omega (arith, small)
+  reached = omega (arith, header-size (left start))
 
   together : planOf h (left behind) ≡ planRead (now s)
   together = ap (λ (n : ℕ). planOf h (drop n (now s))) (zero-add (h .size)) ∙ stages-read (now s)

@@ -33,7 +33,6 @@ use denote.Triple.Spec.{Meets, tripleOf}
 use denote.Triple.Table.{entered}
 use denote.Triple.Walked.{says, needs, Stays, stay-none, walkOf, goes-none, Walks, ends-at, walked, walk-meets}
 use denote.Exit.{yes}
-use Rattle.plan_read.specs.Reader.{moved}
 use Rattle.plan_read.specs.declared.reader.PlanReader.{PlanReader}
 use Rattle.plan_read.proofs.Held.{B, twice}
 use Rattle.plan_read.proofs.reader.PlanReader as T
@@ -51,7 +50,7 @@ module _ {M : Type 1} (𝓤 : URA M) (H : Heap 𝓤) (A : Atoms 𝓤) (W : Given
   mach = T′.lowered d
 
   abbrev d′ : PlanReader
-  d′ = moved d n
+  d′ = record { bytes = d .bytes; at = d .at + n }
 
   abbrev at : Vals advanced.signature (κ, tt)
   at = (mach ∷ [], (vint w64 n ∷ [], tt))
