@@ -1,6 +1,6 @@
 // What stands in a file at a place.
 ghost use mathlib.Core.Path.{_≡_};
-ghost use lib.ListN.{drop};
+ghost use lib.ListN.{length, drop};
 ghost use Rattle.plan.specs.Files.{byteAt, word16};
 
 // The byte at a place, 0 behind the end.
@@ -34,4 +34,12 @@ pub fn rest_at(file: &[u8], at: usize) -> &[u8]
         return &file[end..];
     }
     &file[at..]
+}
+
+// How many bytes are left from a place on: none from the end on.
+pub fn left_at(file: &[u8], at: usize) -> usize
+    ensures { λ r. ⌜ r ≡ length (drop at (now (file .entry))) ⌝ }
+{
+    let rest = rest_at(file, at);
+    rest.len()
 }

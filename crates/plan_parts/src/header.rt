@@ -1,7 +1,7 @@
 // The header of a plan file: T, N, and each task's offset and count.
 ghost use mathlib.Core.Path.{_≡_};
 ghost use Prim.Native.Nat.{_≤_};
-ghost use lib.ListN.{drop};
+ghost use lib.ListN.{length, drop};
 ghost use Rattle.plan_parts.specs.Header.{noHeader, noEntries, headerOf, entriesOf};
 use fields::rest_at;
 use fields::word_at;
@@ -75,10 +75,12 @@ fn read_entries(file: &[u8], n: usize) -> Entries
     }
 }
 
-fn read_header(file: &[u8]) -> Header
+// The header of a file with so many bytes.
+fn read_header(file: &[u8], left: usize) -> Header
+    requires { ⌜ left ≡ length (now file) ⌝ }
     ensures { λ r. ⌜ r ≡ headerOf (now (file .entry)) ⌝ }
 {
-    if file.len() < 4 {
+    if left < 4 {
         return Header::none();
     }
     let n = base::wide16(word_at(file, 0));
@@ -95,7 +97,7 @@ fn read_header(file: &[u8]) -> Header
     if end != size + 4 * total {
         return Header::none();
     }
-    if file.len() != end {
+    if left != end {
         return Header::none();
     }
     let tasks = n as u8;
@@ -108,9 +110,10 @@ fn read_header(file: &[u8]) -> Header
     }
 }
 
-// The header at a place, of the file that begins there.
-pub fn header_at(file: &[u8], at: usize) -> Header
+// The header at a place, of the file that begins there and has so many bytes left.
+pub fn header_at(file: &[u8], at: usize, left: usize) -> Header
+    requires { ⌜ left ≡ length (drop at (now file)) ⌝ }
     ensures { λ r. ⌜ r ≡ headerOf (drop at (now (file .entry))) ⌝ }
 {
-    read_header(rest_at(file, at))
+    read_header(rest_at(file, at), left)
 }

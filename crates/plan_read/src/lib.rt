@@ -12,7 +12,8 @@ pub fn read_plan(file: &[u8]) -> PlanRead
     ensures { λ r. ⌜ r ≡ planRead (now (file .entry)) ⌝ }
 {
     let start = reader::new(file);
-    let header = reader::header(start);
+    let n = reader::left(start);
+    let header = reader::header(start, n);
     let behind = reader::advanced(start, header.size);
     reader::plan(behind, header)
 }

@@ -2,10 +2,12 @@
 // of the bytes and the place.
 ghost use mathlib.Core.Path.{_≡_};
 ghost use Prim.Native.Nat.{_+_, _<_, _≤_, _^_};
+ghost use lib.ListN.{length};
 ghost use Rattle.plan_parts.specs.Header.{headerOf};
 ghost use Rattle.plan_read.specs.Reader.{atFront, moved, left};
 ghost use Rattle.plan_read.specs.Stages.{planOf};
 use super::stages::plan_at;
+use fields::left_at;
 use plan::PlanRead;
 use plan_parts::header::Header;
 use plan_parts::header::header_at;
@@ -33,11 +35,19 @@ pub fn advanced<'a>(r: PlanReader<'a>, n: usize) -> PlanReader<'a>
     }
 }
 
-// The header that stands here.
-pub fn header<'a>(r: PlanReader<'a>) -> Header
+// How many bytes are left from here on.
+pub fn left<'a>(r: PlanReader<'a>) -> usize
+    ensures { λ n. ⌜ n ≡ length (left (r .entry)) ⌝ }
+{
+    left_at(r.bytes, r.at)
+}
+
+// The header that stands here, of the file that has n bytes left.
+pub fn header<'a>(r: PlanReader<'a>, n: usize) -> Header
+    requires { ⌜ n ≡ length (left r) ⌝ }
     ensures { λ h. ⌜ h ≡ headerOf (left (r .entry)) ⌝ }
 {
-    header_at(r.bytes, r.at)
+    header_at(r.bytes, r.at, n)
 }
 
 // The plan whose instructions stand here, behind its header.

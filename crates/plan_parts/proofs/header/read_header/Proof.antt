@@ -1,9 +1,10 @@
 -- `header::read_header` is the header of a file: each test is one of the layout's.
-use Prim.Native.Nat.{_≤_}
+use Prim.Native.Nat.{_<_, _≤_}
 use mathlib.Core.Path.{_≡_, sym, _∙_}
 use mathlib.Core.Bool.{true}
 use native.Mathlib.Omega.{arith}
 use borrow.Author.Needs.{needs}
+use lib.ListN.{length}
 use borrow.Author.Tests.{not-true, not-false}
 use Rattle.base.proofs.Tests.{within-high}
 use Rattle.plan.specs.Refusals.{sizeOk}
@@ -31,7 +32,11 @@ none-requires : tie.Need-none-requires
 none-requires c κs = search needs
 
 returns : tie.Need-returns
-returns c = c .none .ensures ∙ short-file (c .before .before .before .args .file .now) (c .before .if1 .taken)
+returns c =
+    let s = c .before .before .before in
+    let p : s .args .left ≡ length (s .args .file .now) = s .pre in
+    let t : s .args .left < 4 = c .before .if1 .taken in
+    c .none .ensures ∙ short-file (s .args .file .now) (omega (arith, p, t))
 
 word-at-requires : tie.Need-word-at-requires
 word-at-requires c κs = search needs
@@ -111,7 +116,7 @@ returns-5 c =
     let ok = not-false (e .ok) (v .before .before .if3 .left) in
     c .none5 .ensures
     ∙ size-wrong b (w .wide16 .result) (tasks-read w) e (r .read-entries .ensures) ok (v .wide162 .result) (total-read v) (c .before .before .if4 .left)
-    (c .before .if5 .taken)
+    (λ q. c .before .if5 .taken (w .before .before .before .before .pre ∙ q))
 
 cast-tasks : tie.Need-cast-tasks
 cast-tasks c = omega (arith, tasks-few (c .before .before .before .before .before .before .before))
@@ -124,10 +129,13 @@ returns-6 c =
     let b = w .before .before .before .before .args .file .now in
     let e = r .read-entries .result in
     let ok = not-false (e .ok) (v .before .before .if3 .left) in
-    in-order b (w .wide16 .result) (tasks-read w) e (r .read-entries .ensures) ok (v .wide162 .result) (total-read v) (w .before .before .if1 .left)
+    let s = w .before .before .before .before in
+    let p : s .args .left ≡ length b = s .pre in
+    let t : 4 ≤ s .args .left = w .before .before .if1 .left in
+    in-order b (w .wide16 .result) (tasks-read w) e (r .read-entries .ensures) ok (v .wide162 .result) (total-read v) (omega (arith, p, t))
     (tasks-ok (r .before))
     (c .before .before .if4 .left)
-    (c .before .if5 .left)
+    (sym p ∙ c .before .if5 .left)
 
 pub read-header-spec : {M : Type 1} → statement M
 read-header-spec =
