@@ -114,9 +114,10 @@ returns-5 c =
     let b = w .before .before .before .before .args .file .now in
     let e = r .read-entries .result in
     let ok = not-false (e .ok) (v .before .before .if3 .left) in
+    let p : w .before .before .before .before .args .left ≡ length b = w .before .before .before .before .pre in
     c .none5 .ensures
     ∙ size-wrong b (w .wide16 .result) (tasks-read w) e (r .read-entries .ensures) ok (v .wide162 .result) (total-read v) (c .before .before .if4 .left)
-    (λ q. c .before .if5 .taken (w .before .before .before .before .pre ∙ q))
+    (λ q. omega (arith, p, q, c .before .if5 .taken))
 
 cast-tasks : tie.Need-cast-tasks
 cast-tasks c = omega (arith, tasks-few (c .before .before .before .before .before .before .before))
@@ -135,7 +136,7 @@ returns-6 c =
     in-order b (w .wide16 .result) (tasks-read w) e (r .read-entries .ensures) ok (v .wide162 .result) (total-read v) (omega (arith, p, t))
     (tasks-ok (r .before))
     (c .before .before .if4 .left)
-    (sym p ∙ c .before .if5 .left)
+    (omega (arith, p, c .before .if5 .left))
 
 pub read-header-spec : {M : Type 1} → statement M
 read-header-spec =
