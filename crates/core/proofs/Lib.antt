@@ -5,4 +5,3 @@ pub mod Whole
 pub mod Rigs
 pub mod Bounds
 pub mod Feasible
-pub mod Starting

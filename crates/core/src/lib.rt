@@ -1,3 +1,2 @@
-// A change carried out on the parts of a rig, and the rig at the start.
+// A change carried out on the parts of a rig.
 pub mod carry;
-pub mod start;

@@ -3,10 +3,10 @@ ghost use mathlib.Core.Path.{_≡_};
 ghost use Rattle.rules.specs.StepFiles.{stepsOk};
 ghost use Rattle.stepfile.specs.Writes.{RunFile};
 use crate::drive::drive;
-use core::start::start;
 use plan::PlanAnswer;
 use plan::Refusal;
 use rules::step::RunAnswer;
+use starts::start;
 
 // The answer, and how much of the output is filled.
 pub struct Outcome {

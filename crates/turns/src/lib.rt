@@ -76,7 +76,7 @@ fn deliver<'a>(
     let at = p - 1;
     let slot = network.slots[at];
     let m = slot.message;
-    let x = verdicts::deliver::open(
+    let x = openings::open(
         count,
         opcodes,
         operands,
@@ -156,7 +156,7 @@ pub fn turn<'a>(
         );
     }
     if s.kind == 3 {
-        let v = verdicts::moving::judge_move(count, processors, tasks, used, t, number);
+        let v = move_verdicts::judge_move(count, processors, tasks, used, t, number);
         return settle(senders, receivers, processors, v, tasks, network, store);
     }
     refused(StepAnswer::BadStep, tasks, network, store)

@@ -39,7 +39,7 @@ fn send_number(numbers: &[u8; 4096], t: TaskId, i: Instruction, k: Scope, x: Sit
 }
 
 // 13, unless its letters fit.
-pub(crate) fn fitting(processors: u8, used: usize, k: Change) -> Verdict
+pub fn fitting(processors: u8, used: usize, k: Change) -> Verdict
     requires { ⌜ used ≤ 256 ⌝ }
     ensures { λ r. ⌜ r ≡ fittingIn processors used k ⌝ }
 {

@@ -14,12 +14,12 @@ use Rattle.rules.specs.Numbers.{processorId}
 use Rattle.judge.specs.Fetches.{taskIn}
 use Rattle.judge.specs.RunVerdicts.{fittingIn}
 use Rattle.judge.specs.MoveVerdicts.{moveChange, judgedMove}
 use Rattle.verdicts.proofs.Testing.{tested}
 use borrow.Author.Needs.{needs}
-use Rattle.verdicts.proofs.moving.judge_move.Statement.{statement}
-use Rattle.verdicts.proofs.moving.judge_move.Tie as tie
-use Rattle.verdicts.proofs.moving.judge_move.Reads as reads
-use Rattle.verdicts.proofs.moving.judge_move.Lts as lts
+use Rattle.move_verdicts.proofs.judge_move.Statement.{statement}
+use Rattle.move_verdicts.proofs.judge_move.Tie as tie
+use Rattle.move_verdicts.proofs.judge_move.Reads as reads
+use Rattle.move_verdicts.proofs.judge_move.Lts as lts
 use Rattle.base.proofs.is_within.Reads as is-within-reads
 use Rattle.base.proofs.wide16.Reads as wide16-reads
 use Rattle.base.proofs.wide8.Reads as wide8-reads
@@ -27,8 +27,8 @@ use Rattle.sites.proofs.fetch.task_in.Reads as task-in-reads
 use Rattle.tasks.proofs.children.is_childless.Reads as is-childless-reads
 use Rattle.tasks.proofs.state.is_at.Reads as is-at-reads
 use Rattle.tasks.proofs.state.is_in.Reads as is-in-reads
-use Rattle.verdicts.proofs.moving.move_change.Reads as move-change-reads
+use Rattle.move_verdicts.proofs.move_change.Reads as move-change-reads
 use Rattle.verdicts.proofs.run.fitting.Reads as fitting-reads
 
 wide8-requires : tie.Need-wide8-requires
 wide8-requires c κs = search needs

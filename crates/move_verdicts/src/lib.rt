@@ -3,7 +3,6 @@ ghost use mathlib.Core.Path.{_≡_};
 ghost use Prim.Native.Nat.{_≤_, _<_};
 ghost use Rattle.rules.specs.Numbers.{processorId};
 ghost use Rattle.judge.specs.MoveVerdicts.{moveChange, readyCounts, judgedMove};
-use crate::run;
 use judge::change::Change;
 use judge::change::Verdict;
 use plan::ProcessorId;
@@ -18,6 +17,7 @@ use rules::task::Task;
 use rules::task::TaskState;
 use sites::fetch;
 use tables::sweep::Sweep;
+use verdicts::run::fitting;
 
 // Task t, with record x, leaves for desk e.
 fn move_change(t: TaskId, x: Task, e: ProcessorId) -> Change
@@ -78,5 +78,5 @@ pub fn judge_move(
         return Verdict::Refused(StepAnswer::MovesSpent);
     }
     let change = move_change(t, x, e);
-    run::fitting(processors, used, change)
+    fitting(processors, used, change)
 }

@@ -1,12 +1,12 @@
 -- `start`.
 use borrow.Author.Needs.{needs}
-use Rattle.core.proofs.Starting.{started-is}
-use Rattle.core.proofs.start.start.Statement.{statement}
-use Rattle.core.proofs.start.start.Tie as tie
-use Rattle.core.proofs.start.start.Reads as reads
-use Rattle.core.proofs.start.start.Lts as lts
-use Rattle.core.proofs.start.blank.Reads as blank-reads
-use Rattle.core.proofs.start.unborn.Reads as unborn-reads
+use Rattle.starts.proofs.Starting.{started-is}
+use Rattle.starts.proofs.start.Statement.{statement}
+use Rattle.starts.proofs.start.Tie as tie
+use Rattle.starts.proofs.start.Reads as reads
+use Rattle.starts.proofs.start.Lts as lts
+use Rattle.starts.proofs.blank.Reads as blank-reads
+use Rattle.starts.proofs.unborn.Reads as unborn-reads
 use Rattle.rules.proofs.task.Task.birth.Reads as birth-reads
 use Rattle.tables.proofs.sweep.for_ends.Reads as for-ends-reads
 

@@ -2,11 +2,11 @@
 use mathlib.Core.Path.{refl}
 use borrow.Author.Needs.{needs}
 use Rattle.rules.specs.Starts.{blank}
-use Rattle.core.proofs.start.blank.Statement.{statement}
-use Rattle.core.proofs.start.blank.Tie as tie
-use Rattle.core.proofs.start.blank.Reads as reads
-use Rattle.core.proofs.start.blank.Lts as lts
-use Rattle.core.proofs.start.unborn.Reads as unborn-reads
+use Rattle.starts.proofs.blank.Statement.{statement}
+use Rattle.starts.proofs.blank.Tie as tie
+use Rattle.starts.proofs.blank.Reads as reads
+use Rattle.starts.proofs.blank.Lts as lts
+use Rattle.starts.proofs.unborn.Reads as unborn-reads
 
 unborn-requires : tie.Need-unborn-requires
 unborn-requires c κs = search needs

@@ -1,9 +1,9 @@
 -- `move_change`.
 use borrow.Author.Needs.{needs}
-use Rattle.verdicts.proofs.moving.move_change.Statement.{statement}
-use Rattle.verdicts.proofs.moving.move_change.Tie as tie
-use Rattle.verdicts.proofs.moving.move_change.Reads as reads
-use Rattle.verdicts.proofs.moving.move_change.Lts as lts
+use Rattle.move_verdicts.proofs.move_change.Statement.{statement}
+use Rattle.move_verdicts.proofs.move_change.Tie as tie
+use Rattle.move_verdicts.proofs.move_change.Reads as reads
+use Rattle.move_verdicts.proofs.move_change.Lts as lts
 use Rattle.rules.proofs.task.Task.departure.Reads as departure-reads
 use Rattle.sites.proofs.fetch.no_cell.Reads as no-cell-reads
 use Rattle.sites.proofs.fetch.no_task.Reads as no-task-reads

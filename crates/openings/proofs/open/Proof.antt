@@ -1,10 +1,10 @@
 -- `open`.
 use Rattle.judge.specs.Openings.{openedIn}
 use Rattle.judge.proofs.BoundsLetter.{names-ok, letter-reached, openable}
-use Rattle.verdicts.proofs.deliver.open.Statement.{statement}
-use Rattle.verdicts.proofs.deliver.open.Tie as tie
-use Rattle.verdicts.proofs.deliver.open.Reads as reads
-use Rattle.verdicts.proofs.deliver.open.Lts as lts
+use Rattle.openings.proofs.open.Statement.{statement}
+use Rattle.openings.proofs.open.Tie as tie
+use Rattle.openings.proofs.open.Reads as reads
+use Rattle.openings.proofs.open.Lts as lts
 use Rattle.changes.proofs.letter.letter_change.Reads as letter-change-reads
 use Rattle.sites.proofs.fetch.site_in.Reads as site-in-reads
 use Rattle.scopes.proofs.letter_scope.Reads as letter-scope-reads
