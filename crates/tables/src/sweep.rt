@@ -36,7 +36,7 @@ pub enum Sweep {
 }
 
 // The rule applied to one cell.
-pub fn ruled(x: Cell, rule: CellRule) -> Cell
+fn ruled(x: Cell, rule: CellRule) -> Cell
     ensures { λ r. ⌜ r ≡ ruleOf rule x ⌝ }
 {
     match rule {
