@@ -1,0 +1,67 @@
+# The C side: the driver, its tests, the comparison with a simulator, the benchmark.
+#
+#   make driver   build/driver, with the proved archive (proved first if need be)
+#   make ctest    the tests of the C side
+#   make test     those, and then the gate: everything proved from nothing
+#   make mutants  wrong simulators, which the comparison has to find
+#   make bench    times of library and simulator
+#   make clean    removes build/
+
+CFLAGS ?= -O2
+CXXFLAGS ?= -O2
+WARNINGS = -Wall -Wextra -Wpedantic -Wconversion -Werror
+CCALL = $(CC) -std=c11 $(WARNINGS) $(CFLAGS) -Iinclude
+CXXCALL = $(CXX) -std=c++11 $(WARNINGS) $(CXXFLAGS) -Iinclude
+
+ARCHIVE = target/staticlib/libdriver.a
+PROVED = crates.txt $(shell find crates -type f)
+HEADER = include/mortarsedge.h
+DRIVER = driver/driver.c driver/file.c driver/trace.c
+SIMULATOR = bench/simulator.c bench/sim_plan.c bench/sim_start.c bench/sim_rules.c
+GENERATOR = bench/generate.c bench/damage.c bench/make_plan.c bench/make_steps.c bench/draft.c
+COMPARISON = bench/differential.c bench/tally.c bench/guarded.c
+BENCH_HEADERS = $(wildcard bench/*.h) $(HEADER)
+
+SEED = 1
+COUNT = 20000
+
+.PHONY: driver ctest test mutants bench clean
+.DELETE_ON_ERROR:
+
+driver: build/driver
+
+$(ARCHIVE): $(PROVED)
+	rt staticlib driver
+	touch $@
+
+build:
+	mkdir -p build
+
+build/driver: $(DRIVER) $(wildcard driver/*.h) $(HEADER) $(ARCHIVE) | build
+	$(CCALL) -o $@ $(DRIVER) $(ARCHIVE)
+
+build/header_c: driver/header_test.c $(HEADER) $(ARCHIVE) | build
+	$(CCALL) -o $@ driver/header_test.c $(ARCHIVE)
+
+build/header_cxx: driver/header_test.c $(HEADER) $(ARCHIVE) | build
+	$(CXXCALL) -o $@ -x c++ driver/header_test.c -x none $(ARCHIVE)
+
+build/vectors: bench/vectors.c $(SIMULATOR) $(BENCH_HEADERS) | build
+	$(CCALL) -o $@ bench/vectors.c $(SIMULATOR)
+
+build/differential: $(COMPARISON) $(GENERATOR) $(SIMULATOR) $(BENCH_HEADERS) $(ARCHIVE) | build
+	$(CCALL) -o $@ $(COMPARISON) $(GENERATOR) $(SIMULATOR) $(ARCHIVE)
+
+ctest: build/driver build/header_c build/header_cxx build/vectors build/differential
+	build/header_c
+	build/header_cxx
+	driver/test.sh build/driver crates/trace_program/data
+	build/vectors crates/vectors_test/data/base.bin crates/vectors_test/data/moves.bin
+	build/differential $(SEED) $(COUNT)
+
+# The gate comes last, so that its line is the last and its status decides.
+test: ctest
+	rt ci
+
+clean:
+	rm -rf build

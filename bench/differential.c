@@ -1,0 +1,211 @@
+/* differential SEED COUNT [FIRST]: the library against the simulator.
+ *
+ * COUNT generated runs from index FIRST go through both. The answers of plan
+ * check and run are compared, and every byte of the lent output, those behind
+ * the last line too. Inputs are read-only and end at a forbidden page; outputs
+ * end at one, or begin behind one. The first difference ends the program with
+ * 1, and so does, of 20,000 runs or more, an answer that was never reached. */
+#define _DEFAULT_SOURCE
+#include <inttypes.h>
+#include <signal.h>
+#include <stdio.h>
+#include <stdlib.h>
+#include <string.h>
+#include <unistd.h>
+
+#include "../include/mortarsedge.h"
+#include "generate.h"
+#include "guarded.h"
+#include "simulator.h"
+#include "tally.h"
+
+enum {
+    ENOUGH = MORTARSEDGE_OUTPUT_ENOUGH,
+    EVERY_LENGTH = 16,   /* every so many-th run is tried with outputs of every length, */
+    SHORT_TRACE = 400,   /* if its trace is no longer than this */
+    FULL_COUNT = 20000   /* so many runs have to reach every answer */
+};
+
+/* One run, with its inputs lent and a copy of each. */
+struct trial {
+    uint64_t seed, index;
+    struct generated g;
+    const uint8_t *plan, *steps;
+};
+
+static struct trial trial;
+static struct guarded plan_memory, steps_memory, library_memory, simulator_memory;
+static char trial_name[160];
+
+static void name_trial(void)
+{
+    snprintf(trial_name, sizeof trial_name,
+             "seed %" PRIu64 " index %" PRIu64 " (%s, desks %" PRIu32 ", plan %zu bytes, steps %zu bytes)\n"
+             "reproduce: differential %" PRIu64 " 1 %" PRIu64 "\n",
+             trial.seed, trial.index, trial.g.class_name, trial.g.desks, trial.g.plan_length,
+             trial.g.steps_length, trial.seed, trial.index);
+}
+
+/* A forbidden or read-only byte was touched: say in which run. */
+static void on_fault(int signal_number)
+{
+    static const char text[] = "differential: a byte outside the lent ones was touched, or an input written\n";
+    (void)signal_number;
+    if (write(2, text, sizeof text - 1) < 0 || write(2, trial_name, strlen(trial_name)) < 0)
+        _exit(3);
+    _exit(1);
+}
+
+static void differ(const char *what)
+{
+    fflush(stdout);
+    fprintf(stderr, "differential: %s\n%s", what, trial_name);
+    exit(1);
+}
+
+static void print_line(const char *who, const uint8_t *out, size_t length, size_t place)
+{
+    size_t start = place, end = place;
+    while (start > 0 && out[start - 1] != '\n' && place - start < 20)
+        start--;
+    while (end < length && out[end] != '\n' && end - place < 20)
+        end++;
+    fprintf(stderr, "%s: ", who);
+    for (size_t i = start; i < end; i++)
+        fprintf(stderr, out[i] >= ' ' && out[i] < 127 ? "%c" : "<%02x>", (unsigned)out[i]);
+    fputc('\n', stderr);
+}
+
+static void compare_bytes(const uint8_t *library, const uint8_t *simulator, size_t length)
+{
+    if (memcmp(library, simulator, length) == 0)
+        return;
+    size_t place = 0;
+    while (library[place] == simulator[place])
+        place++;
+    fprintf(stderr, "output of %zu bytes, first differing byte %zu\n", length, place);
+    print_line("library  ", library, length, place);
+    print_line("simulator", simulator, length, place);
+    differ("the outputs differ");
+}
+
+static void compare_answers(const char *what, uint64_t library, uint64_t simulator)
+{
+    if (library == simulator)
+        return;
+    fprintf(stderr, "library %" PRIu64 " + 256 * %" PRIu64 ", simulator %" PRIu64 " + 256 * %" PRIu64 "\n",
+            library % 256, library / 256, simulator % 256, simulator / 256);
+    differ(what);
+}
+
+static void compare_plan_check(void)
+{
+    compare_answers("the answers of plan check differ",
+                    mortarsedge_plan_check(trial.g.desks, trial.plan, trial.g.plan_length),
+                    sim_plan_check(trial.g.desks, trial.plan, trial.g.plan_length));
+}
+
+static void prefill(uint8_t *out, size_t length)
+{
+    for (size_t i = 0; i < length; i++)
+        out[i] = (uint8_t)(0x80 + i % 113);
+}
+
+/* Both on an output of so many bytes; returns the answer. */
+static uint64_t compare_run(size_t length, bool at_end, struct tally *tally)
+{
+    uint8_t *library = at_end ? guarded_end(&library_memory, length) : library_memory.start;
+    uint8_t *simulator = at_end ? guarded_end(&simulator_memory, length) : simulator_memory.start;
+    const struct generated *g = &trial.g;
+    prefill(library, length);
+    prefill(simulator, length);
+    uint64_t theirs = sim_run(g->desks, trial.plan, g->plan_length, trial.steps, g->steps_length, simulator, length);
+    uint64_t ours = mortarsedge_run(g->desks, trial.plan, g->plan_length, trial.steps, g->steps_length, library, length);
+    compare_bytes(library, simulator, length);
+    compare_answers("the answers of run differ", ours, theirs);
+    tally->calls++;
+    tally->answers[ours % 256 <= 20 ? ours % 256 : 9] += ours % 256 == 20;
+    return ours;
+}
+
+static void compare_inputs(void)
+{
+    if (memcmp(trial.plan, trial.g.plan, trial.g.plan_length) != 0
+        || memcmp(trial.steps, trial.g.steps, trial.g.steps_length) != 0)
+        differ("an input was changed");
+}
+
+/* Outputs too short, and just long enough. */
+static void compare_short_runs(uint64_t index, size_t length, struct tally *tally)
+{
+    if (length > 0)
+        compare_run((size_t)((index * 2654435761u) % length), true, tally);
+    compare_run(length, true, tally);
+    if (index % EVERY_LENGTH == 0 && length <= SHORT_TRACE)
+        for (size_t n = 0; n <= length + 1; n++)
+            compare_run(n, true, tally);
+}
+
+static void one_trial(struct tally *tally)
+{
+    static uint8_t trace[ENOUGH];
+    generate(&trial.g, trial.seed, trial.index);
+    name_trial();
+    trial.plan = guarded_lend(&plan_memory, trial.g.plan, trial.g.plan_length);
+    trial.steps = guarded_lend(&steps_memory, trial.g.steps, trial.g.steps_length);
+    compare_plan_check();
+    uint64_t answer = compare_run(ENOUGH, false, tally);
+    size_t filled = mortarsedge_filled(answer);
+    memcpy(trace, library_memory.start, filled);
+    compare_short_runs(trial.index, filled, tally);
+    compare_inputs();
+    tally->runs++;
+    tally->answers[mortarsedge_number(answer)]++;
+    if (mortarsedge_number(answer) == 0)
+        tally_trace(tally, &trial.g, trace, filled);
+}
+
+static uint64_t number_of(const char *text)
+{
+    char *end;
+    uint64_t n = strtoull(text, &end, 10);
+    if (*text == '\0' || *end != '\0') {
+        fprintf(stderr, "differential: %s is no number\n", text);
+        exit(2);
+    }
+    return n;
+}
+
+static void prepare(void)
+{
+    struct sigaction action = {.sa_handler = on_fault};
+    sigaction(SIGSEGV, &action, NULL);
+    sigaction(SIGBUS, &action, NULL);
+    plan_memory = guarded_new(PLAN_ROOM);
+    steps_memory = guarded_new(STEPS_ROOM);
+    library_memory = guarded_new(ENOUGH);
+    simulator_memory = guarded_new(ENOUGH);
+}
+
+int main(int argc, char **argv)
+{
+    static struct tally tally;
+    if (argc != 3 && argc != 4) {
+        fprintf(stderr, "usage: differential SEED COUNT [FIRST]\n");
+        return 2;
+    }
+    uint64_t count = number_of(argv[2]);
+    uint64_t first = argc == 4 ? number_of(argv[3]) : 0;
+    trial.seed = number_of(argv[1]);
+    prepare();
+    for (uint64_t i = 0; i < count; i++) {
+        trial.index = first + i;
+        one_trial(&tally);
+    }
+    tally_print(&tally);
+    if (count >= FULL_COUNT && !tally_is_full(&tally)) {
+        fprintf(stderr, "differential: an answer, words, moves, rest or a full mail were never reached\n");
+        return 1;
+    }
+    return 0;
+}

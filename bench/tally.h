@@ -1,0 +1,28 @@
+/* What a comparison has reached, counted from the traces. */
+#ifndef TALLY_H
+#define TALLY_H
+
+#include <stdbool.h>
+
+#include "generate.h"
+
+struct tally {
+    uint64_t runs;
+    uint64_t calls;       /* of the run, short outputs too */
+    uint64_t answers[21]; /* of runs */
+    uint64_t steps[21];   /* answers of steps */
+    uint64_t words;
+    uint64_t moves;
+    uint64_t at_rest;
+    uint32_t longest_mail;
+};
+
+/* Counts an accepted run by its trace. */
+void tally_trace(struct tally *t, const struct generated *g, const uint8_t *trace, size_t length);
+
+void tally_print(const struct tally *t);
+
+/* Whether each answer, words, moves, rest and a full mail were reached. */
+bool tally_is_full(const struct tally *t);
+
+#endif
