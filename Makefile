@@ -63,5 +63,8 @@ ctest: build/driver build/header_c build/header_cxx build/vectors build/differen
 test: ctest
 	rt ci
 
+mutants: $(ARCHIVE) | build
+	CC="$(CC)" CFLAGS="$(CFLAGS)" bench/mutants.sh
+
 clean:
 	rm -rf build

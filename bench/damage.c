@@ -47,8 +47,25 @@ static void wrong_create(struct random *r, struct draft *d)
         *found = (struct draft_instruction){SET, 1};
 }
 
+/* Two instructions of a task become both ends of a channel. */
+static void both_ends(struct random *r, struct draft *d)
+{
+    struct draft_task *task = &d->task[random_from(r, 1, d->tasks)];
+    uint16_t channel = (uint16_t)random_from(r, 1, MAX_CHANNELS);
+    uint16_t kind = SEND;
+    for (uint32_t i = 0; i + 1 < task->count; i++)
+        if (task->code[i].kind != CREATE && random_chance(r, 50)) {
+            task->code[i] = (struct draft_instruction){kind, channel};
+            kind = RECEIVE;
+        }
+}
+
 static void wrong_channel(struct random *r, struct draft *d)
 {
+    if (random_chance(r, 30)) {
+        both_ends(r, d);
+        return;
+    }
     struct draft_instruction *one = any_of_kind(r, d, random_chance(r, 50) ? SEND : RECEIVE);
     struct draft_instruction *two = any_of_kind(r, d, random_chance(r, 50) ? SEND : RECEIVE);
     if (random_chance(r, 50))

@@ -83,9 +83,11 @@ static void moving_rig(struct random *r, struct generated *g, struct draft *d)
     steps_for(r, g, &steps);
 }
 
-/* The mail fills to a mark, by adverts of many senders; then it is kept there. */
+/* A few tasks spread, the mail fills by adverts of many senders, and is then
+ * kept near its limit. */
 static void crowded_rig(struct random *r, struct generated *g, struct draft *d)
 {
+    struct step_style spread = {.run = 2, .deliver = 3, .move = 1, .led = 100};
     struct step_style fill = {.run = 60, .move = random_below(r, 2), .led = 99, .hoard = MAX_MAIL};
     struct step_style keep = {.run = random_from(r, 2, 8), .deliver = random_from(r, 1, 6),
                               .move = random_below(r, 5), .led = 96, .oldest = random_below(r, 101),
@@ -97,9 +99,10 @@ static void crowded_rig(struct random *r, struct generated *g, struct draft *d)
     g->plan_length = draft_write(d, g->plan);
     if (sim_start(&rig, g->desks, g->plan, g->plan_length) != 0)
         return;
-    uint32_t filled = make_steps(r, &fill, &rig, g->steps, random_from(r, 200, 400));
-    uint32_t kept = make_steps(r, &keep, &rig, g->steps + 4 * filled, random_from(r, 50, 400));
-    g->steps_length = 4 * (size_t)(filled + kept);
+    uint32_t steps = make_steps(r, &spread, &rig, g->steps, random_below(r, 40));
+    steps += make_steps(r, &fill, &rig, g->steps + 4 * steps, random_from(r, 200, 400));
+    steps += make_steps(r, &keep, &rig, g->steps + 4 * steps, random_from(r, 50, 400));
+    g->steps_length = 4 * (size_t)steps;
 }
 
 static void damaged_plan(struct random *r, struct generated *g, struct draft *d)

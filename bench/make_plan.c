@@ -183,20 +183,38 @@ void make_plan(struct random *r, const struct plan_style *style, struct draft *d
         change(&m);
 }
 
+/* Tasks that only reckon for a while: they can be moved before the mail fills. */
+static void idle_tasks(struct maker *m, uint32_t last)
+{
+    for (uint32_t t = 2; t <= last; t++) {
+        bear(m, t);
+        for (uint32_t i = random_from(m->r, 2, 12); i > 0; i--)
+            draft_add(m->d, t, ADD, i);
+    }
+}
+
+/* Channels from each sender to any receiver. */
+static void crowd_ends(struct maker *m, uint32_t first, uint32_t senders)
+{
+    m->channels = senders + random_below(m->r, senders);
+    for (uint32_t i = 0; i < m->channels; i++) {
+        m->sender[i] = first + i % senders;
+        m->receiver[i] = random_from(m->r, first + senders, MAX_TASKS);
+    }
+}
+
 void make_crowd(struct random *r, struct draft *d)
 {
     struct maker m;
-    uint32_t senders = random_from(r, 45, 56);
+    uint32_t idle = random_from(r, 1, 6);
+    uint32_t senders = random_from(r, 45, 54);
     begin(&m, r, d, MAX_TASKS);
     for (uint32_t t = 2; t <= MAX_TASKS; t++)
         adopt(&m, t > MAX_TASKS - 3 ? 2 : 1, t);
-    for (uint32_t t = 2; t <= senders + 1; t++)
+    idle_tasks(&m, 1 + idle);
+    crowd_ends(&m, 2 + idle, senders);
+    for (uint32_t t = 2; t < 2 + idle + senders; t++)
         bear(&m, t);
-    m.channels = senders + random_below(r, senders);
-    for (uint32_t i = 0; i < m.channels; i++) {
-        m.sender[i] = 2 + i % senders;
-        m.receiver[i] = random_from(r, senders + 2, MAX_TASKS);
-    }
     for (uint32_t i = 0; i < 4 * m.channels; i++)
         if (random_chance(r, 80))
             transfer(&m);

@@ -62,7 +62,7 @@ static void find_create(struct findings *f, struct sim_users *users, uint32_t ta
 /* One end of a channel is used by task; other is who has its other end. */
 static void find_end(struct findings *f, uint8_t *end, uint8_t other, uint32_t task)
 {
-    if ((*end != 0 && *end != task) || other == task)
+    if ((*end != 0 && *end != task) || (other == task && MUTANT != 16))
         f->refused6 = true;
     *end = (uint8_t)task;
 }

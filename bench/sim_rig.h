@@ -75,7 +75,7 @@ struct sim_rig {
     uint32_t tasks;
     uint32_t letters;
     struct sim_task task[MAX_TASKS + 1];
-    struct sim_letter mail[MAX_MAIL];
+    struct sim_letter mail[MAX_MAIL + (MUTANT == 12 || MUTANT == 13 ? 64 : 0)];
     struct sim_channel channel[MAX_CHANNELS + 1]; /* only the plan's are set */
     struct sim_instruction code[MAX_CODE];
 };

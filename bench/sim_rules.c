@@ -45,7 +45,7 @@ static bool counts(const struct sim_channel *channel, struct sim_offer offer)
 /* Of two offers the larger number is kept, of equals the earlier. */
 static void keep(struct sim_offer *kept, struct sim_offer offer)
 {
-    if (offer.number > kept->number)
+    if (offer.number > kept->number || MUTANT == 15)
         *kept = offer;
 }
 
@@ -65,7 +65,8 @@ void sim_birth(struct sim_rig *rig, struct sim_task *task, uint8_t d)
     task->desk = d;
     task->birth = d;
     task->count = 1;
-    point(rig, task, d, d);
+    if (MUTANT != 14)
+        point(rig, task, d, d);
 }
 
 /* The instruction that a task executed last. */
@@ -124,13 +125,13 @@ static void lose_child(struct sim_task *parent, uint32_t child)
 
 static uint32_t run_finish(struct sim_rig *rig, struct sim_task *task, uint8_t t)
 {
-    if (task->children != 0)
-        return 12;
     struct sim_task *parent = &rig->task[task->parent];
+    if (task->children != 0 && !(MUTANT == 19 && parent->desk != task->desk && !has_room(rig, 1)))
+        return 12;
     if (task->parent != 0 && parent->desk == task->desk) {
         lose_child(parent, t);
     } else if (task->parent != 0) {
-        if (!has_room(rig, 1))
+        if (!has_room(rig, MUTANT != 13))
             return 13;
         post(rig, (struct sim_letter){.kind = ENDED, .desk = task->birth, .subject = t});
     }
@@ -140,7 +141,7 @@ static uint32_t run_finish(struct sim_rig *rig, struct sim_task *task, uint8_t t
 
 static uint32_t post_adverts(struct sim_rig *rig, uint8_t c, uint8_t d)
 {
-    if (!has_room(rig, rig->desks - 1))
+    if (!has_room(rig, MUTANT == 12 ? 1 : rig->desks - 1))
         return 13;
     for (uint8_t e = 1; e <= rig->desks; e++)
         if (e != d || MUTANT == 1)
@@ -404,9 +405,9 @@ static uint32_t move(struct sim_rig *rig, uint8_t t, uint32_t e)
 {
     if (t == 0 || t > rig->tasks)
         return 10;
-    if (e == 0 || e > rig->desks)
-        return 15;
     struct sim_task *task = &rig->task[t];
+    if ((e == 0 || e > rig->desks) && !(MUTANT == 18 && task->state != READY))
+        return 15;
     if (task->state != READY)
         return 11;
     if (task->desk == e && !(MUTANT == 5 && task->children != 0))

@@ -1,0 +1,52 @@
+#!/bin/sh
+# mutants.sh: shows that the comparison can fail. Each line below is a wrong rule
+# of the simulator, compiled in by -DMUTANT=number; differential has to find it
+# and exit with 1. Run by `make mutants`, from the repository's top.
+set -u
+: "${CC:=cc}" "${CFLAGS:=-O2}" "${SEED:=1}" "${COUNT:=20000}"
+archive=target/staticlib/libdriver.a
+sources='bench/differential.c bench/tally.c bench/guarded.c bench/generate.c bench/damage.c
+    bench/make_plan.c bench/make_steps.c bench/draft.c
+    bench/simulator.c bench/sim_plan.c bench/sim_start.c bench/sim_rules.c'
+missed=0
+tried=0
+
+[ -f "$archive" ] || { echo "mutants: no $archive; make driver first" >&2; exit 2; }
+
+while read -r number rule; do
+    case " ${ONLY:-$number} " in *" $number "*) ;; *) continue ;; esac
+    # shellcheck disable=SC2086
+    $CC -std=c11 $CFLAGS -DMUTANT="$number" -Iinclude -o build/mutant $sources "$archive" || exit 2
+    build/mutant "$SEED" "$COUNT" > build/mutant.out 2> build/mutant.err
+    status=$?
+    tried=$((tried + 1))
+    if [ "$status" -eq 1 ] && grep -q 'differ$' build/mutant.err; then
+        echo "found   $number $rule ($(sed -n 's/^seed [0-9]* \(index [0-9]*\).*/\1/p' build/mutant.err))"
+    else
+        echo "MISSED  $number $rule (exit status $status)"
+        missed=$((missed + 1))
+    fi
+done <<'RULES'
+1 an advert goes to the sender's own desk as well
+2 the last letter fills the gap of a taken one
+3 a word letter stays in the mail
+4 the mail has room for 255 letters only
+5 living children are tested before the desk of a move
+6 an older pointer is written over a newer one
+7 a held offer is lost on arrival
+8 an offer is forwarded with its old count
+9 every offer counts
+10 an offer is answered although the receiver has called
+11 a task at a finish with living children keeps the rig from rest
+12 the adverts' room is tested for one letter
+13 an ended letter needs no room
+14 a birth sets no pointer
+15 the newer of two offers is kept, not the larger
+16 a channel's two ends may be one task
+17 an output that is just long enough is too short
+18 an unready task is found before the desk of a move
+19 a full mail is found before living children at a finish
+RULES
+
+[ "$missed" -eq 0 ] || { echo "mutants: $missed of $tried not found" >&2; exit 1; }
+echo "mutants: all $tried found"
