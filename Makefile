@@ -5,6 +5,7 @@
 #   make test     those, and then the gate: everything proved from nothing
 #   make mutants  wrong simulators, which the comparison has to find
 #   make bench    times of library and simulator
+#   make instructions   instructions of both, by callgrind
 #   make clean    removes build/
 
 CFLAGS ?= -O2
@@ -19,13 +20,14 @@ HEADER = include/mortarsedge.h
 DRIVER = driver/driver.c driver/file.c driver/trace.c
 SIMULATOR = bench/simulator.c bench/sim_plan.c bench/sim_start.c bench/sim_rules.c
 GENERATOR = bench/generate.c bench/damage.c bench/make_plan.c bench/make_steps.c bench/draft.c
+BENCHMARK = bench/benchmark.c bench/cases.c bench/make_plan.c bench/make_steps.c bench/draft.c
 COMPARISON = bench/differential.c bench/tally.c bench/guarded.c
 BENCH_HEADERS = $(wildcard bench/*.h) $(HEADER)
 
 SEED = 1
 COUNT = 20000
 
-.PHONY: driver ctest test mutants bench clean
+.PHONY: driver ctest test mutants bench instructions clean
 .DELETE_ON_ERROR:
 
 driver: build/driver
@@ -52,6 +54,9 @@ build/vectors: bench/vectors.c $(SIMULATOR) $(BENCH_HEADERS) | build
 build/differential: $(COMPARISON) $(GENERATOR) $(SIMULATOR) $(BENCH_HEADERS) $(ARCHIVE) | build
 	$(CCALL) -o $@ $(COMPARISON) $(GENERATOR) $(SIMULATOR) $(ARCHIVE)
 
+build/benchmark: $(BENCHMARK) $(SIMULATOR) $(BENCH_HEADERS) $(ARCHIVE) | build
+	$(CCALL) -o $@ $(BENCHMARK) $(SIMULATOR) $(ARCHIVE)
+
 ctest: build/driver build/header_c build/header_cxx build/vectors build/differential
 	build/header_c
 	build/header_cxx
@@ -65,6 +70,12 @@ test: ctest
 
 mutants: $(ARCHIVE) | build
 	CC="$(CC)" CFLAGS="$(CFLAGS)" bench/mutants.sh
+
+bench: build/benchmark
+	build/benchmark
+
+instructions: build/benchmark
+	bench/instructions.sh build/benchmark
 
 clean:
 	rm -rf build

@@ -9,8 +9,7 @@ void put_step(uint8_t *step, uint32_t kind, uint32_t task, uint32_t number)
     put_u16(step + 2, number);
 }
 
-/* A ready task, from a random one on; 0 if there is none. */
-static uint32_t ready_task(struct random *r, const struct sim_rig *rig, bool childless)
+uint32_t ready_task(struct random *r, const struct sim_rig *rig, bool childless)
 {
     uint32_t first = random_below(r, rig->tasks);
     for (uint32_t i = 0; i < rig->tasks; i++) {

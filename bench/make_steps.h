@@ -15,6 +15,9 @@ struct step_style {
 
 void put_step(uint8_t *step, uint32_t kind, uint32_t task, uint32_t number);
 
+/* A ready task, from a random one on; 0 if there is none. */
+uint32_t ready_task(struct random *r, const struct sim_rig *rig, bool childless);
+
 /* At most count steps; returns how many. A rig at rest ends them soon. */
 uint32_t make_steps(struct random *r, const struct step_style *style, struct sim_rig *rig,
                     uint8_t *steps, uint32_t count);
