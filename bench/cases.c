@@ -7,7 +7,7 @@
 #include "make_plan.h"
 #include "make_steps.h"
 
-enum { TRIES = 2000 };
+enum { TRIES = 2000, WORKERS = 49 /* the first of them */ };
 
 typedef void propose(struct random *r, const struct sim_rig *rig, uint8_t *step);
 
@@ -76,7 +76,7 @@ static bool is_lively(const struct sim_rig *rig, const struct sim_letter *letter
     return receiver->desk == letter->desk && receiver->state == RECEIVING && channel->called == 0;
 }
 
-/* The position of a lively letter, or of any if there is none. */
+/* The position of a lively letter; 0 if there is none. */
 static uint32_t lively_letter(struct random *r, const struct sim_rig *rig)
 {
     uint32_t first = random_below(r, rig->letters);
@@ -85,18 +85,25 @@ static uint32_t lively_letter(struct random *r, const struct sim_rig *rig)
         if (is_lively(rig, &rig->mail[place]))
             return place + 1;
     }
-    return first + 1;
+    return 0;
 }
 
-/* Runs until the mail is nearly full; then a delivery for each letter posted. */
+/* Task 1 creates all others first. Then letters are posted and taken by turns,
+ * one in fifty of them the oldest. */
 static void propose_mail(struct random *r, const struct sim_rig *rig, uint8_t *step)
 {
-    if (rig->letters >= 250 || (rig->letters > 0 && random_chance(r, 3)))
+    if (rig->code[rig->task[1].place].kind == CREATE)
+        put_step(step, 1, 1, 0);
+    else if (rig->letters > 200 && random_chance(r, 1))
+        put_step(step, 2, 0, 1);
+    else if (rig->letters > 250)
         put_step(step, 2, 0, lively_letter(r, rig));
-    else if (rig->letters > 200 && random_chance(r, 40))
+    else if (rig->letters > 200 && random_chance(r, 50))
         propose_move(r, rig, step);
     else
         propose_run(r, rig, step);
+    if (rig->letters > 0 && random_chance(r, 5))
+        put_step(step, 2, 0, lively_letter(r, rig));
 }
 
 /* Task 1: create 2, set 7, send 3, sync, finish; task 2: receive 3, add 1, finish. */
@@ -178,11 +185,32 @@ static void make_local(struct bench_case *c)
     lead(c, MAX_STEPS, propose_run);
 }
 
+/* Sends on a channel that nobody receives on: five adverts, and no end. */
+static void add_crier(struct draft *d, uint32_t t)
+{
+    draft_add(d, t, SEND, t);
+    draft_add(d, t, FINISH, 0);
+}
+
+/* Two workers send to each other over three channels either way. */
+static void add_worker(struct draft *d, uint32_t t)
+{
+    uint32_t pair = 64 + (t - WORKERS) / 2 * 6;
+    for (uint32_t i = 0; d->task[t].count + 1 < MAX_COUNT; i++)
+        draft_add(d, t, (i + t) % 2 == 0 ? SEND : RECEIVE, pair + i % 6);
+    draft_add(d, t, FINISH, 0);
+}
+
+/* 47 criers fill the mail, and 16 workers use what is left of it. */
 static void make_mail(struct bench_case *c)
 {
     static struct draft d;
-    struct random r = {1};
-    make_crowd(&r, &d);
+    draft_clear(&d, MAX_TASKS);
+    for (uint32_t t = 2; t <= MAX_TASKS; t++)
+        draft_add(&d, 1, CREATE, t);
+    draft_add(&d, 1, FINISH, 0);
+    for (uint32_t t = 2; t <= MAX_TASKS; t++)
+        t < WORKERS ? add_crier(&d, t) : add_worker(&d, t);
     c->desks = 6;
     c->plan_length = draft_write(&d, c->plan);
     lead(c, MAX_STEPS, propose_mail);
