@@ -7,7 +7,7 @@
 #include "make_plan.h"
 #include "make_steps.h"
 
-enum { TRIES = 2000, WORKERS = 49 /* the first of them */ };
+enum { TRIES = 2000, WORKERS = 51 /* the first of them */ };
 
 typedef void propose(struct random *r, const struct sim_rig *rig, uint8_t *step);
 
@@ -57,9 +57,9 @@ static void propose_move(struct random *r, const struct sim_rig *rig, uint8_t *s
 /* Runs and moves while few letters are under way, else a delivery of any. */
 static void propose_moving(struct random *r, const struct sim_rig *rig, uint8_t *step)
 {
-    if (random_below(r, 16) < rig->letters)
+    if (random_below(r, 24) < rig->letters)
         put_step(step, 2, 0, random_from(r, 1, rig->letters));
-    else if (random_chance(r, 50))
+    else if (random_chance(r, 30))
         propose_run(r, rig, step);
     else
         propose_move(r, rig, step);
@@ -89,14 +89,14 @@ static uint32_t lively_letter(struct random *r, const struct sim_rig *rig)
 }
 
 /* Task 1 creates all others first. Then letters are posted and taken by turns,
- * one in fifty of them the oldest. */
+ * the oldest now and then. */
 static void propose_mail(struct random *r, const struct sim_rig *rig, uint8_t *step)
 {
     if (rig->code[rig->task[1].place].kind == CREATE)
         put_step(step, 1, 1, 0);
-    else if (rig->letters > 200 && random_chance(r, 1))
+    else if (rig->letters > 244 && random_chance(r, 2))
         put_step(step, 2, 0, 1);
-    else if (rig->letters > 250)
+    else if (rig->letters > 252)
         put_step(step, 2, 0, lively_letter(r, rig));
     else if (rig->letters > 200 && random_chance(r, 50))
         propose_move(r, rig, step);
@@ -201,7 +201,7 @@ static void add_worker(struct draft *d, uint32_t t)
     draft_add(d, t, FINISH, 0);
 }
 
-/* 47 criers fill the mail, and 16 workers use what is left of it. */
+/* 49 criers fill the mail, and 14 workers use what is left of it. */
 static void make_mail(struct bench_case *c)
 {
     static struct draft d;

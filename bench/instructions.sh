@@ -10,6 +10,11 @@ benchmark=$1
 few=2
 many=6
 
+# The C library is to copy in loops: of a repeated instruction callgrind would
+# count each byte.
+GLIBC_TUNABLES=glibc.cpu.x86_rep_stosb_threshold=100000000:glibc.cpu.x86_rep_movsb_threshold=100000000
+export GLIBC_TUNABLES
+
 # collected CASE WHO COUNT: instructions of the whole program.
 collected() {
     valgrind --tool=callgrind --callgrind-out-file=/dev/null "$benchmark" --one "$1" "$2" "$3" 2>&1 |
