@@ -22,6 +22,7 @@ SIMULATOR = bench/simulator.c bench/sim_plan.c bench/sim_start.c bench/sim_rules
 GENERATOR = bench/generate.c bench/damage.c bench/make_plan.c bench/make_steps.c bench/draft.c
 BENCHMARK = bench/benchmark.c bench/cases.c bench/make_plan.c bench/make_steps.c bench/draft.c
 COMPARISON = bench/differential.c bench/tally.c bench/guarded.c
+STACK = bench/stack.c bench/cases.c bench/guarded.c
 BENCH_HEADERS = $(wildcard bench/*.h) $(HEADER)
 
 SEED = 1
@@ -57,12 +58,16 @@ build/differential: $(COMPARISON) $(GENERATOR) $(SIMULATOR) $(BENCH_HEADERS) $(A
 build/benchmark: $(BENCHMARK) $(SIMULATOR) $(BENCH_HEADERS) $(ARCHIVE) | build
 	$(CCALL) -o $@ $(BENCHMARK) $(SIMULATOR) $(ARCHIVE)
 
-ctest: build/driver build/header_c build/header_cxx build/vectors build/differential
+build/stack: $(STACK) $(GENERATOR) $(SIMULATOR) $(BENCH_HEADERS) $(ARCHIVE) | build
+	$(CCALL) -o $@ $(STACK) $(GENERATOR) $(SIMULATOR) $(ARCHIVE)
+
+ctest: build/driver build/header_c build/header_cxx build/vectors build/differential build/stack
 	build/header_c
 	build/header_cxx
 	driver/test.sh build/driver crates/trace_program/data
 	build/vectors crates/vectors_test/data/base.bin crates/vectors_test/data/moves.bin
 	build/differential $(SEED) $(COUNT)
+	build/stack $(SEED) 1000
 
 # The gate comes last, so that its line is the last and its status decides.
 test: ctest

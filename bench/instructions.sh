@@ -25,7 +25,10 @@ collected() {
 a_call() {
     low=$(collected "$1" "$2" "$few")
     high=$(collected "$1" "$2" "$many")
-    [ -n "$low" ] && [ -n "$high" ] || { echo "instructions: callgrind counted nothing" >&2; exit 1; }
+    if [ -z "$low" ] || [ -z "$high" ]; then
+        echo "instructions: callgrind counted nothing" >&2
+        exit 1
+    fi
     echo $(((high - low) / (many - few)))
 }
 

@@ -125,7 +125,8 @@ refuses "three bytes" 8 "$scratch/three.steps" 2 "$plan" "$scratch/three.steps"
 refuses "2,001 steps" 8 "$scratch/many.steps" 2 "$plan" "$scratch/many.steps"
 run 6 "$scratch/finish.plan" "$scratch/most.steps"
 cases=$((cases + 1))
-[ "$status" -eq 0 ] && [ "$(grep -c 'refused, 19: ' "$scratch/err")" -eq 2000 ] || fail "2,000 malformed steps"
+[ "$status" -eq 0 ] || fail "2,000 malformed steps: exit status $status, not 0"
+[ "$(grep -c 'refused, 19: ' "$scratch/err")" -eq 2000 ] || fail "2,000 malformed steps: not as many refused"
 
 # The plan is refused before the step file.
 refuses "both refused" 4 "$scratch/open.plan" 2 "$scratch/open.plan" "$scratch/three.steps"

@@ -41,8 +41,8 @@ enum {
     /* An output of so many bytes is never answered 20. */
     MORTARSEDGE_OUTPUT_ENOUGH =
         MORTARSEDGE_MAX_STEPS * MORTARSEDGE_MAX_LINE + MORTARSEDGE_MAX_END_LINE,
-    /* The stack that a call needs at most, measured. */
-    MORTARSEDGE_PLAN_CHECK_STACK = 64 * 1024,
+    /* Stack for a call, with some to spare: make ctest measures what is needed. */
+    MORTARSEDGE_PLAN_CHECK_STACK = 96 * 1024,
     MORTARSEDGE_RUN_STACK = 256 * 1024
 };
 
