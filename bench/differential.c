@@ -2,9 +2,11 @@
  *
  * COUNT generated runs from index FIRST go through both. The answers of plan
  * check and run are compared, and every byte of the lent output, those behind
- * the last line too. Inputs are read-only and end at a forbidden page; outputs
- * end at one, or begin behind one. The first difference ends the program with
- * 1, and so does, of 20,000 runs or more, an answer that was never reached. */
+ * the last line too, and some bytes around it. Inputs are read-only and end at a
+ * forbidden page; outputs end at one, or begin behind one. Accepted runs are
+ * done again with outputs that are too short. The first difference ends the
+ * program with 1, and so does, of 20,000 runs or more, an answer that was never
+ * reached. */
 #define _DEFAULT_SOURCE
 #include <inttypes.h>
 #include <signal.h>
@@ -23,6 +25,7 @@ enum {
     ENOUGH = MORTARSEDGE_OUTPUT_ENOUGH,
     EVERY_LENGTH = 16,   /* every so many-th run is tried with outputs of every length, */
     SHORT_TRACE = 400,   /* if its trace is no longer than this */
+    MARGIN = 64,         /* bytes around an output that may not change either */
     FULL_COUNT = 20000   /* so many runs have to reach every answer */
 };
 
@@ -105,27 +108,63 @@ static void compare_plan_check(void)
                     sim_plan_check(trial.g.desks, trial.plan, trial.g.plan_length));
 }
 
-static void prefill(uint8_t *out, size_t length)
+/* An output in its memory, with the margins that fit there. */
+struct lent {
+    uint8_t *out;
+    uint8_t *from;
+    size_t around; /* bytes from `from` on, margins and output */
+};
+
+static struct lent lend_output(const struct guarded *memory, size_t length, bool at_end)
 {
-    for (size_t i = 0; i < length; i++)
-        out[i] = (uint8_t)(0x80 + i % 113);
+    struct lent l;
+    size_t before, behind;
+    l.out = at_end ? guarded_end(memory, length) : memory->start;
+    before = (size_t)(l.out - memory->start);
+    behind = memory->size - before - length;
+    before = before < MARGIN ? before : MARGIN;
+    behind = behind < MARGIN ? behind : MARGIN;
+    l.from = l.out - before;
+    l.around = before + length + behind;
+    for (size_t i = 0; i < l.around; i++)
+        l.from[i] = (uint8_t)(0x80 + i % 113);
+    return l;
 }
 
 /* Both on an output of so many bytes; returns the answer. */
 static uint64_t compare_run(size_t length, bool at_end, struct tally *tally)
 {
-    uint8_t *library = at_end ? guarded_end(&library_memory, length) : library_memory.start;
-    uint8_t *simulator = at_end ? guarded_end(&simulator_memory, length) : simulator_memory.start;
+    struct lent library = lend_output(&library_memory, length, at_end);
+    struct lent simulator = lend_output(&simulator_memory, length, at_end);
     const struct generated *g = &trial.g;
-    prefill(library, length);
-    prefill(simulator, length);
-    uint64_t theirs = sim_run(g->desks, trial.plan, g->plan_length, trial.steps, g->steps_length, simulator, length);
-    uint64_t ours = mortarsedge_run(g->desks, trial.plan, g->plan_length, trial.steps, g->steps_length, library, length);
-    compare_bytes(library, simulator, length);
+    uint64_t theirs = sim_run(g->desks, trial.plan, g->plan_length, trial.steps, g->steps_length,
+                              simulator.out, length);
+    uint64_t ours = mortarsedge_run(g->desks, trial.plan, g->plan_length, trial.steps, g->steps_length,
+                                    library.out, length);
+    compare_bytes(library.from, simulator.from, library.around);
     compare_answers("the answers of run differ", ours, theirs);
     tally->calls++;
-    tally->answers[ours % 256 <= 20 ? ours % 256 : 9] += ours % 256 == 20;
+    tally->short_outputs += mortarsedge_number(ours) == MORTARSEDGE_OUTPUT_SHORT;
     return ours;
+}
+
+/* How much of a trace the whole lines that fit into so many bytes have. */
+static size_t whole_lines(const uint8_t *trace, size_t length, size_t room)
+{
+    size_t end = room < length ? room : length;
+    while (end > 0 && trace[end - 1] != '\n')
+        end--;
+    return end;
+}
+
+/* An accepted run again, with an output of another length. */
+static void compare_short_run(const uint8_t *trace, size_t length, size_t room, struct tally *tally)
+{
+    uint64_t number = room < length ? MORTARSEDGE_OUTPUT_SHORT : MORTARSEDGE_ACCEPTED;
+    uint64_t expected = number + 256 * (uint64_t)whole_lines(trace, length, room);
+    uint64_t answer = compare_run(room, true, tally);
+    if (answer != expected || memcmp(guarded_end(&library_memory, room), trace, (size_t)(answer / 256)) != 0)
+        differ("a short output and the whole lines that fit differ");
 }
 
 static void compare_inputs(void)
@@ -136,14 +175,13 @@ static void compare_inputs(void)
 }
 
 /* Outputs too short, and just long enough. */
-static void compare_short_runs(uint64_t index, size_t length, struct tally *tally)
+static void compare_short_runs(const uint8_t *trace, size_t length, struct tally *tally)
 {
-    if (length > 0)
-        compare_run((size_t)((index * 2654435761u) % length), true, tally);
-    compare_run(length, true, tally);
-    if (index % EVERY_LENGTH == 0 && length <= SHORT_TRACE)
-        for (size_t n = 0; n <= length + 1; n++)
-            compare_run(n, true, tally);
+    compare_short_run(trace, length, (size_t)((trial.index * 2654435761u) % length), tally);
+    compare_short_run(trace, length, length, tally);
+    if (trial.index % EVERY_LENGTH == 0 && length <= SHORT_TRACE)
+        for (size_t room = 0; room <= length + 1; room++)
+            compare_short_run(trace, length, room, tally);
 }
 
 static void one_trial(struct tally *tally)
@@ -156,13 +194,16 @@ static void one_trial(struct tally *tally)
     compare_plan_check();
     uint64_t answer = compare_run(ENOUGH, false, tally);
     size_t filled = mortarsedge_filled(answer);
-    memcpy(trace, library_memory.start, filled);
-    compare_short_runs(trial.index, filled, tally);
-    compare_inputs();
     tally->runs++;
-    tally->answers[mortarsedge_number(answer)]++;
-    if (mortarsedge_number(answer) == 0)
+    tally->answers[mortarsedge_number(answer) % 21]++;
+    if (mortarsedge_number(answer) == MORTARSEDGE_ACCEPTED) {
+        memcpy(trace, library_memory.start, filled);
+        compare_short_runs(trace, filled, tally);
         tally_trace(tally, &trial.g, trace, filled);
+    } else {
+        compare_run((size_t)(trial.index % 64), true, tally);
+    }
+    compare_inputs();
 }
 
 static uint64_t number_of(const char *text)

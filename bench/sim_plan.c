@@ -84,7 +84,7 @@ uint32_t sim_plan_users(uint32_t desks, const uint8_t *plan, size_t length, stru
 {
     if (desks < 1 || desks > MAX_DESKS)
         return 1;
-    if (!layout_is_right(plan, length))
+    if (!layout_is_right(plan, length) || (MUTANT == 22 && plan[length] == 255))
         return 2;
     struct findings f = {false, false, false, 0};
     memset(users, 0, sizeof *users);

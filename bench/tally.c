@@ -6,7 +6,7 @@
 
 #include "sim_rig.h"
 
-static const unsigned run_answers[] = {0, 1, 2, 3, 4, 5, 6, 8, 20};
+static const unsigned run_answers[] = {0, 1, 2, 3, 4, 5, 6, 8};
 /* 18 needs 9,999 moves, more than a step file has. */
 static const unsigned step_answers[] = {0, 10, 11, 12, 13, 14, 15, 16, 17, 19};
 
@@ -69,9 +69,10 @@ void tally_trace(struct tally *t, const struct generated *g, const uint8_t *trac
 
 void tally_print(const struct tally *t)
 {
-    printf("runs %" PRIu64 ", calls of run %" PRIu64 "\nanswers of runs:", t->runs, t->calls);
+    printf("runs %" PRIu64 "\nanswers of runs:", t->runs);
     for (unsigned i = 0; i < RUN_ANSWERS; i++)
         printf(" %u: %" PRIu64, run_answers[i], t->answers[run_answers[i]]);
+    printf("\nanswers of all %" PRIu64 " calls, short outputs too: 20: %" PRIu64, t->calls, t->short_outputs);
     printf("\nanswers of steps:");
     for (unsigned i = 0; i < STEP_ANSWERS; i++)
         printf(" %u: %" PRIu64, step_answers[i], t->steps[step_answers[i]]);
@@ -81,7 +82,7 @@ void tally_print(const struct tally *t)
 
 bool tally_is_full(const struct tally *t)
 {
-    bool full = t->words > 0 && t->moves > 0 && t->at_rest > 0 && t->longest_mail == MAX_MAIL;
+    bool full = t->short_outputs > 0 && t->words > 0 && t->moves > 0 && t->at_rest > 0 && t->longest_mail == MAX_MAIL;
     for (unsigned i = 0; i < RUN_ANSWERS; i++)
         full = full && t->answers[run_answers[i]] > 0;
     for (unsigned i = 0; i < STEP_ANSWERS; i++)

@@ -8,8 +8,9 @@
 
 struct tally {
     uint64_t runs;
+    uint64_t answers[21]; /* of runs with enough output */
     uint64_t calls;       /* of the run, short outputs too */
-    uint64_t answers[21]; /* of runs */
+    uint64_t short_outputs; /* calls answered 20 */
     uint64_t steps[21];   /* answers of steps */
     uint64_t words;
     uint64_t moves;
