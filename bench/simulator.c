@@ -7,12 +7,22 @@
 
 enum { LONGEST_LINE = 17 };
 
+/* A decimal of at most five digits; returns its end. */
 static uint8_t *put_number(uint8_t *p, uint32_t n)
 {
-    uint32_t digits = n < 10 ? 1 : n < 100 ? 2 : n < 1000 ? 3 : n < 10000 ? 4 : 5;
-    for (uint32_t i = digits; i > 0; i--, n /= 10)
-        p[i - 1] = (uint8_t)('0' + n % 10);
-    return p + digits;
+    if (n >= 10) {
+        if (n >= 100) {
+            if (n >= 1000) {
+                if (n >= 10000)
+                    *p++ = (uint8_t)('0' + n / 10000);
+                *p++ = (uint8_t)('0' + n / 1000 % 10);
+            }
+            *p++ = (uint8_t)('0' + n / 100 % 10);
+        }
+        *p++ = (uint8_t)('0' + n / 10 % 10);
+    }
+    *p++ = (uint8_t)('0' + n % 10);
+    return p;
 }
 
 static uint8_t *put_field(uint8_t *p, uint32_t n)

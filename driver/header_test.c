@@ -39,8 +39,8 @@ static void calls_link(void)
 {
     static const uint8_t plan[12] = {1, 0, 1, 0, 8, 0, 1, 0, 3, 0, 0, 0};
     uint8_t out[9] = {0};
-    expect(mortarsedge_plan_check(0, plan, sizeof plan) == MORTARSEDGE_DESKS, "plan check: 1");
-    expect(mortarsedge_plan_check(1, NULL, 0) == MORTARSEDGE_LAYOUT, "plan check: 2");
+    expect(mortarsedge_plan_check(0, plan, sizeof plan) == MORTARSEDGE_BAD_DESKS, "plan check: 1");
+    expect(mortarsedge_plan_check(1, NULL, 0) == MORTARSEDGE_BAD_LAYOUT, "plan check: 2");
     expect(mortarsedge_plan_check(1, plan, sizeof plan) == MORTARSEDGE_ACCEPTED, "plan check: 0");
     uint64_t answer = mortarsedge_run(1, plan, sizeof plan, NULL, 0, out, 8);
     expect(mortarsedge_number(answer) == 0 && mortarsedge_filled(answer) == 8, "run: 0");
@@ -48,7 +48,7 @@ static void calls_link(void)
     answer = mortarsedge_run(1, plan, sizeof plan, NULL, 0, out, 7);
     expect(mortarsedge_number(answer) == MORTARSEDGE_OUTPUT_SHORT && mortarsedge_filled(answer) == 0, "run: 20");
     answer = mortarsedge_run(1, plan, sizeof plan, plan, 3, out, 8);
-    expect(answer == MORTARSEDGE_STEP_FILE, "run: 8");
+    expect(answer == MORTARSEDGE_BAD_STEP_FILE, "run: 8");
 }
 
 int main(void)

@@ -28,12 +28,12 @@ enum {
 
 /* Sizes in bytes. */
 enum {
-    MORTARSEDGE_STEP = 4,
+    MORTARSEDGE_STEP_BYTES = 4,
     /* The longest plan file that is accepted: 4 bytes, 4 for each task, 4 for each instruction. */
     MORTARSEDGE_MAX_PLAN =
         4 + 4 * MORTARSEDGE_MAX_TASKS + 4 * MORTARSEDGE_MAX_TASKS * MORTARSEDGE_MAX_INSTRUCTIONS,
     /* The longest step file that is accepted. */
-    MORTARSEDGE_MAX_STEP_FILE = MORTARSEDGE_STEP * MORTARSEDGE_MAX_STEPS,
+    MORTARSEDGE_MAX_STEP_FILE = MORTARSEDGE_STEP_BYTES * MORTARSEDGE_MAX_STEPS,
     /* The longest line of a step: `2000 0 128 65535` and a line feed. */
     MORTARSEDGE_MAX_LINE = 17,
     /* The longest last line: `end 0 256` and a line feed. */
@@ -49,27 +49,31 @@ enum {
 /* The answers: of a call 0 to 6, 8 and 20, of a step in the trace 0 and 10 to 19. */
 enum mortarsedge_answer {
     MORTARSEDGE_ACCEPTED = 0,
-    MORTARSEDGE_DESKS = 1,           /* desks not 1 to 6 */
-    MORTARSEDGE_LAYOUT = 2,          /* under 4 bytes, T or a count out of range, N not the counts' sum,
+    /* Of the plan file. */
+    MORTARSEDGE_BAD_DESKS = 1,       /* desks not 1 to 6 */
+    MORTARSEDGE_BAD_LAYOUT = 2,      /* under 4 bytes, T or a count out of range, N not the counts' sum,
                                         a wrong offset or length */
-    MORTARSEDGE_INSTRUCTION = 3,     /* kind unknown, second byte not zero, or argument out of range */
-    MORTARSEDGE_FINISH = 4,          /* finish not exactly the last instruction of a task */
-    MORTARSEDGE_CREATE = 5,          /* a task 2 to T not created exactly once, or not by a lower number */
-    MORTARSEDGE_CHANNEL = 6,         /* a channel with two sending or two receiving tasks, or one task at
+    MORTARSEDGE_BAD_INSTRUCTION = 3, /* kind unknown, second byte not zero, or argument out of range */
+    MORTARSEDGE_BAD_FINISH = 4,      /* finish not exactly the last instruction of a task */
+    MORTARSEDGE_BAD_CREATE = 5,      /* a task 2 to T not created exactly once, or not by a lower number */
+    MORTARSEDGE_BAD_CHANNEL = 6,     /* a channel with two sending or two receiving tasks, or one task at
                                         both ends */
-    MORTARSEDGE_STEP_FILE = 8,       /* the step file's length no multiple of 4, or over 2,000 steps */
-    MORTARSEDGE_RIG = 9,             /* a rig outside the limits; no run meets it */
-    MORTARSEDGE_NO_TASK = 10,        /* no such task */
-    MORTARSEDGE_NOT_READY = 11,      /* the task is not ready */
+    /* Of the step file. */
+    MORTARSEDGE_BAD_STEP_FILE = 8, /* length no multiple of 4, or over 2,000 steps */
+    /* Of a step. */
+    MORTARSEDGE_BAD_RIG = 9,          /* a rig outside the limits; no run meets it */
+    MORTARSEDGE_NO_TASK = 10,         /* no such task */
+    MORTARSEDGE_NOT_READY = 11,       /* the task is not ready */
     MORTARSEDGE_FINISH_CHILDREN = 12, /* finish with living children */
-    MORTARSEDGE_MAIL_FULL = 13,      /* the letters needed do not fit in the mail */
-    MORTARSEDGE_NO_LETTER = 14,      /* no letter at this position */
-    MORTARSEDGE_NO_DESK = 15,        /* a move to a desk outside the rig */
-    MORTARSEDGE_SAME_DESK = 16,      /* the task is at this desk already */
-    MORTARSEDGE_MOVE_CHILDREN = 17,  /* a move with living children */
-    MORTARSEDGE_MOVE_COUNT = 18,     /* the task's move count is 9,999 */
-    MORTARSEDGE_MALFORMED_STEP = 19, /* a kind not 1 to 3, or an unused field not zero */
-    MORTARSEDGE_OUTPUT_SHORT = 20    /* the lent output is too short */
+    MORTARSEDGE_MAIL_FULL = 13,       /* the letters needed do not fit in the mail */
+    MORTARSEDGE_NO_LETTER = 14,       /* no letter at this position */
+    MORTARSEDGE_NO_DESK = 15,         /* a move to a desk outside the rig */
+    MORTARSEDGE_SAME_DESK = 16,       /* the task is at this desk already */
+    MORTARSEDGE_MOVE_CHILDREN = 17,   /* a move with living children */
+    MORTARSEDGE_MOVE_COUNT = 18,      /* the task's move count is 9,999 */
+    MORTARSEDGE_BAD_STEP = 19,        /* a kind not 1 to 3, or an unused field not zero */
+    /* Of the output. */
+    MORTARSEDGE_OUTPUT_SHORT = 20 /* the lent output is too short */
 };
 
 /* May this plan file be started on so many desks?
@@ -134,22 +138,22 @@ static inline const char *mortarsedge_refusal_text(uint32_t number)
     switch (number) {
     case MORTARSEDGE_ACCEPTED:
         return "accepted";
-    case MORTARSEDGE_DESKS:
+    case MORTARSEDGE_BAD_DESKS:
         return "desks not 1 to 6";
-    case MORTARSEDGE_LAYOUT:
+    case MORTARSEDGE_BAD_LAYOUT:
         return "plan under 4 bytes, tasks or a count out of range, instructions not the counts' sum, "
                "or a wrong offset or length";
-    case MORTARSEDGE_INSTRUCTION:
+    case MORTARSEDGE_BAD_INSTRUCTION:
         return "instruction of unknown kind, second byte not zero, or argument out of range";
-    case MORTARSEDGE_FINISH:
+    case MORTARSEDGE_BAD_FINISH:
         return "finish not exactly the last instruction of a task";
-    case MORTARSEDGE_CREATE:
+    case MORTARSEDGE_BAD_CREATE:
         return "a task from 2 on not created exactly once, or not by a lower number";
-    case MORTARSEDGE_CHANNEL:
+    case MORTARSEDGE_BAD_CHANNEL:
         return "a channel with two sending or two receiving tasks, or one task at both ends";
-    case MORTARSEDGE_STEP_FILE:
+    case MORTARSEDGE_BAD_STEP_FILE:
         return "step file's length no multiple of 4, or over 2,000 steps";
-    case MORTARSEDGE_RIG:
+    case MORTARSEDGE_BAD_RIG:
         return "a number in the rig outside the limits, or a plan in it that would be refused";
     case MORTARSEDGE_NO_TASK:
         return "no such task";
@@ -169,7 +173,7 @@ static inline const char *mortarsedge_refusal_text(uint32_t number)
         return "move with living children";
     case MORTARSEDGE_MOVE_COUNT:
         return "move count 9,999";
-    case MORTARSEDGE_MALFORMED_STEP:
+    case MORTARSEDGE_BAD_STEP:
         return "kind of step not 1 to 3, or an unused field not zero";
     case MORTARSEDGE_OUTPUT_SHORT:
         return "the lent output is too short";
