@@ -18,7 +18,8 @@ ARCHIVE = target/staticlib/libdriver.a
 PROVED = crates.txt $(shell find crates -type f)
 HEADER = include/mortarsedge.h
 DRIVER = driver/driver.c driver/file.c driver/trace.c
-SIMULATOR = bench/simulator.c bench/sim_plan.c bench/sim_start.c bench/sim_rules.c
+SIMULATOR = bench/simulator.c bench/sim_plan.c bench/sim_start.c bench/sim_step.c \
+    bench/sim_run.c bench/sim_deliver.c bench/sim_move.c
 GENERATOR = bench/generate.c bench/damage.c bench/make_plan.c bench/make_steps.c bench/draft.c
 BENCHMARK = bench/benchmark.c bench/cases.c bench/make_plan.c bench/make_steps.c bench/draft.c
 COMPARISON = bench/differential.c bench/tally.c bench/guarded.c

@@ -210,7 +210,10 @@ static void make_mail(struct bench_case *c)
         draft_add(&d, 1, CREATE, t);
     draft_add(&d, 1, FINISH, 0);
     for (uint32_t t = 2; t <= MAX_TASKS; t++)
-        t < WORKERS ? add_crier(&d, t) : add_worker(&d, t);
+        if (t < WORKERS)
+            add_crier(&d, t);
+        else
+            add_worker(&d, t);
     c->desks = 6;
     c->plan_length = draft_write(&d, c->plan);
     lead(c, MAX_STEPS, propose_mail);
