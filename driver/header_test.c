@@ -1,4 +1,4 @@
-/* The header, as C and as C++: it compiles alone, links, and its helpers agree
+/* The header, as C and as C++: it compiles alone, links, and its functions agree
  * with the paper's numbers. */
 #include "mortarsedge.h"
 
