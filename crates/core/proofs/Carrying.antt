@@ -15,7 +15,7 @@ use Rattle.judge.specs.declared.change.Verdict.{Verdict}
 use Rattle.judge.specs.declared.change.Verdict.the-variants.{Refused, Accepted as Allowed}
 use Rattle.judge.specs.Answers.{verdictOf}
 use Rattle.judge.specs.Effects.{effectOf}
-use Rattle.core.specs.declared.carry.Turn.{Turn}
+use Rattle.core.specs.declared.turn.Turn.{Turn}
 use Rattle.core.specs.Turns.{carriedOut, settled, partsOf}
 
 module _ (r : System) where

@@ -18,7 +18,7 @@ use Rattle.tables.specs.Store.{storeIn}
 use Rattle.judge.specs.Facts.{Facts, factsOf, PartsOf}
 use Rattle.judge.specs.Rests.{restIn}
 use Rattle.judge.proofs.AtRest.{rest-is}
-use Rattle.core.specs.declared.carry.Turn.{Turn}
+use Rattle.core.specs.declared.turn.Turn.{Turn}
 use Rattle.core.specs.Turns.{turnOf, partsOf, Rig}
 use Rattle.core.proofs.Turning.{turn-is}
 

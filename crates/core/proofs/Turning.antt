@@ -33,7 +33,7 @@ use Rattle.judge.specs.Effects.{ranOf}
 use Rattle.judge.proofs.Runs.{run-effect, run-answer}
 use Rattle.judge.proofs.Moves.{move-effect, move-answer}
 use Rattle.judge.proofs.Deliveries.{deliver-effect}
-use Rattle.core.specs.declared.carry.Turn.{Turn}
+use Rattle.core.specs.declared.turn.Turn.{Turn}
 use Rattle.core.specs.Turns.{refusedTurn, deliveredTurn, turnOf, partsOf}
 use Rattle.core.proofs.Carrying.{carriedIn, settledIn, carried-is, settled-is}
 

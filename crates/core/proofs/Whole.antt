@@ -11,7 +11,7 @@ use Rattle.rules_laws.proofs.Steps.{ruled-step}
 use Rattle.rules_laws.proofs.Shapes.{step-plan, step-processors}
 use Rattle.tables.specs.Store.{storeIn}
 use Rattle.judge.specs.Facts.{factsOf}
-use Rattle.core.specs.declared.carry.Turn.{Turn}
+use Rattle.core.specs.declared.turn.Turn.{Turn}
 use Rattle.core.specs.Turns.{turnOf, partsOf}
 use Rattle.core.proofs.Turning.{turn-is}
 

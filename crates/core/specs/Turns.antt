@@ -21,7 +21,7 @@ use Rattle.rules.specs.Steps.{isRun, isDeliver, isMove}
 use Rattle.rules_laws.specs.Shapes.{Shaped}
 use Rattle.tables.specs.declared.store.Store.{Store}
 use Rattle.tables.specs.Store.{storeIn, swept}
-use Rattle.core.specs.declared.carry.Turn.{Turn}
+use Rattle.core.specs.declared.turn.Turn.{Turn}
 use Rattle.judge.specs.declared.change.Change.{Change}
 use Rattle.judge.specs.declared.change.Verdict.{Verdict}
 use Rattle.judge.specs.declared.change.Verdict.the-variants.{Refused, Accepted as Allowed}

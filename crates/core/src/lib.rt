@@ -1,2 +1,2 @@
-// A change carried out on the parts of a rig.
-pub mod carry;
+// A step on the parts of a rig.
+pub mod turn;

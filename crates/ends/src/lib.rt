@@ -8,10 +8,7 @@ ghost use Rattle.plan.specs.declared.PlanAnswer.the-variants.{Accepted};
 ghost use Rattle.plan.specs.Programs.{programs};
 ghost use Rattle.plan.specs.Refusals.{planAnswer};
 ghost use Rattle.ends.specs.Derived.{endsOf};
-use plan::CREATE;
 use plan::Plan;
-use plan::RECEIVE;
-use plan::SEND;
 
 pub struct Ends {
     // the task that sends on channel c, and the one that receives on it, at c; 0 for none
@@ -29,9 +26,13 @@ pub fn derive(p: Plan) -> Ends
     ensures { λ r. ⌜ r ≡ endsOf p ⌝ }
 {
     let tasks = p.tasks;
-    let senders = firsts::first_users(SEND, tasks, &p.lengths, &p.opcodes, &p.operands);
-    let receivers = firsts::first_users(RECEIVE, tasks, &p.lengths, &p.opcodes, &p.operands);
-    let parents = firsts::first_users(CREATE, tasks, &p.lengths, &p.opcodes, &p.operands);
+    let found = plan_users::find_uses(tasks, &p.lengths, &p.opcodes, &p.operands);
+    let sends = found.sends;
+    let receives = found.receives;
+    let creates = found.creates;
+    let senders = firsts::first_tasks(sends);
+    let receivers = firsts::first_tasks(receives);
+    let parents = firsts::first_tasks(creates);
     let numbers = numbers::send_numbers(tasks, &p.lengths, &p.opcodes, &p.operands);
     Ends {
         senders: senders,

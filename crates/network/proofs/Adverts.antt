@@ -23,7 +23,7 @@ use Rattle.rules.specs.Networks.{enqueued, enqueuedAll, lettersOf}
 use Rattle.network.specs.Adverts.{adverts, advertTo, otherProcessors}
 
 -- letters that join after others
-enqueuedAll-append : (n : Network) (xs ys : List Message) → enqueuedAll n (xs ++ ys) ≡ enqueuedAll (enqueuedAll n xs) ys
+pub enqueuedAll-append : (n : Network) (xs ys : List Message) → enqueuedAll n (xs ++ ys) ≡ enqueuedAll (enqueuedAll n xs) ys
 unfolding enqueuedAll
 enqueuedAll-append n [] ys = refl
 enqueuedAll-append n (x ∷ xs) ys = enqueuedAll-append (enqueued n x) xs ys

@@ -7,7 +7,6 @@ use native.Mathlib.Nat.{add-assoc, add-zero}
 use native.Mathlib.Omega.{arith}
 use lib.ListN.{set, replicate, getD}
 use lib.Dec.{eqb}
-use borrow.Author.Tests.{lt-ltb}
 use Rattle.base.specs.Choice.{pick}
 use Rattle.base.proofs.Folds.{fold-none, fold-more, fold-skip}
 use Rattle.base.proofs.Slots.{nextRow, rest-unused, below-skip}
@@ -32,10 +31,7 @@ module _ (b lengths : List ℕ) where
   first-place = omega (arith, fold-none _+_ 0 (λ j. pick (usedSlot lengths j) 1 0))
 
   -- a used slot
-  module _ (s : ℕ) (u : s % 64 < getD lengths (s / 64) 0) (x : Fetched) (h : x ≡ fetchedFrom b (slotPlace lengths s)) where
-    used : usedSlot lengths s ≡ true
-    used = lt-ltb (s % 64) (getD lengths (s / 64) 0) u
-
+  module _ (s : ℕ) (used : usedSlot lengths s ≡ true) (x : Fetched) (h : x ≡ fetchedFrom b (slotPlace lengths s)) where
     pub next-opcodes : (l : List ℕ) → s < 4096 → l ≡ opcodesTo b lengths s → set l s (x .opcode) ≡ opcodesTo b lengths (s + 1)
     next-opcodes l q e =
         let o : x .opcode ≡ slotRead b lengths s .opcode = rw (h, used) refl in

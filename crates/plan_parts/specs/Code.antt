@@ -1,17 +1,18 @@
 -- What the instructions of a file are read as, slot by slot.
+use mathlib.Core.Path.{_≡_}
 use mathlib.Core.Bool.{Bool, true}
 use mathlib.Core.List.{List}
 use Prim.Native.Nat.{ℕ, _+_, _*_, _/_, _%_}
-use lib.ListN.{getD}
+use lib.ListN.{getD, replicate}
 use lib.Dec.{ltb, eqb}
 use Rattle.base.specs.Choice.{pick}
 use Rattle.base.specs.Range.{below, sumBelow}
 use Rattle.base.specs.Lists.{table}
 use Rattle.plan.specs.declared.Instruction.{Instruction}
+use Rattle.plan.specs.declared.Plan.{Plan}
 use Rattle.plan.specs.Kinds.{noInstruction}
 use Rattle.plan.specs.Files.{byteAt, word16, fileInstruction}
 use Rattle.plan_parts.specs.declared.code.Fetched.{Fetched}
-use Rattle.plan_parts.specs.declared.code.Code.{Code}
 
 -- the instruction at a place, and whether its second byte is zero
 abbrev pub fetchedFrom : List ℕ → ℕ → Fetched
@@ -44,9 +45,21 @@ operandsTo b lengths s = table 4096 (λ j. pick (ltb j s) (slotRead b lengths j 
 abbrev pub zerosTo : List ℕ → List ℕ → ℕ → Bool
 zerosTo b lengths s = below s (slotZero b lengths)
 
+-- the plan of a file, and whether every second byte is zero
+pub record Code : Type 0 where
+  pub zeros : Bool
+  pub plan : Plan
+
+-- the same, of its parts
+abbrev pub codeIn : Bool → ℕ → List ℕ → List ℕ → List ℕ → Code
+codeIn zeros n lengths opcodes operands =
+    record { zeros = zeros; plan = record { tasks = n; lengths = lengths; opcodes = opcodes; operands = operands } }
+
 abbrev pub codeOf : List ℕ → ℕ → List ℕ → Code
 codeOf b n lengths =
-    record {
-      zeros = zerosTo b lengths (64 * n);
-      plan = record { tasks = n; lengths = lengths; opcodes = opcodesTo b lengths (64 * n); operands = operandsTo b lengths (64 * n) };
-    }
+    codeIn (zerosTo b lengths (64 * n)) n lengths (opcodesTo b lengths (64 * n)) (operandsTo b lengths (64 * n))
+
+-- no slot holds an instruction
+pub record Empty (opcodes operands : List ℕ) : Type 0 where
+  pub kinds : opcodes ≡ replicate 4096 0
+  pub arguments : operands ≡ replicate 4096 0

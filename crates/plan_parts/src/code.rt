@@ -1,12 +1,13 @@
 // The instructions of a plan file, read into the slots of a plan value.
 ghost use mathlib.Core.Path.{_≡_};
-ghost use Prim.Native.Nat.{_≤_};
-ghost use lib.ListN.{drop};
-ghost use Rattle.plan_parts.specs.Code.{fetchedFrom, codeOf};
+ghost use mathlib.Core.Bool.{true};
+ghost use Prim.Native.Nat.{_+_, _*_, _<_, _≤_};
+ghost use lib.ListN.{length, drop};
+ghost use Rattle.plan_parts.specs.Code.{Empty, fetchedFrom, codeIn, codeOf};
 use fields::byte_at;
 use fields::rest_at;
 use fields::word_at;
-use plan::Plan;
+use plan_users::used;
 
 // An instruction, and whether its second byte is zero.
 pub struct Fetched {
@@ -15,14 +16,15 @@ pub struct Fetched {
     pub zero: bool,
 }
 
-// The plan of a file, and whether every second byte is zero.
-pub struct Code {
-    pub zeros: bool,
-    pub plan: Plan,
+// The 16-bit field of two bytes.
+fn word(low: u8, high: u8) -> u16
+    ensures { λ r. ⌜ r ≡ low + 256 * high ⌝ }
+{
+    low as u16 + 256 * (high as u16)
 }
 
-// The instruction at a place.
-fn fetch(file: &[u8], at: usize) -> Fetched
+// The instruction at a place behind which the file may end.
+fn fetch_near_end(file: &[u8], at: usize) -> Fetched
     requires { ⌜ at ≤ 16384 ⌝ }
     ensures { λ r. ⌜ r ≡ fetchedFrom (now (file .entry)) at ⌝ }
 {
@@ -34,49 +36,67 @@ fn fetch(file: &[u8], at: usize) -> Fetched
     }
 }
 
-// The plan whose tasks have these numbers of instructions, slot by slot: its instructions stand one
-// behind the other.
-fn read_code(file: &[u8], tasks: u8, lengths: [u8; 64]) -> Code
-    requires { ⌜ tasks ≤ 64 ⌝ }
-    ensures { λ r. ⌜ r ≡ codeOf (now (file .entry)) tasks lengths ⌝ }
+// The instruction at a place: `whole` says that all its bytes are there.
+fn fetch(file: &[u8], whole: bool, at: usize) -> Fetched
+    requires { ⌜ (at ≤ 16384) × (whole ≡ true → at + 3 < length (now file)) ⌝ }
+    ensures { λ r. ⌜ r ≡ fetchedFrom (now (file .entry)) at ⌝ }
 {
-    let end = 64 * base::wide8(tasks);
-    let mut opcodes = [0u8; 4096];
-    let mut operands = [0u16; 4096];
+    if !whole {
+        return fetch_near_end(file, at);
+    }
+    let second = file[at + 1];
+    Fetched {
+        opcode: file[at],
+        operand: word(file[at + 2], file[at + 3]),
+        zero: second == 0,
+    }
+}
+
+// The instructions of tasks with these numbers of instructions, put into empty slots: they stand one
+// behind the other. Whether every second byte is zero.
+fn read_code<'a>(
+    file: &'a [u8],
+    tasks: u8,
+    lengths: &'a [u8; 64],
+    opcodes: &'a mut [u8; 4096],
+    operands: &'a mut [u16; 4096],
+) -> bool
+    requires { ⌜ (tasks ≤ 64) × Empty (now opcodes) (now operands) ⌝ }
+    ensures { λ r. ⌜ codeIn r tasks (now (lengths .entry)) (now (opcodes .exit)) (now (operands .exit)) ≡ codeOf (now (file .entry)) tasks (now (lengths .entry)) ⌝ }
+{
+    let n = base::wide8(tasks);
     let mut zeros = true;
     let mut at: usize = 0;
-    let mut s: usize = 0;
-    while s < end {
-        let k = s / 64;
-        let place = s % 64;
-        if base::wide8(lengths[k]) <= place {
-            // the rest of the task's slots is unused
-            s = 64 * (k + 1);
-        } else {
-            let x = fetch(file, at);
+    let mut k: usize = 0;
+    while k < n {
+        let count = used(lengths[k]);
+        let whole = at + 4 * count <= file.len();
+        let mut i: usize = 0;
+        while i < count {
+            let s = 64 * k + i;
+            let x = fetch(file, whole, at);
             opcodes[s] = x.opcode;
             operands[s] = x.operand;
             zeros = base::both(zeros, x.zero);
             at += 4;
-            s += 1;
+            i += 1;
         }
+        k += 1;
     }
-    let plan = Plan {
-        tasks: tasks,
-        lengths: lengths,
-        opcodes: opcodes,
-        operands: operands,
-    };
-    Code {
-        zeros: zeros,
-        plan: plan,
-    }
+    zeros
 }
 
 // The same, of the instructions that begin at a place.
-pub fn code_at(file: &[u8], at: usize, tasks: u8, lengths: [u8; 64]) -> Code
-    requires { ⌜ tasks ≤ 64 ⌝ }
-    ensures { λ r. ⌜ r ≡ codeOf (drop at (now (file .entry))) tasks lengths ⌝ }
+pub fn code_at<'a>(
+    file: &'a [u8],
+    at: usize,
+    tasks: u8,
+    lengths: &'a [u8; 64],
+    opcodes: &'a mut [u8; 4096],
+    operands: &'a mut [u16; 4096],
+) -> bool
+    requires { ⌜ (tasks ≤ 64) × Empty (now opcodes) (now operands) ⌝ }
+    ensures { λ r. ⌜ codeIn r tasks (now (lengths .entry)) (now (opcodes .exit)) (now (operands .exit)) ≡ codeOf (drop at (now (file .entry))) tasks (now (lengths .entry)) ⌝ }
 {
-    read_code(rest_at(file, at), tasks, lengths)
+    read_code(rest_at(file, at), tasks, lengths, opcodes, operands)
 }

@@ -9,8 +9,7 @@ use Rattle.plan.specs.declared.PlanAnswer.the-variants.{Accepted, Refused}
 use Rattle.plan.specs.Programs.{programs}
 use Rattle.plan.specs.Refusals.{planAnswer}
 use Rattle.plan_parts.specs.declared.header.Header.{Header}
-use Rattle.plan_parts.specs.declared.code.Code.{Code}
-use Rattle.plan_parts.specs.Code.{codeOf}
+use Rattle.plan_parts.specs.Code.{Code, codeOf}
 use Rattle.plan_read.specs.Stages.{readRefused, ofCode, planOf}
 
 module _ (h : Header) (b : List ℕ) where

@@ -11,8 +11,7 @@ use Rattle.plan.specs.declared.PlanRead.{PlanRead}
 use Rattle.plan.specs.Programs.{programs, canonical}
 use Rattle.plan.specs.Refusals.{planAnswer}
 use Rattle.plan_parts.specs.declared.header.Header.{Header}
-use Rattle.plan_parts.specs.declared.code.Code.{Code}
-use Rattle.plan_parts.specs.Code.{codeOf}
+use Rattle.plan_parts.specs.Code.{Code, codeOf}
 
 -- what a refused file gives
 abbrev pub readRefused : Refusal → PlanRead

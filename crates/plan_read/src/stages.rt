@@ -9,6 +9,7 @@ use plan::PlanRead;
 use plan::Refusal;
 use plan_parts::code::code_at;
 use plan_parts::header::Header;
+use plan_rules::check_slots;
 
 // A refused file gives the plan of no task.
 fn refused(r: Refusal) -> PlanRead
@@ -35,18 +36,28 @@ pub fn plan_at(file: &[u8], at: usize, h: Header) -> PlanRead
     if !h.ok {
         return refused(Refusal::BadLayout);
     }
+    let tasks = h.tasks;
     let lengths = h.lengths;
-    let code = code_at(file, at, h.tasks, lengths);
-    if !code.zeros {
+    let mut opcodes = [0u8; 4096];
+    let mut operands = [0u16; 4096];
+    let zeros = code_at(file, at, tasks, &lengths, &mut opcodes, &mut operands);
+    if !zeros {
         return refused(Refusal::BadInstruction);
     }
-    let plan = code.plan;
-    let answer = plan_rules::check(plan);
+    let answer = check_slots(tasks, &lengths, &opcodes, &operands);
     match answer {
-        PlanAnswer::Accepted => PlanRead {
-            answer: PlanAnswer::Accepted,
-            plan: plan,
-        },
+        PlanAnswer::Accepted => {
+            let plan = Plan {
+                tasks: tasks,
+                lengths: lengths,
+                opcodes: opcodes,
+                operands: operands,
+            };
+            PlanRead {
+                answer: PlanAnswer::Accepted,
+                plan: plan,
+            }
+        }
         PlanAnswer::Refused(r) => refused(r),
     }
 }

@@ -7,10 +7,15 @@ use lib.Dec.{eqb, ltb}
 use Rattle.base.specs.Choice.{pick}
 use Rattle.base.specs.Range.{below}
 use Rattle.plan.specs.declared.Instruction.{Instruction}
+use Rattle.plan.specs.declared.Plan.{Plan}
 use Rattle.plan.specs.Kinds.{isFinish}
 use Rattle.plan.specs.Refusals.{instructionOk}
 use Rattle.plan_users.specs.Slots.{slotIn}
 use Rattle.plan_rules.specs.declared.scan.Scan.{Scan}
+
+-- the plan value of n tasks with these slots
+abbrev pub planIn : ℕ → List ℕ → List ℕ → List ℕ → Plan
+planIn n lengths opcodes operands = record { tasks = n; lengths = lengths; opcodes = opcodes; operands = operands }
 
 -- both hold or neither
 abbrev pub sameTest : Bool → Bool → Bool

@@ -11,6 +11,7 @@ use plan::RECEIVE;
 use plan::SEND;
 use plan::SET;
 use plan::SYNC;
+use plan_users::used;
 
 // Whether every instruction so far is in order, and every finish.
 pub struct Scan {
@@ -64,26 +65,26 @@ pub fn scan_slots<'a>(
     requires { ⌜ tasks ≤ 64 ⌝ }
     ensures { λ r. ⌜ r ≡ scanned tasks (now (lengths .entry)) (now (opcodes .entry)) (now (operands .entry)) ⌝ }
 {
-    let end = 64 * base::wide8(tasks);
+    let n = base::wide8(tasks);
     let mut seen = Scan {
         instructions: true,
         finishes: true,
     };
-    let mut s: usize = 0;
-    while s < end {
-        let k = s / 64;
+    let mut k: usize = 0;
+    while k < n {
         let count = base::wide8(lengths[k]);
-        if count <= s % 64 {
-            // the rest of the task's slots is unused
-            s = 64 * (k + 1);
-        } else {
+        let end = used(lengths[k]);
+        let mut i: usize = 0;
+        while i < end {
+            let s = 64 * k + i;
             let x = Instruction {
                 opcode: opcodes[s],
                 operand: operands[s],
             };
-            seen = seen.next(tasks, count, s % 64, x);
-            s += 1;
+            seen = seen.next(tasks, count, i, x);
+            i += 1;
         }
+        k += 1;
     }
     seen
 }

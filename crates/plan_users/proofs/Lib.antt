@@ -1,2 +1,3 @@
--- The table of users, one slot more.
+-- The slots that a task uses; the tables of users, one slot more.
+pub mod Rows
 mod Using

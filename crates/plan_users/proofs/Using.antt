@@ -3,22 +3,23 @@ use mathlib.Core.Path.{_≡_, refl, sym, _∙_, ap}
 use mathlib.Core.Bool.{Bool, true, false, not, _&&_}
 use mathlib.Core.List.{List, [], _∷_, _++_, append-nil}
 use mathlib.Core.Logic.{_≢_}
-use Prim.Native.Nat.{ℕ, _+_, _/_, _%_, _<_, _≤_}
+use Prim.Native.Nat.{ℕ, _+_, _*_, _/_, _<_, _≤_}
 use native.Mathlib.Omega.{arith}
 use lib.ListN.{getD, set}
-use lib.Dec.{eqb, ltb, leb}
-use borrow.Author.Tests.{ne-eqb, eq-eqb, leb-false}
+use lib.Dec.{eqb}
+use borrow.Author.Tests.{ne-eqb, eq-eqb}
 use Rattle.base.specs.Choice.{pick}
 use Rattle.base.specs.Range.{joined}
 use Rattle.base.specs.Lists.{every, table}
-use Rattle.base.proofs.Tests.{every-append}
+use Rattle.base.proofs.Tests.{and-both, and-false, every-append}
 use Rattle.base.proofs.Folds.{fold-more}
-use Rattle.base.proofs.Slots.{nextRow, joined-skip}
+use Rattle.base.proofs.Slots.{row-of, joined-skip}
 use Rattle.base.proofs.Tables.{table-same, set-table, getD-table}
-use Rattle.plan.specs.Kinds.{isUse}
+use Rattle.plan.specs.Kinds.{opCreate, opSend, opReceive, isUse}
 use Rattle.plan_users.specs.Slots.{slotIn}
 use Rattle.plan_users.specs.declared.Use.{Use}
-use Rattle.plan_users.specs.Uses.{noUse, useOf, useNext, slotUser, argumentIn, usesTo, endsFit}
+use Rattle.plan_users.specs.Uses.{noUse, useOf, useNext, slotUser, usedOf, usesTo, endsFit}
+use Rattle.plan_users.proofs.Rows.{used-bounds, slot-used, row-rest}
 
 pub ends-apart : (s r : Use) → s .mixed ≡ false → r .mixed ≡ false → (s .count ≡ 0 → ⊥) → (r .count ≡ 0 → ⊥)
     → endsFit s r ≡ not (eqb (s .task .0) (r .task .0))
@@ -43,65 +44,121 @@ use-more (x ∷ y ∷ l) t =
     go false true = refl
     go false false = refl
 
--- an instruction uses only its argument
-user-other : (t a c : ℕ) (ofKind fits : Bool) → leb a 128 ≡ fits → c < 129 → c ≢ pick ofKind (pick fits a 129) 129
-    → pick (ofKind && eqb a c) (t ∷ []) [] ≡ []
-user-other t a c false fits e h ne = refl
-user-other t a c true true e h ne = rw (ne-eqb a c (λ q. ne (sym q))) refl
-user-other t a c true false e h ne = let q = leb-false a 128 e in rw (ne-eqb a c (λ r. omega arith)) refl
-
-user-here : (t a : ℕ) (ofKind fits : Bool) → pick ofKind (pick fits a 129) 129 < 129
-    → pick (ofKind && eqb a (pick ofKind (pick fits a 129) 129)) (t ∷ []) [] ≡ t ∷ []
-user-here t a false fits h = absurd (omega arith)
-user-here t a true false h = absurd (omega arith)
-user-here t a true true h = rw (eq-eqb a a refl) refl
-
-module _ (k : ℕ) (lengths opcodes operands : List ℕ) (s : ℕ) where
+module _ (k : ℕ) (lengths opcodes operands : List ℕ) where
   abbrev count : ℕ → ℕ
   count j = getD lengths j 0
-
-  abbrev slotArgument : ℕ
-  slotArgument = argumentIn k (getD opcodes s 0) (getD operands s 0)
 
   abbrev tasksAt : ℕ → ℕ → List ℕ
   tasksAt n a = joined n (slotUser lengths opcodes operands k a)
 
   -- the rest of a task's slots changes nothing
-  pub uses-skip : (c : ℕ) (found : List Use) → found ≡ usesTo k lengths opcodes operands s → c ≡ count (s / 64) → c ≤ s % 64
-      → found ≡ usesTo k lengths opcodes operands (nextRow s)
-  uses-skip c found p q l =
-      p
-      ∙ table-same 129 (λ a. useOf (tasksAt s a)) (λ a. useOf (tasksAt (nextRow s) a))
-      (λ a r. ap useOf (joined-skip s count (λ j c place. pick (isUse k a (slotIn opcodes operands j)) ((j / 64 + 1) ∷ []) []) (rw q at l)))
+  pub uses-rest : (r : ℕ) → usesTo k lengths opcodes operands (64 * r + usedOf (count r)) ≡ usesTo k lengths opcodes operands (64 * (r + 1))
+  uses-rest r =
+      table-same 129 _ _
+      (λ a h.
+      ap useOf
+      (row-rest count r (λ s. tasksAt s a)
+      (λ s q. joined-skip s count (λ j c place. pick (isUse k a (slotIn opcodes operands j)) ((j / 64 + 1) ∷ []) []) q)))
 
-  module _ (used : ltb (s % 64) (count (s / 64)) ≡ true) where
-    more : (a : ℕ) → tasksAt (s + 1) a ≡ tasksAt s a ++ pick (isUse k a (slotIn opcodes operands s)) ((s / 64 + 1) ∷ []) []
-    more a = simp (fold-more, used)
+  -- instruction i + 1 of task r + 1
+  module _ (r i : ℕ) (h : i < usedOf (count r)) where
+    abbrev here : ℕ
+    here = 64 * r + i
 
-    unchanged : (c : ℕ) → c < 129 → c ≢ slotArgument → useOf (tasksAt s c) ≡ useOf (tasksAt (s + 1) c)
-    unchanged c h ne =
-        let none = user-other (s / 64 + 1) (getD operands s 0) c (eqb (getD opcodes s 0) k) (leb (getD operands s 0) 128) refl h ne in
-        ap useOf (sym (append-nil (tasksAt s c)) ∙ ap (λ (l : List ℕ). tasksAt s c ++ l) (sym none) ∙ sym (more c))
+    more : (a : ℕ) → tasksAt (64 * r + (i + 1)) a ≡ tasksAt here a ++ pick (isUse k a (slotIn opcodes operands here)) ((r + 1) ∷ []) []
+    more a =
+        let e : 64 * r + (i + 1) ≡ here + 1 = omega arith in
+        rw e (fold-more _++_ [] here _ ∙ rw (slot-used count r i h, row-of r i (omega (arith, used-bounds (count r)))) refl)
 
-    taken : slotArgument < 129 → useNext (useOf (tasksAt s slotArgument)) (record { 0 = s / 64 + 1 }) ≡ useOf (tasksAt (s + 1) slotArgument)
-    taken h =
-        let here = user-here (s / 64 + 1) (getD operands s 0) (eqb (getD opcodes s 0) k) (leb (getD operands s 0) 128) h in
-        sym (use-more (tasksAt s slotArgument) (s / 64 + 1))
-        ∙ ap useOf (ap (λ (l : List ℕ). tasksAt s slotArgument ++ l) (sym here) ∙ sym (more slotArgument))
+    same : (a : ℕ) → isUse k a (slotIn opcodes operands here) ≡ false → useOf (tasksAt here a) ≡ useOf (tasksAt (64 * r + (i + 1)) a)
+    same a none = rw (more a, none, append-nil (tasksAt here a)) refl
 
-    pub uses-pass : (a : ℕ) (found : List Use) → found ≡ usesTo k lengths opcodes operands s → a ≡ slotArgument → 129 ≤ a
-        → found ≡ usesTo k lengths opcodes operands (s + 1)
-    uses-pass a found p q h =
-        p ∙ table-same 129 (λ c. useOf (tasksAt s c)) (λ c. useOf (tasksAt (s + 1) c)) (λ c r. unchanged c r (λ e. omega (arith, q, e)))
+    -- it is of another kind, or its argument is over 128
+    pub uses-other : getD opcodes here 0 ≢ k → usesTo k lengths opcodes operands here ≡ usesTo k lengths opcodes operands (64 * r + (i + 1))
+    uses-other ne = table-same 129 _ _ (λ a q. same a (rw (ne-eqb (getD opcodes here 0) k ne) refl))
 
-    pub uses-take : (a : ℕ) (found : List Use) → found ≡ usesTo k lengths opcodes operands s → a ≡ slotArgument → a < 129
-        → set found a (useNext (getD found a noUse) (record { 0 = s / 64 + 1 })) ≡ usesTo k lengths opcodes operands (s + 1)
-    uses-take a found p q h =
-        let f : ℕ → Use = λ c. useOf (tasksAt s c) in
-        let g : ℕ → Use = λ c. useOf (tasksAt (s + 1) c) in
-        let b : slotArgument < 129 = rw q at h in
-        ap (λ (l : List Use). set l a (useNext (getD l a noUse) (record { 0 = s / 64 + 1 }))) p
-        ∙ ap (λ (c : ℕ). set (table 129 f) c (useNext (getD (table 129 f) c noUse) (record { 0 = s / 64 + 1 }))) q
-        ∙ ap (λ (u : Use). set (table 129 f) slotArgument (useNext u (record { 0 = s / 64 + 1 }))) (getD-table 129 f slotArgument noUse b)
-        ∙ ap (λ (u : Use). set (table 129 f) slotArgument u) (taken b)
-        ∙ set-table 129 f g slotArgument noUse b (λ j r ne. unchanged j r ne)
+    pub uses-far : 129 ≤ getD operands here 0 → usesTo k lengths opcodes operands here ≡ usesTo k lengths opcodes operands (64 * r + (i + 1))
+    uses-far far = table-same 129 _ _ (λ a q. same a (rw (ne-eqb (getD operands here 0) a (λ e. omega arith)) (and-false (eqb (getD opcodes here 0) k))))
+
+    -- it is of the kind, with argument a
+    pub uses-take : (a : ℕ) (found : List Use) → found ≡ usesTo k lengths opcodes operands here → getD opcodes here 0 ≡ k → a ≡ getD operands here 0 → a < 129
+        → set found a (useNext (getD found a noUse) (record { 0 = r + 1 })) ≡ usesTo k lengths opcodes operands (64 * r + (i + 1))
+    uses-take a found p kind on fits =
+        let f : ℕ → Use = λ c. useOf (tasksAt here c) in
+        let g : ℕ → Use = λ c. useOf (tasksAt (64 * r + (i + 1)) c) in
+        let is : isUse k a (slotIn opcodes operands here) ≡ true = and-both _ _ (eq-eqb (getD opcodes here 0) k kind) (eq-eqb (getD operands here 0) a (sym on)) in
+        let next : useNext (getD found a noUse) (record { 0 = r + 1 }) ≡ g a =
+        rw (p, getD-table 129 f a noUse fits) (sym (use-more (tasksAt here a) (r + 1)) ∙ rw (more a, is) refl) in
+        rw (next, p)
+        (set-table 129 f g a noUse fits
+        (λ j q ne. same j (rw (ne-eqb (getD operands here 0) j (λ e. ne (omega arith))) (and-false (eqb (getD opcodes here 0) k)))))
+
+-- the tables of the first s slots: of creates, of sends and of receives
+pub record Tables (lengths opcodes operands : List ℕ) (s : ℕ) (c d e : List Use) : Type 0 where
+  pub creates : c ≡ usesTo opCreate lengths opcodes operands s
+  pub sends : d ≡ usesTo opSend lengths opcodes operands s
+  pub receives : e ≡ usesTo opReceive lengths opcodes operands s
+
+module _ {lengths opcodes operands : List ℕ} {c d e : List Use} where
+  pub tables-same : {s : ℕ} {c₁ d₁ e₁ : List Use} → c₁ ≡ c → d₁ ≡ d → e₁ ≡ e → Tables lengths opcodes operands s c d e → Tables lengths opcodes operands s c₁ d₁ e₁
+  tables-same x y z t = record { creates = x ∙ t .creates; sends = y ∙ t .sends; receives = z ∙ t .receives }
+
+  pub tables-rest : (r : ℕ) → Tables lengths opcodes operands (64 * r + usedOf (getD lengths r 0)) c d e
+      → Tables lengths opcodes operands (64 * (r + 1)) c d e
+  tables-rest r t =
+      record {
+        creates = t .creates ∙ uses-rest opCreate lengths opcodes operands r;
+        sends = t .sends ∙ uses-rest opSend lengths opcodes operands r;
+        receives = t .receives ∙ uses-rest opReceive lengths opcodes operands r;
+      }
+
+  -- instruction i + 1 of task r + 1
+  module _ (r i : ℕ) (h : i < usedOf (getD lengths r 0)) (t : Tables lengths opcodes operands (64 * r + i) c d e) where
+    abbrev opcode : ℕ
+    opcode = getD opcodes (64 * r + i) 0
+
+    -- a table that the instruction leaves as it is
+    left : (k : ℕ) {f : List Use} → opcode ≢ k → f ≡ usesTo k lengths opcodes operands (64 * r + i) → f ≡ usesTo k lengths opcodes operands (64 * r + (i + 1))
+    left k ne p = p ∙ uses-other k lengths opcodes operands r i h ne
+
+    pub tables-other : opcode ≢ opCreate → opcode ≢ opSend → opcode ≢ opReceive → Tables lengths opcodes operands (64 * r + (i + 1)) c d e
+    tables-other x y z =
+        record { creates = left opCreate x (t .creates); sends = left opSend y (t .sends); receives = left opReceive z (t .receives) }
+
+    pub tables-far : 129 ≤ getD operands (64 * r + i) 0 → Tables lengths opcodes operands (64 * r + (i + 1)) c d e
+    tables-far q =
+        record {
+          creates = t .creates ∙ uses-far opCreate lengths opcodes operands r i h q;
+          sends = t .sends ∙ uses-far opSend lengths opcodes operands r i h q;
+          receives = t .receives ∙ uses-far opReceive lengths opcodes operands r i h q;
+        }
+
+    -- with argument a; u is what stands there then
+    module _ (a : ℕ) (on : a ≡ getD operands (64 * r + i) 0) (fits : a < 129) (u : Use) where
+      taken : (k : ℕ) {f : List Use} → opcode ≡ k → f ≡ usesTo k lengths opcodes operands (64 * r + i) → u ≡ useNext (getD f a noUse) (record { 0 = r + 1 })
+          → set f a u ≡ usesTo k lengths opcodes operands (64 * r + (i + 1))
+      taken k {f} q p n = rw n (uses-take k lengths opcodes operands r i h a f p q on fits)
+
+      pub tables-create : opcode ≡ opCreate → u ≡ useNext (getD c a noUse) (record { 0 = r + 1 }) → Tables lengths opcodes operands (64 * r + (i + 1)) (set c a u) d e
+      tables-create q n =
+          record {
+            creates = taken opCreate q (t .creates) n;
+            sends = left opSend (λ z. omega arith) (t .sends);
+            receives = left opReceive (λ z. omega arith) (t .receives);
+          }
+
+      pub tables-send : opcode ≡ opSend → u ≡ useNext (getD d a noUse) (record { 0 = r + 1 }) → Tables lengths opcodes operands (64 * r + (i + 1)) c (set d a u) e
+      tables-send q n =
+          record {
+            creates = left opCreate (λ z. omega arith) (t .creates);
+            sends = taken opSend q (t .sends) n;
+            receives = left opReceive (λ z. omega arith) (t .receives);
+          }
+
+      pub tables-receive : opcode ≡ opReceive → u ≡ useNext (getD e a noUse) (record { 0 = r + 1 }) → Tables lengths opcodes operands (64 * r + (i + 1)) c d (set e a u)
+      tables-receive q n =
+          record {
+            creates = left opCreate (λ z. omega arith) (t .creates);
+            sends = left opSend (λ z. omega arith) (t .sends);
+            receives = taken opReceive q (t .receives) n;
+          }

@@ -10,6 +10,7 @@ use Rattle.base.specs.Lists.{every, table}
 use Rattle.plan.specs.declared.TaskId.{TaskId}
 use Rattle.plan.specs.Kinds.{opCreate, opSend, opReceive, isUse}
 use Rattle.plan_users.specs.declared.Use.{Use}
+use Rattle.plan_users.specs.declared.Uses.{Uses}
 use Rattle.plan_users.specs.Slots.{slotIn}
 
 abbrev pub noUse : Use
@@ -33,9 +34,9 @@ abbrev pub slotUser : List ℕ → List ℕ → List ℕ → ℕ → ℕ → ℕ
 slotUser lengths opcodes operands k a j =
     pick (ltb (j % 64) (getD lengths (j / 64) 0)) (pick (isUse k a (slotIn opcodes operands j)) ((j / 64 + 1) ∷ []) []) []
 
--- the argument of an instruction of kind k, up to 128, else 129
-abbrev pub argumentIn : ℕ → ℕ → ℕ → ℕ
-argumentIn k opcode operand = pick (eqb opcode k) (pick (leb operand 128) operand 129) 129
+-- how many of its 64 slots a task of n instructions uses
+abbrev pub usedOf : ℕ → ℕ
+usedOf n = pick (ltb n 64) n 64
 
 -- for each argument the tasks of the first s slots that use it
 abbrev pub usesTo : ℕ → List ℕ → List ℕ → List ℕ → ℕ → List Use
@@ -43,6 +44,15 @@ usesTo k lengths opcodes operands s = table 129 (λ a. useOf (joined s (slotUser
 
 abbrev pub usesTable : ℕ → ℕ → List ℕ → List ℕ → List ℕ → List Use
 usesTable k n lengths opcodes operands = usesTo k lengths opcodes operands (64 * n)
+
+-- the tables of creates, sends and receives of n tasks
+abbrev pub usesOf : ℕ → List ℕ → List ℕ → List ℕ → Uses
+usesOf n lengths opcodes operands =
+    record {
+      creates = usesTable opCreate n lengths opcodes operands;
+      sends = usesTable opSend n lengths opcodes operands;
+      receives = usesTable opReceive n lengths opcodes operands;
+    }
 
 -- exactly one create of task u, in a lower task; task 1 has none to have
 abbrev pub createFits : Use → ℕ → Bool

@@ -1,7 +1,7 @@
 // Who uses what in a plan, in tables; 5 and 6 of a plan value, by these.
 ghost use mathlib.Core.Path.{_≡_};
 ghost use Prim.Native.Nat.{_≤_};
-ghost use Rattle.plan_users.specs.Uses.{usesTable, useNext, argumentIn, createFits, createsFit, createsIn, endsFit, endsFitAll, channelsIn};
+ghost use Rattle.plan_users.specs.Uses.{useNext, usedOf, usesOf, createFits, createsFit, endsFit, endsFitAll};
 use plan::CREATE;
 use plan::RECEIVE;
 use plan::SEND;
@@ -13,6 +13,14 @@ pub struct Use {
     pub count: u8,
     pub task: TaskId,
     pub mixed: bool,
+}
+
+// The uses of a plan by argument, up to 128: the creates of each task, and the sends and the receives
+// on each channel.
+pub struct Uses {
+    pub creates: [Use; 129],
+    pub sends: [Use; 129],
+    pub receives: [Use; 129],
 }
 
 impl Use {
@@ -78,58 +86,71 @@ impl Use {
     }
 }
 
-// The argument of an instruction of the kind, up to 128, else 129.
-fn argument(kind: u8, opcode: u8, operand: u16) -> usize
-    ensures { λ r. ⌜ r ≡ argumentIn kind opcode operand ⌝ }
+// How many of a task's 64 slots are used, of one with `count` instructions.
+pub fn used(count: u8) -> usize
+    ensures { λ r. ⌜ r ≡ usedOf count ⌝ }
 {
-    let a = base::wide16(operand);
-    if opcode != kind {
-        return 129;
-    }
-    if 128 < a {
-        return 129;
-    }
-    a
+    let n = base::wide8(count);
+    if n < 64 { n } else { 64 }
 }
 
-// For each argument up to 128, the instructions of a kind with that argument.
-pub fn uses<'a>(
-    kind: u8,
+// For each argument up to 128, the instructions of each kind with that argument.
+pub fn find_uses<'a>(
     tasks: u8,
     lengths: &'a [u8; 64],
     opcodes: &'a [u8; 4096],
     operands: &'a [u16; 4096],
-) -> [Use; 129]
+) -> Uses
     requires { ⌜ tasks ≤ 64 ⌝ }
-    ensures { λ r. ⌜ r ≡ usesTable kind tasks (now (lengths .entry)) (now (opcodes .entry)) (now (operands .entry)) ⌝ }
+    ensures { λ r. ⌜ r ≡ usesOf tasks (now (lengths .entry)) (now (opcodes .entry)) (now (operands .entry)) ⌝ }
 {
-    let end = 64 * base::wide8(tasks);
+    let n = base::wide8(tasks);
     let none = Use {
         count: 0,
         task: TaskId(0),
         mixed: false,
     };
-    let mut found = [none; 129];
-    let mut s: usize = 0;
-    while s < end {
-        let k = s / 64;
-        if base::wide8(lengths[k]) <= s % 64 {
-            // the rest of the task's slots is unused
-            s = 64 * (k + 1);
-        } else {
-            let a = argument(kind, opcodes[s], operands[s]);
-            if a < 129 {
-                let t = TaskId(k as u8 + 1);
-                let u = found[a];
-                found[a] = u.next(t);
+    let mut creates = [none; 129];
+    let mut sends = [none; 129];
+    let mut receives = [none; 129];
+    let mut k: usize = 0;
+    while k < n {
+        let count = used(lengths[k]);
+        let t = TaskId(k as u8 + 1);
+        let mut i: usize = 0;
+        while i < count {
+            let s = 64 * k + i;
+            let opcode = opcodes[s];
+            let a = base::wide16(operands[s]);
+            if opcode == CREATE {
+                if a < 129 {
+                    let u = creates[a];
+                    creates[a] = u.next(t);
+                }
+            } else if opcode == SEND {
+                if a < 129 {
+                    let u = sends[a];
+                    sends[a] = u.next(t);
+                }
+            } else if opcode == RECEIVE {
+                if a < 129 {
+                    let u = receives[a];
+                    receives[a] = u.next(t);
+                }
             }
-            s += 1;
+            i += 1;
         }
+        k += 1;
     }
-    found
+    Uses {
+        creates: creates,
+        sends: sends,
+        receives: receives,
+    }
 }
 
-fn creates_ok(tasks: u8, creates: [Use; 129]) -> bool
+// Refusal 5 of a plan, of its creates.
+pub fn creates_ok(tasks: u8, creates: [Use; 129]) -> bool
     requires { ⌜ tasks ≤ 64 ⌝ }
     ensures { λ r. ⌜ r ≡ createsFit tasks creates ⌝ }
 {
@@ -145,7 +166,8 @@ fn creates_ok(tasks: u8, creates: [Use; 129]) -> bool
     true
 }
 
-fn channels_ok(sends: [Use; 129], receives: [Use; 129]) -> bool
+// Refusal 6 of a plan, of its sends and receives.
+pub fn channels_ok(sends: [Use; 129], receives: [Use; 129]) -> bool
     ensures { λ r. ⌜ r ≡ endsFitAll sends receives ⌝ }
 {
     let mut k: usize = 0;
@@ -158,33 +180,4 @@ fn channels_ok(sends: [Use; 129], receives: [Use; 129]) -> bool
         k += 1;
     }
     true
-}
-
-// Refusal 5, of a plan's slots.
-pub fn creates_fit<'a>(
-    tasks: u8,
-    lengths: &'a [u8; 64],
-    opcodes: &'a [u8; 4096],
-    operands: &'a [u16; 4096],
-) -> bool
-    requires { ⌜ tasks ≤ 64 ⌝ }
-    ensures { λ r. ⌜ r ≡ createsIn tasks (now (lengths .entry)) (now (opcodes .entry)) (now (operands .entry)) ⌝ }
-{
-    let creates = uses(CREATE, tasks, lengths, opcodes, operands);
-    creates_ok(tasks, creates)
-}
-
-// Refusal 6, of a plan's slots.
-pub fn channels_fit<'a>(
-    tasks: u8,
-    lengths: &'a [u8; 64],
-    opcodes: &'a [u8; 4096],
-    operands: &'a [u16; 4096],
-) -> bool
-    requires { ⌜ tasks ≤ 64 ⌝ }
-    ensures { λ r. ⌜ r ≡ channelsIn tasks (now (lengths .entry)) (now (opcodes .entry)) (now (operands .entry)) ⌝ }
-{
-    let sends = uses(SEND, tasks, lengths, opcodes, operands);
-    let receives = uses(RECEIVE, tasks, lengths, opcodes, operands);
-    channels_ok(sends, receives)
 }

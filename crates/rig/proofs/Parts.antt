@@ -11,7 +11,7 @@ use Rattle.tables.specs.Store.{storeIn}
 use Rattle.ends.specs.declared.Ends.{Ends}
 use Rattle.ends.specs.Derived.{endsOf}
 use Rattle.judge.specs.Facts.{Facts, facts}
-use Rattle.core.specs.declared.carry.Turn.{Turn}
+use Rattle.core.specs.declared.turn.Turn.{Turn}
 use Rattle.core.specs.Turns.{turnOf, Rig}
 use Rattle.core.proofs.Whole.{putTogether, step-together}
 use Rattle.core.proofs.Rigs.{own-parts}

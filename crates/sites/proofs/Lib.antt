@@ -1,2 +1,2 @@
 -- What a step finds.
-mod Finding
+pub mod Finding

@@ -27,8 +27,9 @@ use Rattle.rules.specs.Sound.{systemOk}
 use Rattle.rules.specs.StepFiles.{stepsOk, fileSteps, startOf, traceLines, runFileAnswer, runFileText, runFileOutput}
 use Rattle.rules_laws.proofs.Shapes.{started-plan}
 use Rattle.rules_sound.proofs.Starts.{started-ok}
-use Rattle.stepfile.specs.Writes.{Written, RunFile}
-use Rattle.stepfile.proofs.Fits.{written-filled}
+use Rattle.steploop.specs.Writes.{Written}
+use Rattle.steploop.proofs.Fits.{written-filled}
+use Rattle.stepfile.specs.Writes.{RunFile}
 
 -- the plan of a file that is read
 module _ (p : List ℕ) {x : PlanRead} (h : x ≡ planRead p) where

@@ -28,10 +28,12 @@ use Rattle.core.proofs.Rigs.{own-parts, rig-turn, rig-next, rig-next-system, ri
 use Rattle.trace.specs.Lines.{endText}
 use Rattle.trace.proofs.Lines.{end-of}
 use Rattle.trace.proofs.Filling.{filled-length}
-use Rattle.stepfile.specs.declared.drive.Ran.{Ran}
 use Rattle.stepfile.specs.declared.drive.Driven.{Driven}
-use Rattle.stepfile.specs.Writes.{Written, Turns, turnsOf, RanTo, Ended}
-use Rattle.stepfile.proofs.Fits.{written-filled, written-over, written-end}
+use Rattle.steploop.specs.declared.Ran.{Ran}
+use Rattle.steploop.specs.Writes.{Written, Turns, turnsOf, RanTo}
+use Rattle.steploop.proofs.Fits.{written-filled, written-over}
+use Rattle.stepfile.specs.Writes.{Ended}
+use Rattle.stepfile.proofs.Fits.{written-end}
 
 -- the parts then are those of a rig, which is what the steps leave, and these are their reports
 pub record Stood (f : Facts) (n : ℕ) (h : Turns) (w : History) : Type 0 where
@@ -79,14 +81,14 @@ module _ (r : System) (z : Shaped r) (o : systemOk r ≡ true) {f : Facts} (q : 
         ap (λ (k : Network). k .used) (s .rig .network) ∙ ap (λ (p : System). p .network .used) (s .system) in
         rw (rest, used, s .reports, end-of (steps r xs .system)) refl
 
-    module _ {before : List ℕ} {ran : Ran} {mid : List ℕ} (h : RanTo ranIn before ran mid) where
+    module _ {before : List ℕ} {ran : Ran} {kept : Store} {mid : List ℕ} (h : RanTo ranIn before ran kept mid) where
       -- a line of a step does not fit
       pub driven-short : ran .whole ≡ false → Written (traceLines r xs) before (ran .filled) false mid
       driven-short w = rw (trace-lines _ refl) (written-over _ (rw w at (h .lines)))
 
       -- they all fit
       module _ (w : ran .whole ≡ true) where
-        pub ran-rig : Rig f (r .processors) (ran .tasks) (ran .network) (ran .store)
+        pub ran-rig : Rig f (r .processors) (ran .tasks) (ran .network) kept
         ran-rig = rw (h .tasks w, h .network w, h .store w) (stood-in .rig)
 
         pub ran-room : ran .filled ≤ length mid
@@ -94,7 +96,7 @@ module _ (r : System) (z : Shaped r) (o : systemOk r ≡ true) {f : Facts} (q : 
             let l = written-filled (rw w at (h .lines)) in
             omega (arith, l .end, l .room, filled-length l)
 
-        pub driven-end : {d : Driven} {after : List ℕ} (b : Bool) → b ≡ restIn f (r .processors) (ran .tasks) (ran .store) (ran .network .used)
+        pub driven-end : {d : Driven} {after : List ℕ} (b : Bool) → b ≡ restIn f (r .processors) (ran .tasks) kept (ran .network .used)
             → Ended (endText b (ran .network .used)) mid (ran .filled) d after
             → Written (traceLines r xs) before (d .filled) (d .whole) after
         driven-end b e t =

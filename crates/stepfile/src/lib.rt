@@ -1,4 +1,3 @@
 // A run over a step file: the steps decoded, each carried out, each line written.
-mod decode;
 mod drive;
 pub mod run;

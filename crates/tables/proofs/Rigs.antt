@@ -1,4 +1,4 @@
--- A cell read and written in the rig is one read and written in what the rig keeps for channels; so is a rule for channels of a desk.
+-- A cell read in the rig is one read in what the rig keeps for channels, and a rule for channels of a desk is one for what it keeps.
 use mathlib.Core.Path.{_≡_, refl, sym, _∙_, ap}
 use mathlib.Core.Bool.{Bool, true, false}
 use Prim.Native.Nat.{ℕ, zero, suc, _<_}
@@ -11,20 +11,12 @@ use Rattle.rules.specs.declared.system.System.{System}
 use Rattle.rules.specs.Numbers.{channelId}
 use Rattle.rules.specs.Systems.{entryAt, channelAt, cellAt, withCell}
 use Rattle.rules.specs.Effects.{forChannels}
-use Rattle.tables.specs.Store.{Store, storeIn, withStore, cellIn, cellStored, cellRuled, forCells}
+use Rattle.tables.specs.Store.{Store, storeIn, withStore, cellIn, cellRuled, forCells}
 
 module _ (r : System) where
-  -- the rig with what it has
-  pub with-own : withStore r (storeIn r) ≡ r
-  with-own = refl
-
   pub cell-read : (d : ProcessorId) (c : ChannelId) → cellAt r d c ≡ cellIn (storeIn r) d c
   unfolding entryAt channelAt
   cell-read d c = refl
-
-  pub cell-written : (d : ProcessorId) (c : ChannelId) (x : Cell) → withCell r d c x ≡ withStore r (cellStored (storeIn r) d c x)
-  unfolding withCell
-  cell-written d c x = refl
 
 module _ (rule : Cell → Cell) (d : ProcessorId) where
   -- the rule for one channel, if the test holds of it

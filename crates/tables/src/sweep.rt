@@ -1,8 +1,7 @@
 // What is done for each channel of a task that is born, leaves or arrives.
-ghost use mathlib.Core.Bool.{true};
 ghost use mathlib.Core.Path.{_≡_};
 ghost use Prim.Native.Nat.{_≤_};
-ghost use Rattle.tables.specs.Store.{ruleOf, ruledAt, forEnds, sweepOk, swept};
+ghost use Rattle.tables.specs.Store.{ruleOf, ruledAt, forEnds};
 use crate::cell::cell_at;
 use crate::cell::store_cell;
 use crate::store::Store;
@@ -73,24 +72,4 @@ pub fn for_ends(ends: &[u8; 129], t: TaskId, d: ProcessorId, rule: CellRule, s: 
         k = c;
     }
     all
-}
-
-// A birth, a departure or an arrival, for all of the task's channels.
-pub fn swept<'a>(sweep: Sweep, senders: &'a [u8; 129], receivers: &'a [u8; 129], s: Store) -> Store
-    requires { ⌜ sweepOk sweep ≡ true ⌝ }
-    ensures { λ r. ⌜ r ≡ swept (now (senders .entry)) (now (receivers .entry)) sweep s ⌝ }
-{
-    match sweep {
-        Sweep::Nothing => s,
-        Sweep::Birth(t, d) => for_ends(receivers, t, d, CellRule::Locate(d, 1), s),
-        Sweep::Departure(t, d, h) => {
-            let e = h.processor;
-            let a = for_ends(receivers, t, d, CellRule::Locate(e, h.moves), s);
-            for_ends(senders, t, d, CellRule::DepartSending, a)
-        }
-        Sweep::Arrival(t, d, n) => {
-            let a = for_ends(receivers, t, d, CellRule::ArriveReceiving(d, n), s);
-            for_ends(senders, t, d, CellRule::ArriveSending, a)
-        }
-    }
 }

@@ -3,3 +3,4 @@ pub mod Adding
 pub mod Lines
 pub mod Emitting
 pub mod Filling
+pub mod Putting

@@ -1,30 +1,18 @@
--- A line put together from nothing holds its text; the texts that are put are those of the paper's lines.
+-- A line put together from nothing holds its text; the text of the last line is that of the paper.
 use mathlib.Core.Path.{_≡_, refl, _∙_}
 use mathlib.Core.Bool.{Bool}
 use mathlib.Core.List.{List, [], _∷_, _++_, append-assoc}
 use Prim.Native.Nat.{ℕ, _≤_}
 use native.Mathlib.Omega.{arith}
 use Rattle.base.specs.Choice.{pick}
-use Rattle.rules.specs.declared.step.Report.{Report}
 use Rattle.rules.specs.declared.system.System.{System}
-use Rattle.rules.specs.Answers.{stepNumber}
 use Rattle.rules.specs.Steps.{quiescent}
-use Rattle.rules.specs.Trace.{decimal, fields, receivedFields, stepLine, endLine}
+use Rattle.rules.specs.Trace.{decimal, fields, endLine}
 use Rattle.trace.specs.declared.Line.{Line}
 use Rattle.trace.specs.Lines.{textOf, Adds, Holds, endText}
 
 pub held : {l r : Line} {t : List ℕ} → (textOf l ≡ []) × (l .used ≡ 0) → Adds l t r → 1 ≤ r .used → r .used ≤ 24 → Holds t r
 held e a s f = record { text = a .text ∙ rw (e .0) refl; long = omega (arith, a .long, e .1); some = s; fits = f }
-
--- the fields of a received word c, w
-pub word-fields : (c w : ℕ) → (((32 ∷ decimal c) ++ (32 ∷ decimal w)) ++ (10 ∷ [])) ≡ fields (c ∷ w ∷ [])
-unfolding fields
-word-fields c w = simp append-assoc
-
-pub step-text : (k : ℕ) (q : Report)
-    → (decimal k ++ (32 ∷ decimal (stepNumber (q .answer)))) ++ fields (receivedFields (q .received)) ≡ stepLine k q
-unfolding stepLine fields
-step-text k q = simp append-assoc
 
 pub end-text : (b : Bool) (n : ℕ)
     → (((101 ∷ 110 ∷ 100 ∷ []) ++ (32 ∷ decimal (pick b 1 0))) ++ (32 ∷ decimal n)) ++ (10 ∷ []) ≡ endText b n

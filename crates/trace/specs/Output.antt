@@ -17,3 +17,13 @@ pub record Filled (o t : List ℕ) (filled : ℕ) (out : List ℕ) : Type 0 wher
   pub bytes : out ≡ t ++ drop (length t) o
   pub end : filled ≡ length t
   pub room : length t ≤ length o
+
+-- after is o with t written from the place `at` on, which has room for it
+pub record Put (o : List ℕ) (at : ℕ) (t : List ℕ) (after : List ℕ) : Type 0 where
+  pub bytes : after ≡ take at o ++ (t ++ drop (at + length t) o)
+  pub room : at + length t ≤ length o
+
+-- the same; t ends at r
+pub record PutTo (o : List ℕ) (at : ℕ) (t : List ℕ) (r : ℕ) (after : List ℕ) : Type 0 where
+  pub put : Put o at t after
+  pub end : r ≡ at + length t

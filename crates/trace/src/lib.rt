@@ -1,4 +1,5 @@
-// The trace's lines: the line of a step, and the last one.
+// The last line of the trace, and the lines of steps.
+pub mod direct;
 pub mod output;
 
 ghost use mathlib.Core.Path.{_≡_};
@@ -7,10 +8,8 @@ ghost use Prim.Native.Nat.{_+_, _<_, _≤_};
 ghost use lib.ListN.{length};
 ghost use Rattle.base.specs.Choice.{pick};
 ghost use Rattle.rules.specs.Answers.{stepNumber};
-ghost use Rattle.rules.specs.Trace.{decimal, fields, receivedFields, stepLine};
+ghost use Rattle.rules.specs.Trace.{decimal};
 ghost use Rattle.trace.specs.Lines.{textOf, Adds, Holds, endText};
-use rules::rule::Received;
-use rules::step::Report;
 use rules::step::StepAnswer;
 
 // A line as it is put together: its text is its first `used` bytes.
@@ -87,29 +86,6 @@ pub fn answer_number(a: StepAnswer) -> u8
         StepAnswer::MovesSpent => 18,
         StepAnswer::BadStep => 19,
     }
-}
-
-// The channel and the word, if one was received, and the line feed.
-fn add_received(l: Line, received: Received) -> Line
-    requires { ⌜ l .used ≤ 11 ⌝ }
-    ensures { λ r. ⌜ Adds l (fields (receivedFields received)) r × (r .used ≤ 24) ⌝ }
-{
-    match received {
-        Received::Nothing => l.put(10),
-        Received::Word(c, w) => l.field(base::wide8(c.0)).field(base::wide16(w.0)).put(10),
-    }
-}
-
-// The line of the k-th step.
-pub fn step_line(k: usize, q: Report) -> Line
-    requires { ⌜ k < 100000 ⌝ }
-    ensures { λ r. ⌜ Holds (stepLine k q) r ⌝ }
-{
-    let answer = q.answer;
-    let received = q.received;
-    let n = base::wide8(answer_number(answer));
-    let head = Line::new().number(k).field(n);
-    add_received(head, received)
 }
 
 // A test as a number.

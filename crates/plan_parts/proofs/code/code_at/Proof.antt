@@ -1,9 +1,9 @@
--- `code::code_at` is the code at a place: that of what is left from there.
+-- `code::code_at` reads the code at a place: that of what is left from there.
 use mathlib.Core.Path.{_∙_, ap}
 use mathlib.Core.List.{List}
 use Prim.Native.Nat.{ℕ}
-use borrow.Author.Needs.{needs}
 use Rattle.plan_parts.specs.Code.{codeOf}
+use borrow.Author.Needs.{needs}
 use Rattle.plan_parts.proofs.code.code_at.Statement.{statement}
 use Rattle.plan_parts.proofs.code.code_at.Tie as tie
 
@@ -15,8 +15,9 @@ read-code-requires c κs = search needs
 
 returns : tie.Need-returns
 returns c =
-    let a = c .before .before .before .args in
-    c .read-code .ensures ∙ ap (λ (l : List ℕ). codeOf l (a .tasks) (a .lengths)) (c .before .rest-at .ensures)
+    let r = c .before .before .before in
+    let a = r .before .before .args in
+    c .read-code .ensures ∙ ap (λ (l : List ℕ). codeOf l (a .tasks) (a .lengths .now)) (r .rest-at .ensures)
 
 pub code-at-spec : {M : Type 1} → statement M
 code-at-spec = tie.close (tie.spec rest-at-requires read-code-requires returns)

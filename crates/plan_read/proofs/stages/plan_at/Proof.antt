@@ -9,11 +9,14 @@ use Rattle.plan_read.proofs.stages.plan_at.Statement.{statement}
 use Rattle.plan_read.proofs.stages.plan_at.Tie as tie
 
 -- where the header has passed, and where the second bytes have
-passed : (c : tie.After-code-at) → c .before .before .before .before .before .args .h .ok ≡ true
-passed c = not-false (c .before .before .before .before .before .args .h .ok) (c .before .before .if1 .left)
+abbrev start : tie.After-code-at → tie.Start
+start c = c .before .before .before .before .before .before .before .before
 
-zeros : (c : tie.Else2) → c .before .before .code-at .result .zeros ≡ true
-zeros c = not-false (c .before .before .code-at .result .zeros) (c .if2 .left)
+passed : (c : tie.After-code-at) → start c .args .h .ok ≡ true
+passed c = not-false (start c .args .h .ok) (c .before .before .before .before .before .if1 .left)
+
+zeros : (c : tie.Else2) → c .before .code-at .result ≡ true
+zeros c = not-false (c .before .code-at .result) (c .if2 .left)
 
 refused-requires : tie.Need-refused-requires
 refused-requires c κs = search needs
@@ -31,14 +34,13 @@ refused-requires-2 c κs = search needs
 
 returns-2 : tie.Need-returns-2
 returns-2 c =
-    let l = c .before .before .before in
-    let a = l .before .before .before .before .before .args in
+    let l = c .before .before in
+    let a = start l .args in
     let z = l .code-at in
-    c .refused2 .ensures
-    ∙ bad-second (a .h) (drop (a .at) (a .file .now)) (passed l) (z .result) (z .ensures) (not-true (z .result .zeros) (c .before .if2 .taken))
+    c .refused2 .ensures ∙ bad-second (a .h) (drop (a .at) (a .file .now)) (passed l) _ (z .ensures) (not-true (z .result) (c .before .if2 .taken))
 
-check-requires : tie.Need-check-requires
-check-requires c κs = search needs
+check-slots-requires : tie.Need-check-slots-requires
+check-slots-requires c κs = search needs
 
 enum-told : tie.Need-enum-told
 enum-told c = search needs
@@ -52,21 +54,19 @@ refused-requires-3 c κs = search needs
 returns-3 : tie.Need-returns-3
 returns-3 c =
     let k = c .before .before in
-    let e = k .before .before in
-    let l = e .before .before in
-    let a = l .before .before .before .before .before .args in
-    let z = l .code-at in
-    good-plan (a .h) (drop (a .at) (a .file .now)) (passed l) (z .result) (z .ensures) (zeros e) (sym (k .check .ensures) ∙ c .enum-told .given .1)
+    let e = k .before .before .before .before in
+    let l = e .before in
+    let a = start l .args in
+    good-plan (a .h) (drop (a .at) (a .file .now)) (passed l) _ (l .code-at .ensures) (zeros e) (sym (k .check-slots .ensures) ∙ c .enum-told .given .1)
 
 returns-4 : tie.Need-returns-4
 returns-4 c =
     let k = c .before .before .before .before in
-    let e = k .before .before in
-    let l = e .before .before in
-    let a = l .before .before .before .before .before .args in
-    let z = l .code-at in
+    let e = k .before .before .before .before in
+    let l = e .before in
+    let a = start l .args in
     c .refused3 .ensures
-    ∙ bad-plan (a .h) (drop (a .at) (a .file .now)) (passed l) (z .result) (z .ensures) (zeros e) _ (sym (k .check .ensures) ∙ c .before .before .answer .given .1)
+    ∙ bad-plan (a .h) (drop (a .at) (a .file .now)) (passed l) _ (l .code-at .ensures) (zeros e) _ (sym (k .check-slots .ensures) ∙ c .before .before .answer .given .1)
 
 pub plan-at-spec : {M : Type 1} → statement M
 plan-at-spec =
@@ -77,7 +77,7 @@ plan-at-spec =
     code-at-requires
     refused-requires-2
     returns-2
-    check-requires
+    check-slots-requires
     enum-told
     enum-known-answer
     refused-requires-3

@@ -1,0 +1,3 @@
+-- Laws of what a step leaves.
+pub mod Numbers
+pub mod Cells

@@ -1,2 +1,0 @@
--- Laws of what an instruction changes.
-pub mod ByKind

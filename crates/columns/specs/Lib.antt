@@ -1,0 +1,2 @@
+-- What the rig keeps for channels, as columns that are lent.
+pub mod Columns

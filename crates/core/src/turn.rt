@@ -1,0 +1,13 @@
+// What a step leaves.
+use rules::message::Network;
+use rules::step::Report;
+use rules::task::Task;
+use tables::store::Store;
+
+// What a step leaves: its report, and the parts of the rig then.
+pub struct Turn {
+    pub report: Report,
+    pub tasks: [Task; 64],
+    pub network: Network,
+    pub store: Store,
+}

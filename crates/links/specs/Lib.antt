@@ -1,0 +1,2 @@
+-- The channels of each task, linked.
+pub mod Links

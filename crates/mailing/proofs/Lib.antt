@@ -1,0 +1,3 @@
+-- Laws of the mail changed in place.
+pub mod Gaps
+pub mod Posted

@@ -1,0 +1,2 @@
+-- The mail in place: a gap closed, letters posted round by round.
+pub mod Mailing

@@ -1,0 +1,44 @@
+-- The mail changed in place: the letter at position p taken out of so many, none where p is 0; and what is posted, round by round.
+use mathlib.Core.Bool.{Bool, false}
+use mathlib.Core.List.{List, [], _∷_}
+use Prim.Native.Nat.{ℕ, suc, _-_}
+use lib.Dec.{eqb}
+use Rattle.base.specs.Choice.{pick}
+use Rattle.rules.specs.declared.message.Message.{Message}
+use Rattle.rules.specs.declared.message.Message.the-variants.{Empty, Advert}
+use Rattle.rules.specs.declared.message.Slot.{Slot}
+use Rattle.rules.specs.declared.rule.Posting.{Posting}
+use Rattle.rules.specs.declared.rule.Posting.the-variants.{Nothing, Letter, Adverts}
+use Rattle.rules.specs.Numbers.{processorId}
+use Rattle.rules.specs.Networks.{noSlot}
+
+-- how many letters are behind it, how many are left, and what the last slot then holds, which held x
+abbrev pub behindOf : ℕ → ℕ → ℕ
+behindOf p used = pick (eqb p 0) 0 (used - p)
+
+abbrev pub leftOf : ℕ → ℕ → ℕ
+leftOf p used = pick (eqb p 0) used (used - 1)
+
+abbrev pub closedAt : ℕ → Slot → Slot
+closedAt p x = pick (eqb p 0) x noSlot
+
+-- how many desks are gone by, in a rig of n: none, one for a letter, all for adverts
+abbrev pub roundsOf : ℕ → Posting → ℕ
+roundsOf n Nothing = 0
+roundsOf n (Letter m) = 1
+roundsOf n (Adverts c d) = n
+
+-- nothing is posted in round j: an advert goes to every other desk
+abbrev pub skipsAt : Posting → ℕ → Bool
+skipsAt Nothing j = false
+skipsAt (Letter m) j = false
+skipsAt (Adverts c d) j = eqb (suc j) (d .0)
+
+-- what is posted in round j
+abbrev pub letterOf : Posting → ℕ → Message
+letterOf Nothing j = Empty
+letterOf (Letter m) j = m
+letterOf (Adverts c d) j = Advert c (processorId (suc j)) d
+
+abbrev pub postedAt : Posting → ℕ → List Message
+postedAt x j = pick (skipsAt x j) [] (letterOf x j ∷ [])

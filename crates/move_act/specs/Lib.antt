@@ -1,0 +1,2 @@
+-- A move on the records that it may touch.
+pub mod MoveActs

@@ -1,0 +1,2 @@
+-- Where a step looks, and what it finds there.
+pub mod Places

@@ -1,0 +1,2 @@
+-- Whether the rig is at rest, by its tasks.
+pub mod Rests

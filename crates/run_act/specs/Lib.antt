@@ -1,0 +1,2 @@
+-- A run on the records that it may touch.
+pub mod RunActs

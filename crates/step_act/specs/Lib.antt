@@ -1,0 +1,2 @@
+-- One step on the records that it may touch.
+pub mod StepActs

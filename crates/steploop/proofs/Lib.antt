@@ -1,0 +1,4 @@
+-- Lines and how many fit, steps on the parts of a rig, and the loop over a step file.
+pub mod Fits
+mod Turns
+mod Going
