@@ -1,2 +1,2 @@
 -- The start of a rig is what the paper says.
-mod Starting
+pub mod Starting

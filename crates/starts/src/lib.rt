@@ -1,8 +1,9 @@
-// The rig at the start.
+// The rig at the start, and its parts.
 ghost use mathlib.Core.Path.{_≡_};
-ghost use Rattle.rules.specs.Starts.{blank, started};
+ghost use Rattle.rules.specs.Starts.{started};
 ghost use Rattle.rules.specs.Tasks.{unborn};
 ghost use Rattle.ends.specs.Derived.{endsOf};
+ghost use Rattle.starts.specs.Parts.{startTasks, noLetters, noStore};
 use ends::Ends;
 use plan::Plan;
 use plan::ProcessorId;
@@ -35,12 +36,35 @@ fn unborn() -> Task
     }
 }
 
-// Every task unborn, and nothing in the tables, the channels and the mail.
-fn blank(processors: u8, p: Plan) -> System
-    ensures { λ r. ⌜ r ≡ blank processors p ⌝ }
+// Task 1 is born at desk 1, the others are unborn.
+pub fn start_tasks() -> [Task; 64]
+    ensures { λ r. ⌜ r ≡ startTasks ⌝ }
 {
     let none = unborn();
-    let tasks = [none; 64];
+    let mut tasks = [none; 64];
+    let first = none.birth(ProcessorId(1));
+    tasks[0] = first;
+    tasks
+}
+
+// The mail without a letter.
+pub fn no_letters() -> Network
+    ensures { λ r. ⌜ r ≡ noLetters ⌝ }
+{
+    let slot = Slot {
+        message: Message::Empty,
+    };
+    let slots = [slot; 256];
+    Network {
+        slots: slots,
+        used: 0,
+    }
+}
+
+// Nothing in the tables and the channels.
+fn no_store() -> Store
+    ensures { λ r. ⌜ r ≡ noStore ⌝ }
+{
     let tables = Tables {
         hintprocessors: [0; 768],
         hintmoves: [0; 768],
@@ -56,21 +80,9 @@ fn blank(processors: u8, p: Plan) -> System
         travellingprocessors: [0; 128],
         travellingmoves: [0; 128],
     };
-    let slot = Slot {
-        message: Message::Empty,
-    };
-    let slots = [slot; 256];
-    let network = Network {
-        slots: slots,
-        used: 0,
-    };
-    System {
-        processors: processors,
-        plan: p,
-        tasks: tasks,
+    Store {
         tables: tables,
         channels: channels,
-        network: network,
     }
 }
 
@@ -79,22 +91,20 @@ pub fn start(processors: u8, p: Plan, e: Ends) -> System
     requires { ⌜ e ≡ endsOf p ⌝ }
     ensures { λ r. ⌜ r ≡ started processors p ⌝ }
 {
-    let mut r = blank(processors, p);
     let one = ProcessorId(1);
-    let none = unborn();
-    let first = none.birth(one);
-    r.tasks[0] = first;
-    let tables = r.tables;
-    let channels = r.channels;
-    let store = Store {
+    let none = no_store();
+    let receivers = e.receivers;
+    let located = for_ends(&receivers, TaskId(1), one, CellRule::Locate(one, 1), none);
+    let tasks = start_tasks();
+    let tables = located.tables;
+    let channels = located.channels;
+    let network = no_letters();
+    System {
+        processors: processors,
+        plan: p,
+        tasks: tasks,
         tables: tables,
         channels: channels,
-    };
-    let receivers = e.receivers;
-    let located = for_ends(&receivers, TaskId(1), one, CellRule::Locate(one, 1), store);
-    let after = located.tables;
-    let kept = located.channels;
-    r.tables = after;
-    r.channels = kept;
-    r
+        network: network,
+    }
 }

@@ -1,0 +1,20 @@
+-- `start_tasks`.
+use mathlib.Core.Path.{refl}
+use borrow.Author.Needs.{needs}
+use Rattle.starts.proofs.start_tasks.Statement.{statement}
+use Rattle.starts.proofs.start_tasks.Tie as tie
+
+unborn-requires : tie.Need-unborn-requires
+unborn-requires c κs = search needs
+
+birth-requires : tie.Need-birth-requires
+birth-requires c κs = search needs
+
+array-set-from-tasks : tie.Need-array-set-from-tasks
+array-set-from-tasks c = search needs
+
+returns : tie.Need-returns
+returns c = rw (c .birth .ensures, c .before .unborn .ensures) refl
+
+pub start-tasks-spec : {M : Type 1} → statement M
+start-tasks-spec = tie.close (tie.spec unborn-requires birth-requires array-set-from-tasks returns)

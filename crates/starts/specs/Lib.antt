@@ -1,0 +1,2 @@
+-- The parts of a rig at the start.
+pub mod Parts
