@@ -1,5 +1,6 @@
--- One line more, the trace, and the outcome of a run.
+-- One line more, the parts at the start, the trace, and the outcome of a run.
 mod Fits
 mod Ending
+mod Beginning
 mod Traces
 mod Outcomes

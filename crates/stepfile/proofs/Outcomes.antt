@@ -23,12 +23,13 @@ use Rattle.plan_laws.proofs.LayoutRead.{file-plan}
 use Rattle.rules.specs.declared.step.RunAnswer.the-variants.{Traced, Unstarted, BadSteps, OutputShort}
 use Rattle.rules.specs.declared.system.System.{System}
 use Rattle.rules.specs.Starts.{started}
-use Rattle.rules.specs.Sound.{systemOk}
 use Rattle.rules.specs.StepFiles.{stepsOk, fileSteps, startOf, traceLines, runFileAnswer, runFileText, runFileOutput}
-use Rattle.rules_laws.proofs.Shapes.{started-plan}
-use Rattle.rules_sound.proofs.Starts.{started-ok}
+use Rattle.ends.specs.declared.Ends.{Ends}
+use Rattle.ends.specs.Derived.{endsOf}
+use Rattle.judge.specs.Facts.{facts}
 use Rattle.steploop.specs.Writes.{Written}
 use Rattle.steploop.proofs.Fits.{written-filled}
+use Rattle.stepfile.specs.Begins.{Begins}
 use Rattle.stepfile.specs.Writes.{RunFile}
 
 -- the plan of a file that is read
@@ -46,22 +47,19 @@ plan-ok p a =
     let ok = file-plan p a in
     rw (meaning-canonical (filePrograms p) (plan-passed (filePrograms p) ok .sizes)) ok
 
-pub start-is : (n : ℕ) (p : List ℕ) (x : Plan) {r : System} → x ≡ canonical (filePrograms p) → r ≡ started n x → r ≡ startOf n p
+pub start-is : (n : ℕ) (p : List ℕ) (x : Plan) → x ≡ canonical (filePrograms p) → started n x ≡ startOf n p
 unfolding startOf
-start-is n p x e h = h ∙ ap (started n) e
+start-is n p x e = ap (started n) e
 
 -- at most 2,000 steps
 pub steps-few : (b : List ℕ) → stepsOk b ≡ true → length b / 4 ≤ 2000
 unfolding stepsOk
 steps-few b h = leb-true (length b / 4) 2000 (and-right (eqb (length b % 4) 0) (leb (length b / 4) 2000) h)
 
--- a rig at the start, of an accepted plan
-module _ (n : ℕ) (d : within 1 6 n ≡ true) (x : Plan) (a : planAnswer (programs x) ≡ Accepted) {r : System} (h : r ≡ started n x) where
-  pub start-sound : systemOk r ≡ true
-  start-sound = rw h (started-ok n x (within-low 1 6 n d) (within-high 1 6 n d) a)
-
-  pub start-plan : r .plan ≡ x
-  start-plan = rw h (started-plan n x)
+-- a run of an accepted plan begins
+pub begins : (n : ℕ) → within 1 6 n ≡ true → (x : Plan) → planAnswer (programs x) ≡ Accepted → {e : Ends} → e ≡ endsOf x
+    → Begins n x (facts (x .tasks) (x .opcodes) (x .operands) (e .numbers) (e .senders) (e .receivers) (e .parents))
+begins n d x a h = record { some = within-low 1 6 n d; most = within-high 1 6 n d; accepted = a; derived = rw h refl }
 
 module _ (n : ℕ) (p b o : List ℕ) where
   -- refusals 1 to 6

@@ -5,26 +5,20 @@ use mathlib.Core.List.{List, [], _∷_, _++_}
 use Prim.Native.Nat.{ℕ, _≤_}
 use native.Mathlib.Omega.{arith}
 use lib.ListN.{length}
-use Rattle.plan.specs.declared.Plan.{Plan}
 use Rattle.rules.specs.declared.task.Task.{Task}
 use Rattle.rules.specs.declared.message.Network.{Network}
 use Rattle.rules.specs.declared.step.Step.{Step}
 use Rattle.rules.specs.declared.system.System.{System}
-use Rattle.rules.specs.Sound.{systemOk}
 use Rattle.rules.specs.Steps.{History, stepsBy, steps, ruledSteps, quiescent}
 use Rattle.rules.specs.Trace.{stepLines}
 use Rattle.rules.specs.StepFiles.{traceLines}
-use Rattle.rules_laws.specs.Shapes.{Shaped}
 use Rattle.rules_sound.proofs.Sound.{sound}
 use Rattle.rules_sound.proofs.Kept.{ruled-steps}
 use Rattle.tables.specs.declared.store.Store.{Store}
-use Rattle.tables.specs.Store.{storeIn}
-use Rattle.ends.specs.declared.Ends.{Ends}
-use Rattle.ends.specs.Derived.{endsOf}
-use Rattle.judge.specs.Facts.{Facts, facts, factsOf}
+use Rattle.judge.specs.Facts.{Facts}
 use Rattle.judge.specs.Rests.{restIn}
 use Rattle.core.specs.Turns.{Rig}
-use Rattle.core.proofs.Rigs.{own-parts, rig-turn, rig-next, rig-next-system, rig-rest}
+use Rattle.core.proofs.Rigs.{rig-turn, rig-next, rig-next-system, rig-rest}
 use Rattle.trace.specs.Lines.{endText}
 use Rattle.trace.proofs.Lines.{end-of}
 use Rattle.trace.proofs.Filling.{filled-length}
@@ -54,50 +48,41 @@ stood f n g (x ∷ xs) =
 pub rig-letters : {f : Facts} {n : ℕ} {ts : List Task} {k : Network} {s : Store} → Rig f n ts k s → k .used ≤ 256
 rig-letters g = rw (g .network) (sound (g .system) (g .shaped) (g .sound) .mail .used)
 
--- what is derived of a rig's plan
-pub own-facts : (p : Plan) (e : Ends) → e ≡ endsOf p
-    → facts (p .tasks) (p .opcodes) (p .operands) (e .numbers) (e .senders) (e .receivers) (e .parents) ≡ factsOf p
-own-facts p e h = rw h refl
+-- the trace of a rig, by its parts
+module _ {f : Facts} {n : ℕ} {ts : List Task} {k : Network} {s : Store} (g : Rig f n ts k s) (xs : List Step) where
+  abbrev ranIn : Turns
+  ranIn = turnsOf f n ts k s xs
 
--- the trace of a rig, by its parts and what is derived of its plan
-module _ (r : System) (z : Shaped r) (o : systemOk r ≡ true) {f : Facts} (q : f ≡ factsOf (r .plan)) where
-  pub own-rig : Rig f (r .processors) (r .tasks) (r .network) (storeIn r)
-  own-rig = rw q (own-parts r z o)
+  stood-in : Stood f n ranIn (steps (g .system) xs)
+  stood-in = rw (ruled-steps (g .system) xs (g .shaped) (g .sound)) at (stood f n g xs)
 
-  module _ (xs : List Step) where
-    abbrev ranIn : Turns
-    ranIn = turnsOf f (r .processors) (r .tasks) (r .network) (storeIn r) xs
+  trace-lines : (b : Bool) → b ≡ restIn f n (ranIn .tasks) (ranIn .store) (ranIn .network .used)
+      → traceLines (g .system) xs ≡ stepLines 0 (ranIn .reports) ++ (endText b (ranIn .network .used) ∷ [])
+  unfolding traceLines
+  trace-lines b e =
+      let w = stood-in in
+      let rest : b ≡ quiescent (steps (g .system) xs .system) = e ∙ rig-rest (w .rig) ∙ ap quiescent (w .system) in
+      let used : ranIn .network .used ≡ steps (g .system) xs .system .network .used =
+      ap (λ (q : Network). q .used) (w .rig .network) ∙ ap (λ (p : System). p .network .used) (w .system) in
+      rw (rest, used, w .reports, end-of (steps (g .system) xs .system)) refl
 
-    stood-in : Stood f (r .processors) ranIn (steps r xs)
-    stood-in = rw q (rw (ruled-steps r xs z o) at (stood (factsOf (r .plan)) (r .processors) (own-parts r z o) xs))
+  module _ {before : List ℕ} {ran : Ran} {kept : Store} {mid : List ℕ} (h : RanTo ranIn before ran kept mid) where
+    -- a line of a step does not fit
+    pub driven-short : ran .whole ≡ false → Written (traceLines (g .system) xs) before (ran .filled) false mid
+    driven-short w = rw (trace-lines _ refl) (written-over _ (rw w at (h .lines)))
 
-    trace-lines : (b : Bool) → b ≡ restIn f (r .processors) (ranIn .tasks) (ranIn .store) (ranIn .network .used)
-        → traceLines r xs ≡ stepLines 0 (ranIn .reports) ++ (endText b (ranIn .network .used) ∷ [])
-    unfolding traceLines
-    trace-lines b e =
-        let s = stood-in in
-        let rest : b ≡ quiescent (steps r xs .system) = e ∙ rig-rest (s .rig) ∙ ap quiescent (s .system) in
-        let used : ranIn .network .used ≡ steps r xs .system .network .used =
-        ap (λ (k : Network). k .used) (s .rig .network) ∙ ap (λ (p : System). p .network .used) (s .system) in
-        rw (rest, used, s .reports, end-of (steps r xs .system)) refl
+    -- they all fit
+    module _ (w : ran .whole ≡ true) where
+      pub ran-rig : Rig f n (ran .tasks) (ran .network) kept
+      ran-rig = rw (h .tasks w, h .network w, h .store w) (stood-in .rig)
 
-    module _ {before : List ℕ} {ran : Ran} {kept : Store} {mid : List ℕ} (h : RanTo ranIn before ran kept mid) where
-      -- a line of a step does not fit
-      pub driven-short : ran .whole ≡ false → Written (traceLines r xs) before (ran .filled) false mid
-      driven-short w = rw (trace-lines _ refl) (written-over _ (rw w at (h .lines)))
+      pub ran-room : ran .filled ≤ length mid
+      ran-room =
+          let l = written-filled (rw w at (h .lines)) in
+          omega (arith, l .end, l .room, filled-length l)
 
-      -- they all fit
-      module _ (w : ran .whole ≡ true) where
-        pub ran-rig : Rig f (r .processors) (ran .tasks) (ran .network) kept
-        ran-rig = rw (h .tasks w, h .network w, h .store w) (stood-in .rig)
-
-        pub ran-room : ran .filled ≤ length mid
-        ran-room =
-            let l = written-filled (rw w at (h .lines)) in
-            omega (arith, l .end, l .room, filled-length l)
-
-        pub driven-end : {d : Driven} {after : List ℕ} (b : Bool) → b ≡ restIn f (r .processors) (ran .tasks) kept (ran .network .used)
-            → Ended (endText b (ran .network .used)) mid (ran .filled) d after
-            → Written (traceLines r xs) before (d .filled) (d .whole) after
-        driven-end b e t =
-            rw (trace-lines b (rw (h .tasks w, h .network w, h .store w) at e)) (written-end (rw w at (h .lines)) (rw (h .network w) at t))
+      pub driven-end : {d : Driven} {after : List ℕ} (b : Bool) → b ≡ restIn f n (ran .tasks) kept (ran .network .used)
+          → Ended (endText b (ran .network .used)) mid (ran .filled) d after
+          → Written (traceLines (g .system) xs) before (d .filled) (d .whole) after
+      driven-end b e t =
+          rw (trace-lines b (rw (h .tasks w, h .network w, h .store w) at e)) (written-end (rw w at (h .lines)) (rw (h .network w) at t))

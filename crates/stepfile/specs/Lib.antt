@@ -1,2 +1,3 @@
--- What a run over a step file leaves in the lent output.
+-- What a run over a step file begins with, and what it leaves in the lent output.
+pub mod Begins
 pub mod Writes

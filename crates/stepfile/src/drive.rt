@@ -1,18 +1,21 @@
-// The driver: takes a rig apart once, links its channels, runs the steps on its parts and writes the trace.
-ghost use mathlib.Core.Bool.{true};
-ghost use mathlib.Core.Path.{_≡_};
+// The driver: links the channels, makes the parts of a rig at its start, runs the steps on them and writes the trace.
 ghost use Prim.Native.Nat.{_≤_, _/_};
 ghost use lib.ListN.{length};
-ghost use Rattle.rules.specs.Sound.{systemOk};
+ghost use Rattle.plan_rules.specs.Slots.{planIn};
+ghost use Rattle.rules.specs.Starts.{started};
 ghost use Rattle.rules.specs.StepFiles.{fileSteps, traceLines};
-ghost use Rattle.ends.specs.Derived.{endsOf};
+ghost use Rattle.judge.specs.Facts.{facts};
 ghost use Rattle.trace.specs.Lines.{endText};
 ghost use Rattle.steploop.specs.Writes.{Written};
+ghost use Rattle.stepfile.specs.Begins.{Begins};
 ghost use Rattle.stepfile.specs.Writes.{Ended};
-use ends::Ends;
+use columns::locate;
 use links::link;
+use plan::ProcessorId;
+use plan::TaskId;
 use rests::at_rest;
-use rules::system::System;
+use starts::no_letters;
+use starts::start_tasks;
 use steploop::run_steps;
 use trace::output::emit;
 
@@ -41,49 +44,63 @@ fn write_end(rest: bool, letters: usize, out: &mut [u8], filled: usize) -> Drive
     }
 }
 
-// The trace of a rig that 9 does not refuse, with what is derived of its plan.
-pub fn drive<'a>(r: System, e: Ends, steps: &'a [u8], out: &'a mut [u8]) -> Driven
-    requires { ⌜ (systemOk r ≡ true) × (e ≡ endsOf (r .plan)) × (length (now steps) / 4 ≤ 2000) ⌝ }
-    ensures { λ d. ⌜ Written (traceLines r (fileSteps (now (steps .entry)))) (now (out .entry)) (d .filled) (d .whole) (now (out .exit)) ⌝ }
+// The trace of an accepted plan from its start, with what is derived of it. The birth of task 1 at desk 1 sets pointers;
+// the other columns have nothing yet.
+pub fn drive<'a>(
+    count: u8,
+    lengths: &'a [u8; 64],
+    opcodes: &'a [u8; 4096],
+    operands: &'a [u16; 4096],
+    numbers: &'a [u8; 4096],
+    senders: &'a [u8; 129],
+    receivers: &'a [u8; 129],
+    parents: &'a [u8; 129],
+    processors: u8,
+    steps: &'a [u8],
+    out: &'a mut [u8],
+) -> Driven
+    requires { ⌜ (Begins processors (planIn count (now lengths) (now opcodes) (now operands)) (facts count (now opcodes) (now operands) (now numbers) (now senders) (now receivers) (now parents))) × (length (now steps) / 4 ≤ 2000) ⌝ }
+    ensures { λ d. ⌜ Written (traceLines (started processors (planIn count (now (lengths .entry)) (now (opcodes .entry)) (now (operands .entry)))) (fileSteps (now (steps .entry)))) (now (out .entry)) (d .filled) (d .whole) (now (out .exit)) ⌝ }
 {
-    let plan = r.plan;
-    let count = plan.tasks;
-    let opcodes = plan.opcodes;
-    let operands = plan.operands;
-    let numbers = e.numbers;
-    let senders = e.senders;
-    let receivers = e.receivers;
-    let parents = e.parents;
-    let processors = r.processors;
-    let receiving = link(&receivers);
+    let receiving = link(receivers);
     let firstreceiving = receiving.firsts;
     let nextreceiving = receiving.nexts;
-    let sending = link(&senders);
+    let sending = link(senders);
     let firstsending = sending.firsts;
     let nextsending = sending.nexts;
-    let tables = r.tables;
-    let mut hintprocessors = tables.hintprocessors;
-    let mut hintmoves = tables.hintmoves;
-    let mut heldprocessors = tables.heldprocessors;
-    let mut heldnumbers = tables.heldnumbers;
-    let mut notes = tables.notes;
-    let channels = r.channels;
-    let mut granted = channels.granted;
-    let mut awaiting = channels.awaiting;
-    let mut carriedprocessors = channels.carriedprocessors;
-    let mut carriednumbers = channels.carriednumbers;
-    let mut travellingprocessors = channels.travellingprocessors;
-    let mut travellingmoves = channels.travellingmoves;
-    let tasks = r.tasks;
-    let network = r.network;
+    let mut hintprocessors = [0u8; 768];
+    let mut hintmoves = [0u16; 768];
+    let mut heldprocessors = [0u8; 768];
+    let mut heldnumbers = [0u8; 768];
+    let mut notes = [0u8; 768];
+    let mut granted = [0u8; 128];
+    let mut awaiting = [false; 128];
+    let mut carriedprocessors = [0u8; 128];
+    let mut carriednumbers = [0u8; 128];
+    let mut travellingprocessors = [0u8; 128];
+    let mut travellingmoves = [0u16; 128];
+    let one = ProcessorId(1);
+    locate(
+        &mut hintprocessors,
+        &mut hintmoves,
+        receivers,
+        &firstreceiving,
+        &nextreceiving,
+        TaskId(1),
+        one,
+        one,
+        1,
+    );
+    let tasks = start_tasks();
+    let network = no_letters();
     let ran = run_steps(
         count,
-        &opcodes,
-        &operands,
-        &numbers,
-        &senders,
-        &receivers,
-        &parents,
+        opcodes,
+        operands,
+        numbers,
+        senders,
+        receivers,
+        parents,
         &firstreceiving,
         &nextreceiving,
         &firstsending,
@@ -115,6 +132,6 @@ pub fn drive<'a>(r: System, e: Ends, steps: &'a [u8], out: &'a mut [u8]) -> Driv
     let after = ran.tasks;
     let mail = ran.network;
     let letters = mail.used;
-    let rest = at_rest(count, &opcodes, &operands, after, letters);
+    let rest = at_rest(count, opcodes, operands, after, letters);
     write_end(rest, letters, out, filled)
 }

@@ -6,7 +6,6 @@ use crate::drive::drive;
 use plan::PlanAnswer;
 use plan::Refusal;
 use rules::step::RunAnswer;
-use starts::start;
 
 // The answer, and how much of the output is filled.
 pub struct Outcome {
@@ -49,10 +48,20 @@ pub fn run_file<'a>(desks: u32, plan: &'a [u8], steps: &'a [u8], out: &'a mut [u
             if !steps_ok(steps) {
                 return refused(RunAnswer::BadSteps);
             }
-            let p = read.plan;
-            let e = ends::derive(p);
-            let r = start(desks as u8, p, e);
-            let d = drive(r, e, steps, out);
+            let e = ends::derive(read.plan);
+            let d = drive(
+                read.plan.tasks,
+                &read.plan.lengths,
+                &read.plan.opcodes,
+                &read.plan.operands,
+                &e.numbers,
+                &e.senders,
+                &e.receivers,
+                &e.parents,
+                desks as u8,
+                steps,
+                out,
+            );
             let filled = d.filled;
             if d.whole {
                 return Outcome {

@@ -1,47 +1,40 @@
--- `drive` takes the rig apart, links its channels, runs the steps on its parts and writes the last line.
-use Rattle.stepfile.proofs.Traces.{own-facts, own-rig, rig-letters, driven-short, ran-rig, ran-room, driven-end}
+-- `drive` links the channels, makes the parts of the start, runs the steps on them and writes the last line.
+use Rattle.stepfile.proofs.Beginning.{begun}
+use Rattle.stepfile.proofs.Traces.{rig-letters, driven-short, ran-rig, ran-room, driven-end}
 use Rattle.rests.proofs.Refusals.{placed, rest-quiet}
 use Rattle.core.proofs.Rigs.{rig-parts}
 use Rattle.judge.proofs.BoundsParts.{count-few}
-use Rattle.judge.specs.Facts.{facts, factsOf}
 use Rattle.links.proofs.Linking.{linked}
-use Rattle.links.specs.Links.{Linked}
+use Rattle.links.specs.Links.{linksOf, Linked}
 use Rattle.links.specs.declared.Links.{Links}
-use Rattle.rules_laws.specs.Shapes.{Shaped}
+use native.Mathlib.Omega.{arith}
 use borrow.Author.Tests.{not-true, not-false}
-use lib.ListN.{length-map}
-use mathlib.Core.Path.{_≡_, sym, _∙_, subst}
+use mathlib.Core.Path.{_≡_, sym, _∙_}
+use mathlib.Core.List.{List}
+use Prim.Native.Nat.{ℕ}
 use borrow.Author.Needs.{needs}
 use Rattle.stepfile.proofs.drive.drive.Statement.{statement}
 use Rattle.stepfile.proofs.drive.drive.Tie as tie
 
--- what is derived of the plan
-own : (s : tie.Start)
-    → let p = s .args .r .plan in let e = s .args .e in
-    facts (p .tasks) (p .opcodes) (p .operands) (e .numbers) (e .senders) (e .receivers) (e .parents) ≡ factsOf p
-own s = own-facts (s .args .r .plan) (s .args .e) (s .pre .1)
+-- the places before the steps: the tasks and the mail are made, task 1 is to be located, the channels are linked
+abbrev made : tie.After-run-steps-arg → tie.After-no-letters
+made c = c .before .before .before .before .before .before .before .before .before .before .before .before .before .before .before .before
 
--- its arrays have their sizes
-shaped : (s : tie.Start) → Shaped (s .args .r)
-shaped s =
-    let g = s .good .0 .1 .1 in
-    let t = g .1 .1 .1 .0 .1 .1 in
-    let k = g .1 .1 .1 .1 .0 .1 .1 in
-    record {
-      tasks = simp length-map at (g .1 .1 .0 .1 .0 .1);
-      hintprocessors = simp length-map at (t .0 .1 .0 .1);
-      hintmoves = simp length-map at (t .1 .0 .1 .0 .1);
-      heldprocessors = simp length-map at (t .1 .1 .0 .1 .0 .1);
-      heldnumbers = simp length-map at (t .1 .1 .1 .0 .1 .0 .1);
-      notes = simp length-map at (t .1 .1 .1 .1 .0 .1 .0 .1);
-      granted = simp length-map at (k .0 .1 .0 .1);
-      awaiting = simp length-map at (k .1 .0 .1 .0 .1);
-      carriedprocessors = simp length-map at (k .1 .1 .0 .1 .0 .1);
-      carriednumbers = simp length-map at (k .1 .1 .1 .0 .1 .0 .1);
-      travellingprocessors = simp length-map at (k .1 .1 .1 .1 .0 .1 .0 .1);
-      travellingmoves = simp length-map at (k .1 .1 .1 .1 .1 .0 .1 .0 .1);
-      slots = simp length-map at (g .1 .1 .1 .1 .1 .0 .1 .1 .0 .1 .0 .1);
-    }
+abbrev placed-by : tie.After-no-letters → tie.After-nextreceiving2
+placed-by c = c .before .before .before
+
+abbrev sending : tie.After-nextreceiving2 → tie.After-link2
+sending c = c .before .before .before .before .before .before
+
+abbrev receiving : tie.After-nextreceiving2 → tie.After-link
+receiving c = sending c .before .before .before
+
+abbrev entry : tie.After-nextreceiving2 → tie.Start
+entry c = receiving c .before .before .before
+
+-- the channels are linked
+linked-by : {ends : List ℕ} {l : Links} → l ≡ linksOf ends → Linked ends (l .firsts) (l .nexts)
+linked-by {ends} e = rw e (linked ends)
 
 link-requires : tie.Need-link-requires
 link-requires c κs = search needs
@@ -49,47 +42,63 @@ link-requires c κs = search needs
 link-requires-2 : tie.Need-link-requires-2
 link-requires-2 c κs = search needs
 
+locate-requires : tie.Need-locate-requires
+locate-requires c κs = (linked-by (receiving c .link .ensures), omega arith, omega arith)
+
+start-tasks-requires : tie.Need-start-tasks-requires
+start-tasks-requires c κs = search needs
+
+no-letters-requires : tie.Need-no-letters-requires
+no-letters-requires c κs = search needs
+
 run-steps-requires : tie.Need-run-steps-requires
 run-steps-requires c κs =
-    let s = c .before .before .before .before .before .before .before .before .before .before .before .before .before .before .before .before .before .before .before .before .before .before .before .before .before .before .before .before .before .before .before .before .before .before .before .before .before .before .before .before .before .before .before .before .before .before .before .before .before .before .before .before .before .before in (
-      subst (λ (l : Links). Linked (s .args .e .receivers) (l .firsts) (l .nexts)) (sym (c .before .before .before .before .before .before .before .before .before .before .before .before .before .before .before .before .before .before .before .before .before .before .before .before .before .before .before .before .before .before .before .before .before .before .before .before .before .before .before .before .before .before .before .link .ensures)) (linked (s .args .e .receivers)),
-      subst (λ (l : Links). Linked (s .args .e .senders) (l .firsts) (l .nexts)) (sym (c .before .before .before .before .before .before .before .before .before .before .before .before .before .before .before .before .before .before .before .before .before .before .before .before .before .before .before .before .before .before .before .before .before .before .before .before .before .before .before .link2 .ensures)) (linked (s .args .e .senders)),
-      s .pre .2,
-      own-rig (s .args .r) (shaped s) (s .pre .0) (own s),
-    )
+    let m = made c in
+    let p = placed-by m in
+    (linked-by (receiving p .link .ensures), linked-by (sending p .link2 .ensures), entry p .pre .1, begun (entry p .pre .0) (m .before .start-tasks .ensures) (m .no-letters .ensures) (m .before .before .locate .ensures))
 
 same-length : tie.Need-same-length
 same-length c = search needs
 
 returns : tie.Need-returns
 returns c =
-    let s = c .before .before .before .before .before .before .before .before .before .before .before .before .before .before .before .before .before .before .before .before .before .before .before .before .before .before .before .before .before .before .before .before .before .before .before .before .before .before .before .before .before .before .before .before .before .before .before .before .before .before .before .before .before .before .before .before .before .before .before in
-    driven-short (s .args .r) (shaped s) (s .pre .0) (own s) _ (c .before .before .before .before .run-steps .ensures) (not-true (c .before .before .before .before .run-steps .result .whole) (c .if1 .taken))
+    let ran = c .before .before .before .before in
+    let m = made (ran .before) in
+    let g = begun (entry (placed-by m) .pre .0) (m .before .start-tasks .ensures) (m .no-letters .ensures) (m .before .before .locate .ensures) in
+    driven-short g _ (ran .run-steps .ensures) (not-true (ran .run-steps .result .whole) (c .if1 .taken))
 
 at-rest-requires : tie.Need-at-rest-requires
 at-rest-requires c κs =
-    let s = c .before .before .before .before .before .before .before .before .before .before .before .before .before .before .before .before .before .before .before .before .before .before .before .before .before .before .before .before .before .before .before .before .before .before .before .before .before .before .before .before .before .before .before .before .before .before .before .before .before .before .before .before .before .before .before .before .before .before .before .before .before .before .before in
-    let p = rig-parts (ran-rig (s .args .r) (shaped s) (s .pre .0) (own s) _ (c .before .before .before .before .before .before .before .before .run-steps .ensures) (not-false (c .before .before .before .before .before .before .before .before .run-steps .result .whole) (c .before .before .before .before .if1 .left))) in
+    let e = c .before .before in
+    let ran = e .before .before .before .before in
+    let m = made (ran .before) in
+    let g = begun (entry (placed-by m) .pre .0) (m .before .start-tasks .ensures) (m .no-letters .ensures) (m .before .before .locate .ensures) in
+    let p = rig-parts (ran-rig g _ (ran .run-steps .ensures) (not-false (ran .run-steps .result .whole) (e .if1 .left))) in
     (count-few p, placed p)
 
 write-end-requires : tie.Need-write-end-requires
 write-end-requires c κs =
-    let s = c .before .before .before .before .before .before .before .before .before .before .before .before .before .before .before .before .before .before .before .before .before .before .before .before .before .before .before .before .before .before .before .before .before .before .before .before .before .before .before .before .before .before .before .before .before .before .before .before .before .before .before .before .before .before .before .before .before .before .before .before .before .before .before .before .before in
-    let whole = not-false (c .before .before .before .before .before .before .before .before .before .before .run-steps .result .whole) (c .before .before .before .before .before .before .if1 .left) in (
-      rig-letters (ran-rig (s .args .r) (shaped s) (s .pre .0) (own s) _ (c .before .before .before .before .before .before .before .before .before .before .run-steps .ensures) whole),
-      ran-room (s .args .r) (shaped s) (s .pre .0) (own s) _ (c .before .before .before .before .before .before .before .before .before .before .run-steps .ensures) whole,
-    )
+    let e = c .before .before .before .before in
+    let ran = e .before .before .before .before in
+    let m = made (ran .before) in
+    let g = begun (entry (placed-by m) .pre .0) (m .before .start-tasks .ensures) (m .no-letters .ensures) (m .before .before .locate .ensures) in
+    let whole = not-false (ran .run-steps .result .whole) (e .if1 .left) in
+    (rig-letters (ran-rig g _ (ran .run-steps .ensures) whole), ran-room g _ (ran .run-steps .ensures) whole)
 
 same-length-2 : tie.Need-same-length-2
 same-length-2 c = search needs
 
 returns-2 : tie.Need-returns-2
 returns-2 c =
-    let s = c .before .before .before .before .before .before .before .before .before .before .before .before .before .before .before .before .before .before .before .before .before .before .before .before .before .before .before .before .before .before .before .before .before .before .before .before .before .before .before .before .before .before .before .before .before .before .before .before .before .before .before .before .before .before .before .before .before .before .before .before .before .before .before .before .before .before .before .before in
-    let h = c .before .before .before .before .before .before .before .before .before .before .before .before .before .run-steps .ensures in
-    let whole = not-false (c .before .before .before .before .before .before .before .before .before .before .before .before .before .run-steps .result .whole) (c .before .before .before .before .before .before .before .before .before .if1 .left) in
-    let p = rig-parts (ran-rig (s .args .r) (shaped s) (s .pre .0) (own s) _ h whole) in
-    driven-end (s .args .r) (shaped s) (s .pre .0) (own s) _ h whole _ (c .before .before .before .before .at-rest .ensures ∙ sym (rest-quiet p)) (c .before .before .write-end .ensures)
+    let w = c .before .before in
+    let rest = w .before .before in
+    let e = rest .before .before .before in
+    let ran = e .before .before .before .before in
+    let m = made (ran .before) in
+    let g = begun (entry (placed-by m) .pre .0) (m .before .start-tasks .ensures) (m .no-letters .ensures) (m .before .before .locate .ensures) in
+    let whole = not-false (ran .run-steps .result .whole) (e .if1 .left) in
+    let p = rig-parts (ran-rig g _ (ran .run-steps .ensures) whole) in
+    driven-end g _ (ran .run-steps .ensures) whole _ (rest .at-rest .ensures ∙ sym (rest-quiet p)) (w .write-end .ensures)
 
 pub drive-spec : {M : Type 1} → statement M
 drive-spec =
@@ -97,6 +106,9 @@ drive-spec =
     (tie.spec
     link-requires
     link-requires-2
+    locate-requires
+    start-tasks-requires
+    no-letters-requires
     run-steps-requires
     same-length
     returns

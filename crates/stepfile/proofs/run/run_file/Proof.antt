@@ -1,5 +1,5 @@
 -- `run_file` is the paper's run: 1 to 6 as at start, 8, and the trace as far as it fits.
-use mathlib.Core.Path.{_≡_, sym, _∙_, ap}
+use mathlib.Core.Path.{_≡_, sym, _∙_}
 use mathlib.Core.Bool.{true}
 use native.Mathlib.Omega.{arith}
 use borrow.Author.Needs.{needs}
@@ -11,8 +11,7 @@ use Rattle.plan.specs.Programs.{programs, canonical}
 use Rattle.plan.specs.Refusals.{planAnswer}
 use Rattle.plan.specs.Files.{filePrograms, fileAnswer}
 use Rattle.rules.specs.StepFiles.{stepsOk}
-use Rattle.ends.specs.Derived.{endsOf}
-use Rattle.stepfile.proofs.Outcomes.{read-answer, read-plan-is, plan-ok, start-is, steps-few, start-sound, start-plan, desks-refused, file-refused, steps-refused, traced, traced-short}
+use Rattle.stepfile.proofs.Outcomes.{read-answer, read-plan-is, plan-ok, start-is, begins, steps-few, desks-refused, file-refused, steps-refused, traced, traced-short}
 use Rattle.stepfile.proofs.run.run_file.Statement.{statement}
 use Rattle.stepfile.proofs.run.run_file.Tie as tie
 
@@ -27,11 +26,15 @@ steps : (c : tie.Else2) → stepsOk (c .before .before .before .before .before .
 steps c = let i = c .before .steps-ok in sym (i .ensures) ∙ not-false (i .result) (c .if2 .left)
 
 -- the plan
-plan-is : (c : tie.After-p) → c .before .before .before .before .before .read-plan .result .plan ≡ canonical (filePrograms (c .before .before .before .before .before .before .before .before .before .before .before .args .plan .now))
+plan-is : (c : tie.After-derive-arg) → c .before .before .before .before .before .read-plan .result .plan ≡ canonical (filePrograms (c .before .before .before .before .before .before .before .before .before .before .before .args .plan .now))
 plan-is c = let k = c .before .before .before .before .before in read-plan-is (k .before .before .before .before .before .before .args .plan .now) (k .read-plan .ensures) (file (c .before .before .before))
 
-plan-passes : (c : tie.After-p) → planAnswer (programs (c .before .before .before .before .before .read-plan .result .plan)) ≡ Accepted
+plan-passes : (c : tie.After-derive-arg) → planAnswer (programs (c .before .before .before .before .before .read-plan .result .plan)) ≡ Accepted
 plan-passes c = rw (plan-is c) (plan-ok (c .before .before .before .before .before .before .before .before .before .before .before .args .plan .now) (file (c .before .before .before)))
+
+-- where the tables are derived
+abbrev derived : tie.After-drive-arg7 → tie.After-derive
+derived c = c .before .before .before .before .before .before .before .before .before
 
 is-within-requires : tie.Need-is-within-requires
 is-within-requires c κs = search needs
@@ -71,34 +74,26 @@ returns-2 c =
 derive-requires : tie.Need-derive-requires
 derive-requires c κs = plan-passes c
 
-cast-start : tie.Need-cast-start
-cast-start c = let e = c .before .before .before .before .before .before .before in omega (arith, within-high 1 6 (e .before .before .before .before .before .args .desks) (desks e))
-
-start-requires : tie.Need-start-requires
-start-requires c κs = c .derive .ensures
+cast-drive : tie.Need-cast-drive
+cast-drive c =
+    let e = derived c .before .before .before .before .before .before .before in
+    omega (arith, within-high 1 6 (e .before .before .before .before .before .args .desks) (desks e))
 
 drive-requires : tie.Need-drive-requires
 drive-requires c κs =
-    let p = c .before .before .before in
-    let n = desks (p .before .before .before .before .before .before) in
-    let x = p .before .before .before .before .before .read-plan .result .plan in
-    let a = plan-passes p in
-    let r = c .before .start .ensures in (
-      start-sound _ n x a r,
-      c .before .before .derive .ensures ∙ ap endsOf (sym (start-plan _ n x a r)),
-      steps-few _ (steps (p .before)),
-    )
+    let d = derived (c .before) in
+    let p = d .before in
+    (begins _ (desks (p .before .before .before .before .before .before)) _ (plan-passes p) (d .derive .ensures), steps-few _ (steps (p .before)))
 
 same-length : tie.Need-same-length
-same-length c = c .before .before .before .drive .kept .1 .1 .1 .0
+same-length c = search needs
 
 returns-3 : tie.Need-returns-3
 returns-3 c =
     let d = c .before .before .before in
-    let p = d .before .before .before .before in
-    let x = p .before .before .before .before .before .read-plan .result .plan in
+    let p = derived (d .before .before) .before in
     traced _ _ _ _ (desks (p .before .before .before .before .before .before)) (file (p .before .before .before)) (steps (p .before))
-    (start-is _ _ x (plan-is p) (d .before .before .start .ensures)) (d .drive .ensures) (c .if3 .taken)
+    (start-is _ _ _ (plan-is p)) (d .drive .ensures) (c .if3 .taken)
 
 returns-4 : tie.Need-returns-4
 returns-4 c =
@@ -107,15 +102,14 @@ returns-4 c =
     (file-refused _ _ _ _ (desks (k .before)) _ (sym (read-answer (k .before .before .before .before .before .before .args .plan .now) (k .read-plan .ensures)) ∙ c .before .before .answer .given .1))
 
 same-length-2 : tie.Need-same-length-2
-same-length-2 c = c .before .before .before .drive .kept .1 .1 .1 .0
+same-length-2 c = search needs
 
 returns-5 : tie.Need-returns-5
 returns-5 c =
     let d = c .before .before .before in
-    let p = d .before .before .before .before in
-    let x = p .before .before .before .before .before .read-plan .result .plan in
+    let p = derived (d .before .before) .before in
     traced-short _ _ _ _ (desks (p .before .before .before .before .before .before)) (file (p .before .before .before)) (steps (p .before))
-    (start-is _ _ x (plan-is p) (d .before .before .start .ensures)) (d .drive .ensures) (c .if3 .left)
+    (start-is _ _ _ (plan-is p)) (d .drive .ensures) (c .if3 .left)
 
 pub run-file-spec : {M : Type 1} → statement M
 run-file-spec =
@@ -132,8 +126,7 @@ run-file-spec =
     refused-requires-3
     returns-2
     derive-requires
-    cast-start
-    start-requires
+    cast-drive
     drive-requires
     same-length
     returns-3

@@ -1,0 +1,15 @@
+-- What a run begins with.
+use mathlib.Core.Path.{_≡_}
+use Prim.Native.Nat.{ℕ, _≤_}
+use Rattle.plan.specs.declared.Plan.{Plan}
+use Rattle.plan.specs.declared.PlanAnswer.the-variants.{Accepted}
+use Rattle.plan.specs.Programs.{programs}
+use Rattle.plan.specs.Refusals.{planAnswer}
+use Rattle.judge.specs.Facts.{Facts, factsOf}
+
+-- one to six desks, an accepted plan, and what is derived of it
+pub record Begins (n : ℕ) (p : Plan) (f : Facts) : Type 0 where
+  pub some : 1 ≤ n
+  pub most : n ≤ 6
+  pub accepted : planAnswer (programs p) ≡ Accepted
+  pub derived : f ≡ factsOf p
