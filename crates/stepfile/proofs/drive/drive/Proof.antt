@@ -16,12 +16,12 @@ use borrow.Author.Needs.{needs}
 use Rattle.stepfile.proofs.drive.drive.Statement.{statement}
 use Rattle.stepfile.proofs.drive.drive.Tie as tie
 
--- the places before the steps: the tasks and the mail are made, task 1 is to be located, the channels are linked
+-- the places before the steps: the tasks and the mail are made; the columns are lent, for the pointers; the channels are linked; the entry
 abbrev made : tie.After-run-steps-arg → tie.After-no-letters
 made c = c .before .before .before .before .before .before .before .before .before .before .before .before .before .before .before .before
 
-abbrev placed-by : tie.After-no-letters → tie.After-nextreceiving2
-placed-by c = c .before .before .before
+abbrev lent : tie.After-no-letters → tie.After-nextreceiving2
+lent c = c .before .before .before
 
 abbrev sending : tie.After-nextreceiving2 → tie.After-link2
 sending c = c .before .before .before .before .before .before
@@ -51,10 +51,11 @@ start-tasks-requires c κs = search needs
 no-letters-requires : tie.Need-no-letters-requires
 no-letters-requires c κs = search needs
 
-run-steps-requires : tie.Need-run-steps-requires
+-- the last of these: the parts are those of the rig at the start
+abbrev run-steps-requires : tie.Need-run-steps-requires
 run-steps-requires c κs =
     let m = made c in
-    let p = placed-by m in
+    let p = lent m in
     (linked-by (receiving p .link .ensures), linked-by (sending p .link2 .ensures), entry p .pre .1, begun (entry p .pre .0) (m .before .start-tasks .ensures) (m .no-letters .ensures) (m .before .before .locate .ensures))
 
 same-length : tie.Need-same-length
@@ -63,16 +64,14 @@ same-length c = search needs
 returns : tie.Need-returns
 returns c =
     let ran = c .before .before .before .before in
-    let m = made (ran .before) in
-    let g = begun (entry (placed-by m) .pre .0) (m .before .start-tasks .ensures) (m .no-letters .ensures) (m .before .before .locate .ensures) in
+    let g = run-steps-requires (ran .before) (ran .run-steps .lifetimes) .3 in
     driven-short g _ (ran .run-steps .ensures) (not-true (ran .run-steps .result .whole) (c .if1 .taken))
 
 at-rest-requires : tie.Need-at-rest-requires
 at-rest-requires c κs =
     let e = c .before .before in
     let ran = e .before .before .before .before in
-    let m = made (ran .before) in
-    let g = begun (entry (placed-by m) .pre .0) (m .before .start-tasks .ensures) (m .no-letters .ensures) (m .before .before .locate .ensures) in
+    let g = run-steps-requires (ran .before) (ran .run-steps .lifetimes) .3 in
     let p = rig-parts (ran-rig g _ (ran .run-steps .ensures) (not-false (ran .run-steps .result .whole) (e .if1 .left))) in
     (count-few p, placed p)
 
@@ -80,8 +79,7 @@ write-end-requires : tie.Need-write-end-requires
 write-end-requires c κs =
     let e = c .before .before .before .before in
     let ran = e .before .before .before .before in
-    let m = made (ran .before) in
-    let g = begun (entry (placed-by m) .pre .0) (m .before .start-tasks .ensures) (m .no-letters .ensures) (m .before .before .locate .ensures) in
+    let g = run-steps-requires (ran .before) (ran .run-steps .lifetimes) .3 in
     let whole = not-false (ran .run-steps .result .whole) (e .if1 .left) in
     (rig-letters (ran-rig g _ (ran .run-steps .ensures) whole), ran-room g _ (ran .run-steps .ensures) whole)
 
@@ -94,8 +92,7 @@ returns-2 c =
     let rest = w .before .before in
     let e = rest .before .before .before in
     let ran = e .before .before .before .before in
-    let m = made (ran .before) in
-    let g = begun (entry (placed-by m) .pre .0) (m .before .start-tasks .ensures) (m .no-letters .ensures) (m .before .before .locate .ensures) in
+    let g = run-steps-requires (ran .before) (ran .run-steps .lifetimes) .3 in
     let whole = not-false (ran .run-steps .result .whole) (e .if1 .left) in
     let p = rig-parts (ran-rig g _ (ran .run-steps .ensures) whole) in
     driven-end g _ (ran .run-steps .ensures) whole _ (rest .at-rest .ensures ∙ sym (rest-quiet p)) (w .write-end .ensures)
