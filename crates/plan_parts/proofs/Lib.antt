@@ -2,4 +2,4 @@
 pub mod Filling
 mod Entries
 mod Headers
-mod Slots
+pub mod Slots

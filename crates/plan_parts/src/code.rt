@@ -37,7 +37,7 @@ fn fetch_near_end(file: &[u8], at: usize) -> Fetched
 }
 
 // The instruction at a place: `whole` says that all its bytes are there.
-fn fetch(file: &[u8], whole: bool, at: usize) -> Fetched
+pub fn fetch(file: &[u8], whole: bool, at: usize) -> Fetched
     requires { ⌜ (at ≤ 16384) × (whole ≡ true → at + 3 < length (now file)) ⌝ }
     ensures { λ r. ⌜ r ≡ fetchedFrom (now (file .entry)) at ⌝ }
 {

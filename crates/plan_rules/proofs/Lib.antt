@@ -1,5 +1,5 @@
 -- What the tests of a plan value compute is what the paper asks of the plan's meaning.
 mod ByKind
-mod Scanning
+pub mod Scanning
 pub mod Meaning
 mod Tasks

@@ -1,5 +1,5 @@
 // Whether a plan value is refused, 2 to 6.
-mod scan;
+pub mod scan;
 mod sizes;
 
 ghost use mathlib.Core.Path.{_≡_};

@@ -50,7 +50,7 @@ impl Scan {
     }
 }
 
-fn same(a: bool, b: bool) -> bool
+pub fn same(a: bool, b: bool) -> bool
     ensures { λ r. ⌜ r ≡ sameTest a b ⌝ }
 {
     if a { b } else { !b }

@@ -1,3 +1,3 @@
 -- The slots that a task uses; the tables of users, one slot more.
 pub mod Rows
-mod Using
+pub mod Using

@@ -1,0 +1,8 @@
+-- What one instruction more changes; what the pass finds is what the paper asks of the plan.
+mod Changes
+mod Sound
+mod Marked
+mod Listed
+mod Sizes
+mod Passing
+mod Answers
