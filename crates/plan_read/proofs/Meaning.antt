@@ -1,13 +1,13 @@
 -- What reading computes of a file is what the paper says of it: its programs' plan value, its second bytes, and its answer.
 use mathlib.Core.Path.{_≡_, refl, sym, _∙_, ap}
-use mathlib.Core.Bool.{Bool, true, false, _&&_}
+use mathlib.Core.Bool.{Bool, true, false, _&&_, true≢false}
 use mathlib.Core.List.{List}
 use mathlib.Core.Logic.{by-cases}
 use Prim.Native.Nat.{ℕ, _+_, _*_, _/_, _%_, _<_, _≤_}
 use native.Mathlib.Omega.{arith}
 use native.Mathlib.Nat.{add-assoc, add-zero}
 use native.Mathlib.Decide.{decLt}
-use lib.ListN.{getD, drop, List·getD-eq-default}
+use lib.ListN.{getD, drop, length-drop, List·getD-eq-default}
 use lib.Dec.{ltb, eqb}
 use borrow.Author.Tests.{lt-ltb, le-ltb}
 use Rattle.base.specs.Choice.{pick, unless}
@@ -30,9 +30,11 @@ use Rattle.plan.specs.Outcomes.{planRead}
 use Rattle.plan.proofs.Parts.{tasks-in, program-in, no-program-in, count-in}
 use Rattle.plan_laws.proofs.Answers.{laid, sized-ok}
 use Rattle.plan_laws.proofs.Canonical.{meaning-canonical}
+use Rattle.plan_rules.proofs.Meaning.{sizes-of}
 use Rattle.plan_parts.specs.Header.{noHeader, goodHeader, countsTo, headerOf}
 use Rattle.plan_parts.specs.Code.{usedSlot, usedTo, slotPlace, slotRead, codeOf}
-use Rattle.plan_read.specs.Stages.{readRefused, answered, ofCode, planOf}
+use Rattle.plan_scan.specs.Pass.{Whole}
+use Rattle.plan_read.specs.Stages.{readRefused, answered, ofCode, planOf, Fits}
 use Rattle.plan_read.proofs.Rest.{byte-rest, instruction-rest}
 
 -- the programs that a file holds
@@ -96,12 +98,16 @@ module _ (b : List ℕ) (h : layoutOk b ≡ true) where
       ∙ fold-front _+_ 0 add-assoc add-zero (fileCount b k) 64 (λ i. 1) (few k l)
       ∙ omega (arith, sum-const 1 (fileCount b k))
 
+  rows-used : (k : ℕ) → k ≤ fileTasks b → usedTo counts (64 * k) ≡ sumBelow k (fileCount b)
+  rows-used k l =
+      fold-grid _+_ 0 add-assoc add-zero 64 k (λ j. pick (usedSlot counts j) 1 0)
+      ∙ fold-same _+_ 0 k _ (fileCount b) (λ r p. row-used r (omega arith))
+
   used-before : (k i : ℕ) → k < fileTasks b → i < fileCount b k → usedTo counts (64 * k + i) ≡ sumBelow k (fileCount b) + i
   used-before k i l q =
       let c = few k l in
       let f : ℕ → ℕ = λ j. pick (usedSlot counts j) 1 0 in
-      let rows : sumBelow (64 * k) f ≡ sumBelow k (fileCount b) =
-      fold-grid _+_ 0 add-assoc add-zero 64 k f ∙ fold-same _+_ 0 k _ (fileCount b) (λ r p. row-used r (omega arith)) in
+      let rows : sumBelow (64 * k) f ≡ sumBelow k (fileCount b) = rows-used k (omega arith) in
       let here : sumBelow i (λ j. f (64 * k + j)) ≡ sumBelow i (λ j. 1) =
       fold-same _+_ 0 i _ (λ j. 1) (λ j p. rw (in-row k j l (omega arith), lt-ltb j (fileCount b k) (omega arith)) refl) in
       omega (arith, fold-add _+_ 0 add-assoc add-zero (64 * k) i f, sum-const 1 i)
@@ -172,6 +178,16 @@ module _ (b : List ℕ) (h : layoutOk b ≡ true) where
   pub programs-read : programs (canonical (filePrograms b)) ≡ filePrograms b
   programs-read = meaning-canonical (filePrograms b) sizes
 
+  -- the header and what stands behind it are as the pass over the instructions asks
+  pub whole : Whole (drop (4 + 4 * fileTasks b) b) (fileTasks b) (countsTo b (fileTasks b))
+  whole =
+      let p = laid b h in
+      let plan = codeOf rest (fileTasks b) counts .plan in
+      record {
+        sizes = sym (sizes-of plan) ∙ ap sizesOk (ap programs plan-read ∙ programs-read) ∙ sizes;
+        bytes = omega (arith, rows-used (fileTasks b) (omega arith), p .total, p .size, length-drop (4 + 4 * fileTasks b) b);
+      }
+
   pub file-answer : fileAnswer b ≡ unless (secondBytesOk b) (Refused BadInstruction) (planAnswer (filePrograms b))
   unfolding fileAnswer planAnswer
   file-answer = rw (h, sizes) (go (secondBytesOk b))
@@ -221,14 +237,14 @@ stages-read b = go (layoutOk b) refl
     go true e = code-read b e
     go false e = bad-layout b e
 
--- a header that was read names 64 tasks at most, and takes few bytes
-pub header-tasks : (b : List ℕ) → headerOf b .tasks ≤ 64
+-- a header that was read is followed by its instructions, and takes few bytes
+pub header-fits : (b : List ℕ) → Fits (headerOf b) (drop (headerOf b .size) b)
 unfolding headerOf
-header-tasks b = go (layoutOk b) refl
+header-fits b = go (layoutOk b) refl
   where
-    go : (t : Bool) → layoutOk b ≡ t → pick t (goodHeader b) noHeader .tasks ≤ 64
-    go true e = laid b e .tasks .few
-    go false e = omega arith
+    go : (t : Bool) → layoutOk b ≡ t → Fits (pick t (goodHeader b) noHeader) (drop (pick t (goodHeader b) noHeader .size) b)
+    go true e ok = whole b e
+    go false e ok = absurd (true≢false (sym ok))
 
 pub header-size : (b : List ℕ) → headerOf b .size ≤ 260
 unfolding headerOf

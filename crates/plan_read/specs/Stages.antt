@@ -1,4 +1,6 @@
 -- What a header and the bytes behind it are read as.
+use mathlib.Core.Path.{_≡_}
+use mathlib.Core.Bool.{true}
 use mathlib.Core.List.{List, []}
 use Prim.Native.Nat.{ℕ}
 use Rattle.base.specs.Choice.{unless}
@@ -12,6 +14,9 @@ use Rattle.plan.specs.Programs.{programs, canonical}
 use Rattle.plan.specs.Refusals.{planAnswer}
 use Rattle.plan_parts.specs.declared.header.Header.{Header}
 use Rattle.plan_parts.specs.Code.{Code, codeOf}
+use Rattle.plan_scan.specs.Firsts.{Firsts}
+use Rattle.plan_scan.specs.Pass.{Whole}
+use Rattle.plan_read.specs.declared.Loaded.{Loaded}
 
 -- what a refused file gives
 abbrev pub readRefused : Refusal → PlanRead
@@ -27,3 +32,12 @@ ofCode c = unless (c .zeros) (readRefused BadInstruction) (answered (c .plan) (p
 
 unfoldable pub planOf : Header → List ℕ → PlanRead
 planOf h b = unless (h .ok) (readRefused BadLayout) (ofCode (codeOf b (h .tasks) (h .lengths)))
+
+-- behind a header that is in order stand the instructions of its tasks
+abbrev pub Fits : Header → List ℕ → Type 0
+Fits h b = h .ok ≡ true → Whole b (h .tasks) (h .lengths)
+
+-- what is loaded is what is read, and, where it is accepted, who uses what
+pub record Loads (r : PlanRead) (l : Loaded) : Type 0 where
+  pub read : record { answer = l .answer; plan = l .plan } ≡ r
+  pub firsts : l .answer ≡ Accepted → Firsts (programs (l .plan)) (l .parents) (l .senders) (l .receivers)

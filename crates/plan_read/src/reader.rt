@@ -1,14 +1,16 @@
 // The reader of plan files: the caller's bytes and a place. Each function takes it apart and leaves the work to a function
 // of the bytes and the place.
 ghost use mathlib.Core.Path.{_≡_};
-ghost use Prim.Native.Nat.{_+_, _<_, _≤_, _^_};
+ghost use Prim.Native.Nat.{_+_, _<_, _^_};
 ghost use lib.ListN.{length};
 ghost use Rattle.plan_parts.specs.Header.{headerOf};
 ghost use Rattle.plan_read.specs.Reader.{atFront, moved, left};
-ghost use Rattle.plan_read.specs.Stages.{planOf};
-use super::stages::plan_at;
+ghost use Rattle.plan_read.specs.Stages.{planOf, Fits, Loads};
+use super::Loaded;
+use super::stages::answer_at;
+use super::stages::load_at;
 use fields::left_at;
-use plan::PlanRead;
+use plan::PlanAnswer;
 use plan_parts::header::Header;
 use plan_parts::header::header_at;
 
@@ -50,10 +52,18 @@ pub fn header<'a>(r: PlanReader<'a>, n: usize) -> Header
     header_at(r.bytes, r.at, n)
 }
 
-// The plan whose instructions stand here, behind its header.
-pub fn plan<'a>(r: PlanReader<'a>, h: Header) -> PlanRead
-    requires { ⌜ h .tasks ≤ 64 ⌝ }
-    ensures { λ p. ⌜ p ≡ planOf h (left (r .entry)) ⌝ }
+// The answer about the plan whose instructions stand here, behind its header.
+pub fn answer<'a>(r: PlanReader<'a>, h: Header) -> PlanAnswer
+    requires { ⌜ Fits h (left r) ⌝ }
+    ensures { λ a. ⌜ a ≡ planOf h (left (r .entry)) .answer ⌝ }
 {
-    plan_at(r.bytes, r.at, h)
+    answer_at(r.bytes, r.at, h)
+}
+
+// The plan itself, and who uses what.
+pub fn loaded<'a>(r: PlanReader<'a>, h: Header) -> Loaded
+    requires { ⌜ Fits h (left r) ⌝ }
+    ensures { λ l. ⌜ Loads (planOf h (left (r .entry))) l ⌝ }
+{
+    load_at(r.bytes, r.at, h)
 }

@@ -1,19 +1,19 @@
 // What follows of a header and of the instructions behind it.
 ghost use mathlib.Core.Path.{_≡_};
-ghost use Prim.Native.Nat.{_≤_};
 ghost use lib.ListN.{drop};
-ghost use Rattle.plan_read.specs.Stages.{readRefused, planOf};
+ghost use Rattle.plan_read.specs.Stages.{readRefused, planOf, Fits, Loads};
+use crate::Loaded;
+use fields::rest_at;
 use plan::Plan;
 use plan::PlanAnswer;
-use plan::PlanRead;
 use plan::Refusal;
 use plan_parts::code::code_at;
 use plan_parts::header::Header;
-use plan_rules::check_slots;
+use plan_scan::check_code;
 
 // A refused file gives the plan of no task.
-fn refused(r: Refusal) -> PlanRead
-    ensures { λ q. ⌜ q ≡ readRefused r ⌝ }
+fn refused(r: Refusal) -> Loaded
+    ensures { λ l. ⌜ Loads (readRefused r) l ⌝ }
 {
     let plan = Plan {
         tasks: 0,
@@ -21,41 +21,78 @@ fn refused(r: Refusal) -> PlanRead
         opcodes: [0; 4096],
         operands: [0; 4096],
     };
-    PlanRead {
+    Loaded {
         answer: PlanAnswer::Refused(r),
         plan: plan,
+        parents: [0; 129],
+        senders: [0; 129],
+        receivers: [0; 129],
     }
 }
 
-// The plan whose instructions begin at a place, behind this header: the header's refusal, the second
-// bytes' and then the plan's own.
-pub fn plan_at(file: &[u8], at: usize, h: Header) -> PlanRead
-    requires { ⌜ h .tasks ≤ 64 ⌝ }
-    ensures { λ r. ⌜ r ≡ planOf h (drop at (now (file .entry))) ⌝ }
+// The answer about the plan whose instructions begin at a place, behind this header: the header's
+// refusal, and then the instructions'.
+pub fn answer_at(file: &[u8], at: usize, h: Header) -> PlanAnswer
+    requires { ⌜ Fits h (drop at (now file)) ⌝ }
+    ensures { λ r. ⌜ r ≡ planOf h (drop at (now (file .entry))) .answer ⌝ }
+{
+    if !h.ok {
+        return PlanAnswer::Refused(Refusal::BadLayout);
+    }
+    let tasks = h.tasks;
+    let lengths = h.lengths;
+    let mut parents = [0u8; 129];
+    let mut senders = [0u8; 129];
+    let mut receivers = [0u8; 129];
+    check_code(
+        rest_at(file, at),
+        tasks,
+        &lengths,
+        &mut parents,
+        &mut senders,
+        &mut receivers,
+    )
+}
+
+// The plan whose instructions begin at a place, behind this header. They are read into a plan value only
+// if they are accepted.
+pub fn load_at(file: &[u8], at: usize, h: Header) -> Loaded
+    requires { ⌜ Fits h (drop at (now file)) ⌝ }
+    ensures { λ r. ⌜ Loads (planOf h (drop at (now (file .entry)))) r ⌝ }
 {
     if !h.ok {
         return refused(Refusal::BadLayout);
     }
     let tasks = h.tasks;
     let lengths = h.lengths;
-    let mut opcodes = [0u8; 4096];
-    let mut operands = [0u16; 4096];
-    let zeros = code_at(file, at, tasks, &lengths, &mut opcodes, &mut operands);
-    if !zeros {
-        return refused(Refusal::BadInstruction);
-    }
-    let answer = check_slots(tasks, &lengths, &opcodes, &operands);
+    let mut parents = [0u8; 129];
+    let mut senders = [0u8; 129];
+    let mut receivers = [0u8; 129];
+    let answer = check_code(
+        rest_at(file, at),
+        tasks,
+        &lengths,
+        &mut parents,
+        &mut senders,
+        &mut receivers,
+    );
     match answer {
         PlanAnswer::Accepted => {
+            let mut opcodes = [0u8; 4096];
+            let mut operands = [0u16; 4096];
+            let zeros = code_at(file, at, tasks, &lengths, &mut opcodes, &mut operands);
             let plan = Plan {
                 tasks: tasks,
                 lengths: lengths,
                 opcodes: opcodes,
                 operands: operands,
             };
-            PlanRead {
+            Loaded {
                 answer: PlanAnswer::Accepted,
                 plan: plan,
+                parents: parents,
+                senders: senders,
+                receivers: receivers,
             }
         }
         PlanAnswer::Refused(r) => refused(r),

@@ -3,6 +3,6 @@ mod Changes
 mod Sound
 mod Marked
 mod Listed
-mod Sizes
+pub mod Sizes
 mod Passing
 mod Answers

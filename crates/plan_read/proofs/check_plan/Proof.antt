@@ -1,4 +1,4 @@
--- `read_plan` meets its contract: a walk of its MIR, by hand. A reader at the file's front is held in a local; how much is left and the header are read through it, and the plan through the reader that is advanced by the header's size. All that the
+-- `check_plan` meets its contract: a walk of its MIR, by hand. A reader at the file's front is held in a local; how much is left and the header are read through it, and the answer through the reader that is advanced by the header's size. All that the
 -- proof knows of the reader's functions is that each meets its contract; that they give the paper's reading together is `stages-read`.
 -- A reader is Copy: what it owns is had once more for each call but the last. In a local MIR erases the lifetime of its type, so a value is shown to have the type at `erased`. The header's machine value is written out, since its
 -- size is read off its local.
@@ -33,6 +33,7 @@ use denote.Signature.{plain}
 use denote.Slice.{sliceVal, ShrSlice, slice-vals, shr-slice-tells, shr-slice-lawful, shr-slice-copy}
 use denote.Steps.{only, owned, peeks, heard, nothing}
 use denote.Struct.Laws as LL
+use denote.Enum.Laws as EL
 use denote.Triple.Statement.{Contract, Triple}
 use denote.Triple.Call.{calls-at}
 use denote.Triple.Entry.{onEntry}
@@ -41,18 +42,20 @@ use denote.Triple.Table.{entered, cited}
 use denote.Triple.Walked.{says, Stays, stay-none-slice, walkOf, goes-none-slice, Walks, ends-at, walked, walk-meets}
 use denote.Exit.{yes}
 use denote.Triple.Clauses.{ensured, lasts}
+use Rattle.plan.specs.declared.PlanAnswer.{PlanAnswer}
 use Rattle.plan.specs.declared.PlanRead.{PlanRead}
+use Rattle.plan.specs.Files.{fileAnswer}
 use Rattle.plan.specs.Outcomes.{planRead}
-use Rattle.plan.proofs.PlanRead as S
-use Rattle.plan.proofs.PlanRead.Laws as S′
+use Rattle.plan.proofs.PlanAnswer as S
+use Rattle.plan.proofs.PlanAnswer.Laws as S′
 use Rattle.plan_parts.specs.declared.header.Header.{Header}
 use Rattle.plan_parts.specs.Header.{headerOf}
 use Rattle.plan_parts.proofs.header.Header as F
 use Rattle.plan_parts.proofs.header.Header.Laws as F′
 use Rattle.plan_read.specs.declared.reader.PlanReader.{PlanReader}
 use Rattle.plan_read.specs.Reader.{atFront, moved, left}
-use Rattle.plan_read.specs.Stages.{planOf}
-use Rattle.plan_read.proofs.Meaning.{stages-read, header-tasks, header-size}
+use Rattle.plan_read.specs.Stages.{planOf, Fits}
+use Rattle.plan_read.proofs.Meaning.{stages-read, header-fits, header-size}
 use Rattle.plan_read.proofs.Held.{B, twice}
 use Rattle.plan_read.proofs.reader.PlanReader as T
 use Rattle.plan_read.proofs.reader.PlanReader.Laws as T′
@@ -72,16 +75,16 @@ use Rattle.plan_read.proofs.reader.advanced as advanced
 use Rattle.plan_read.proofs.reader.advanced.Symbol as advanced-def
 use Rattle.plan_read.proofs.reader.advanced.Symbol.{name as #plan-read·reader·advanced}
 use Rattle.plan_read.proofs.reader.advanced.Met as advanced-thm
-use Rattle.plan_read.proofs.reader.plan as plan′
-use Rattle.plan_read.proofs.reader.plan.Symbol as plan-def
-use Rattle.plan_read.proofs.reader.plan.Symbol.{name as #plan-read·reader·plan}
-use Rattle.plan_read.proofs.reader.plan.Met as plan-thm
-use Rattle.plan_read.proofs.read_plan.Key.{name as #plan-read·read-plan}
-use Rattle.plan_read.proofs.read_plan as read-plan
-use Rattle.plan_read.proofs.read_plan.Statement as stated
-use Rattle.plan_read.proofs.read_plan.Code as code
+use Rattle.plan_read.proofs.reader.answer as last′
+use Rattle.plan_read.proofs.reader.answer.Symbol as last-def
+use Rattle.plan_read.proofs.reader.answer.Symbol.{name as #plan-read·reader·answer}
+use Rattle.plan_read.proofs.reader.answer.Met as last-thm
+use Rattle.plan_read.proofs.check_plan.Key.{name as #plan-read·check-plan}
+use Rattle.plan_read.proofs.check_plan as own
+use Rattle.plan_read.proofs.check_plan.Statement as stated
+use Rattle.plan_read.proofs.check_plan.Code as code
 
-abbrev stayed : Stays (read-plan.ended .signature .params) (read-plan.ended .kept)
+abbrev stayed : Stays (own.ended .signature .params) (own.ended .kept)
 stayed = (stay-none-slice (0 ∷ []) tt (plain (λ _. u8)) yes, tt)
 
 module _ {M : Type 1} (𝓤 : URA M) (H : Heap 𝓤) (A : Atoms 𝓤) (mem : Memory → SProp 𝓤) (run : Routine → Fun 𝓤) where
@@ -98,8 +101,8 @@ module _ {M : Type 1} (𝓤 : URA M) (H : Heap 𝓤) (A : Atoms 𝓤) (mem : Mem
   abbrev Advanced : Contract 𝓤
   Advanced = tripleOf 𝓤 H A advanced.signature (advanced.spec 𝓤 H A mem run)
 
-  abbrev Plan : Contract 𝓤
-  Plan = tripleOf 𝓤 H A plan′.signature (plan′.spec 𝓤 H A mem run)
+  abbrev Last : Contract 𝓤
+  Last = tripleOf 𝓤 H A last′.signature (last′.spec 𝓤 H A mem run)
 
   -- of each callee's `ensured`, the clause alone: none has a last value
   new-said : (κ : Lft) (s : RefT (List ℕ)) (r : PlanReader) → ent 𝓤 (ensured 𝓤 H A new.ended (new.clauses 𝓤 H A mem run) (κ, tt) (s, tt) tt r) (fact 𝓤 (r ≡ atFront s))
@@ -114,8 +117,8 @@ module _ {M : Type 1} (𝓤 : URA M) (H : Heap 𝓤) (A : Atoms 𝓤) (mem : Mem
   advanced-said : (κ : Lft) (r : PlanReader) (n : ℕ) (p : PlanReader) → ent 𝓤 (ensured 𝓤 H A advanced.ended (advanced.clauses 𝓤 H A mem run) (κ, tt) (r, (n, tt)) tt p) (fact 𝓤 (p ≡ moved r n))
   advanced-said κ r n p = exE 𝓤 _ (λ ws. snd∗ 𝓤 (sem 𝓤 H A (lasts advanced.ended (κ, tt) (r, (n, tt)) ws)) (fact 𝓤 (p ≡ moved r n)))
 
-  plan-said : (κ : Lft) (r : PlanReader) (h : Header) (p : PlanRead) → ent 𝓤 (ensured 𝓤 H A plan′.ended (plan′.clauses 𝓤 H A mem run) (κ, tt) (r, (h, tt)) tt p) (fact 𝓤 (p ≡ planOf h (left r)))
-  plan-said κ r h p = exE 𝓤 _ (λ ws. snd∗ 𝓤 (sem 𝓤 H A (lasts plan′.ended (κ, tt) (r, (h, tt)) ws)) (fact 𝓤 (p ≡ planOf h (left r))))
+  last-said : (κ : Lft) (r : PlanReader) (h : Header) (p : PlanAnswer) → ent 𝓤 (ensured 𝓤 H A last′.ended (last′.clauses 𝓤 H A mem run) (κ, tt) (r, (h, tt)) tt p) (fact 𝓤 (p ≡ planOf h (left r) .answer))
+  last-said κ r h p = exE 𝓤 _ (λ ws. snd∗ 𝓤 (sem 𝓤 H A (lasts last′.ended (κ, tt) (r, (h, tt)) ws)) (fact 𝓤 (p ≡ planOf h (left r) .answer)))
 
 module _ {M : Type 1} (𝓤 : URA M) (H : Heap 𝓤) (A : Atoms 𝓤) (W : Given 𝓤 H A) (mem : Memory → SProp 𝓤) (run : Routine → Fun 𝓤) (κ : Lft) (q : Share) (s : RefT (List ℕ)) where
   -- the machine value that the file has
@@ -145,15 +148,20 @@ module _ {M : Type 1} (𝓤 : URA M) (H : Heap 𝓤) (A : Atoms 𝓤) (W : Given
   reached : start .at + h .size < 2 ^ 64
   reached = omega (arith, header-size (left start))
 
-  together : planOf h (left behind) ≡ planRead (now s)
-  together = ap (λ (n : ℕ). planOf h (drop n (now s))) (zero-add (h .size)) ∙ stages-read (now s)
+  fits : Fits h (left behind)
+  fits = rw (← zero-add (h .size)) at (header-fits (left start))
+
+  together : (g : PlanAnswer) → g ≡ planOf h (left behind) .answer → g ≡ fileAnswer (now s)
+  unfolding planRead
+  together g e =
+      e ∙ ap (λ (n : ℕ). planOf h (drop n (now s)) .answer) (zero-add (h .size)) ∙ ap (λ (r : PlanRead). r .answer) (stages-read (now s))
 
   -- the reader's type as a local of a body has it
   abbrev αᵉ : NamedLft
   αᵉ = record { mir = erased; lft = κ }
 
   abbrev Post : Val → SProp 𝓤
-  Post = walkOf 𝓤 H A read-plan.ended stayed (read-plan.clauses 𝓤 H A mem run) .post (((κ, tt), (q, tt), tt, (s, tt), (v ∷ [], tt)), tt)
+  Post = walkOf 𝓤 H A own.ended stayed (own.clauses 𝓤 H A mem run) .post (((κ, tt), (q, tt), tt, (s, tt), (v ∷ [], tt)), tt)
 
   -- what the file, a reader r with the machine value u, the number of bytes left and the header own
   abbrev Own : Fml
@@ -172,7 +180,7 @@ module _ {M : Type 1} (𝓤 : URA M) (H : Heap 𝓤) (A : Atoms 𝓤) (W : Given
   abbrev to-new : New 𝓤 H A mem run .Ghost
   to-new = (((κ, tt), (q, tt), tt, (s, tt), (v ∷ [], tt)), tt)
 
-  goes-new : ent 𝓤 (onEntry 𝓤 H A read-plan.signature (κ, tt) (q, tt) (s, tt) (v ∷ [], tt)) (sep 𝓤 (New 𝓤 H A mem run .pre to-new) (sem 𝓤 H A Own))
+  goes-new : ent 𝓤 (onEntry 𝓤 H A own.signature (κ, tt) (q, tt) (s, tt) (v ∷ [], tt)) (sep 𝓤 (New 𝓤 H A mem run .pre to-new) (sem 𝓤 H A Own))
   goes-new =
       qed W ((‵ (flft κ q) ⊛ ‵ ftrue) ∷ ‵ (owns (ShrSlice (named 0) κ u8 ∷ []) (s, tt) (v ∷ [], tt)) ∷ []) ∵
       move ! (1 ∷ []) $ fsplit ! $ use1 W (‵ Own ⊛ ‵ Own) (shr-slice-copy 𝓤 H A W (named 0) κ u8 .twice s (v ∷ [])) $ split ! $
@@ -200,26 +208,26 @@ module _ {M : Type 1} (𝓤 : URA M) (H : Heap 𝓤) (A : Atoms 𝓤) (W : Given
       qed W ((‵ (flft κ q) ⊛ ‵ ftrue) ∷ ‵ (OwnR start u) ∷ []) ∵ says ! reached $ frame ! $
       nothing ! $ owned ! usize (Is usize) (uint-makes 𝓤 H A W w64) (h .size) _ (refl, small) $ fjoin ! $ move ! (1 ∷ 0 ∷ []) $ fjoin ! $ done !
 
-  abbrev to-plan : Val → Plan 𝓤 H A mem run .Ghost
-  to-plan u = (((κ, tt), (q, tt), tt, (behind, (h, tt)), (u ∷ [], (hm ∷ [], tt))), tt)
+  abbrev to-last : Val → Last 𝓤 H A mem run .Ghost
+  to-last u = (((κ, tt), (q, tt), tt, (behind, (h, tt)), (u ∷ [], (hm ∷ [], tt))), tt)
 
-  goes-plan : (u : Val) → ent 𝓤 (sep 𝓤 (sep 𝓤 (A .lft κ q) (sem 𝓤 H A ftrue)) (sep 𝓤 (sem 𝓤 H A (OwnR behind u)) (sem 𝓤 H A OwnH))) (Plan 𝓤 H A mem run .pre (to-plan u))
-  goes-plan u =
-      qed W ((‵ (flft κ q) ⊛ ‵ ftrue) ∷ (‵ (OwnR behind u) ⊛ ‵ OwnH) ∷ []) ∵ says ! (header-tasks (left start)) $ frame ! $
+  goes-last : (u : Val) → ent 𝓤 (sep 𝓤 (sep 𝓤 (A .lft κ q) (sem 𝓤 H A ftrue)) (sep 𝓤 (sem 𝓤 H A (OwnR behind u)) (sem 𝓤 H A OwnH))) (Last 𝓤 H A mem run .pre (to-last u))
+  goes-last u =
+      qed W ((‵ (flft κ q) ⊛ ‵ ftrue) ∷ (‵ (OwnR behind u) ⊛ ‵ OwnH) ∷ []) ∵ says ! fits $ frame ! $
       split ! $ nothing ! $ move ! (2 ∷ 0 ∷ []) $ fjoin ! $ move ! (1 ∷ 0 ∷ []) $ fjoin ! $ done !
 
-  exits : (p : PlanRead) (u : Val) → p ≡ planRead (now s) → ent 𝓤 (⋆ 𝓤 H A (‵ (S.the-row .own p (u ∷ [])) ∷ (‵ (flft κ q) ⊛ ‵ ftrue) ∷ ‵ Own ∷ [])) (Post u)
+  exits : (p : PlanAnswer) (u : Val) → p ≡ fileAnswer (now s) → ent 𝓤 (⋆ 𝓤 H A (‵ (S.the-row .own p (u ∷ [])) ∷ (‵ (flft κ q) ⊛ ‵ ftrue) ∷ ‵ Own ∷ [])) (Post u)
   exits p u e =
       qed W (‵ (S.the-row .own p (u ∷ [])) ∷ (‵ (flft κ q) ⊛ ‵ ftrue) ∷ ‵ Own ∷ []) ∵
-      suffices ! _ (ends-at 𝓤 H A read-plan.ended stayed (read-plan.clauses 𝓤 H A mem run) W (((κ, tt), (q, tt), tt, (s, tt), (v ∷ [], tt)), tt) u p (tt, tt) (tt, tt)) $ says ! e $
+      suffices ! _ (ends-at 𝓤 H A own.ended stayed (own.clauses 𝓤 H A mem run) W (((κ, tt), (q, tt), tt, (s, tt), (v ∷ [], tt)), tt) u p (tt, tt) (tt, tt)) $ says ! e $
       move ! (1 ∷ []) $ frame ! $ nothing ! $ move ! (2 ∷ 0 ∷ []) $ fjoin ! $ frame ! $ done !
 
   module _ (C : Calls 𝓤 H) (Λ : Loops 𝓤 H) (fm : FmC 𝓤 H (W .laws) C)
       (known-new : Triple 𝓤 (C #plan-read·reader·new) (New 𝓤 H A mem run)) (known-left : Triple 𝓤 (C #plan-read·reader·left) (Left 𝓤 H A mem run)) (known-header : Triple 𝓤 (C #plan-read·reader·header) (Head 𝓤 H A mem run))
-      (known-advanced : Triple 𝓤 (C #plan-read·reader·advanced) (Advanced 𝓤 H A mem run)) (known-plan : Triple 𝓤 (C #plan-read·reader·plan) (Plan 𝓤 H A mem run)) where
-    walk : Is (ShrSlice (named 0) κ u8) s (v ∷ []) → ent 𝓤 (onEntry 𝓤 H A read-plan.signature (κ, tt) (q, tt) (s, tt) (v ∷ [], tt)) (WpFn 𝓤 H C Λ code.function (v ∷ []) Post)
+      (known-advanced : Triple 𝓤 (C #plan-read·reader·advanced) (Advanced 𝓤 H A mem run)) (known-last : Triple 𝓤 (C #plan-read·reader·answer) (Last 𝓤 H A mem run)) where
+    walk : Is (ShrSlice (named 0) κ u8) s (v ∷ []) → ent 𝓤 (onEntry 𝓤 H A own.signature (κ, tt) (q, tt) (s, tt) (v ∷ [], tt)) (WpFn 𝓤 H C Λ code.function (v ∷ []) Post)
     walk p =
-        qed W (raw (onEntry 𝓤 H A read-plan.signature (κ, tt) (q, tt) (s, tt) (v ∷ [], tt)) ∷ []) ∵ enter ! C Λ code.function (v ∷ []) _ $
+        qed W (raw (onEntry 𝓤 H A own.signature (κ, tt) (q, tt) (s, tt) (v ∷ [], tt)) ∷ []) ∵ enter ! C Λ code.function (v ∷ []) _ $
         alloc1 ! (λ l₀. alloc1 ! (λ l₁. alloc1 ! (λ l₂. alloc1 ! (λ l₃. alloc1 ! (λ l₄. alloc1 ! (λ l₅. alloc1 ! (λ l₆. alloc1 ! (λ l₇. alloc1 ! (λ l₈. alloc1 ! (λ l₉. alloc0 ! $ params1 ! $
         pass1 ! (init ! 16 refl (shr-slice-lawful 𝓤 H A W (named 0) κ u8 .typed s (v ∷ []) p .0)) $ pass0 ! $
         -- `new`
@@ -266,40 +274,40 @@ module _ {M : Type 1} (𝓤 : URA M) (H : Heap 𝓤) (A : Atoms 𝓤) (W : Given
         peeks ! (B (κ, tt)) (Is (B (κ, tt))) (shows 𝓤 H A (B (κ, tt))) behind (u′ ∷ []) (λ is₂.
         land ! (from ! (stop !)) (init ! 12 refl (LL.lawful (T.the-type αᵉ) (T′.the-laws αᵉ) 𝓤 H A W .typed behind _ is₂ .0)) $
         assigns ! (of-opd ! (load ! (from ! (stop !)) (look ! 12 refl))) (from ! (stop !)) (init ! 4 refl (LL.lawful (T.the-type αᵉ) (T′.the-laws αᵉ) 𝓤 H A W .typed behind _ is₂ .0)) $
-        -- `plan`
-        move ! (0 ∷ 2 ∷ []) $ join ! $ move ! (1 ∷ 0 ∷ []) $ use2 W (raw (Plan 𝓤 H A mem run .pre (to-plan u′))) (goes-plan u′) $
-        calls-at ! fm (Plan 𝓤 H A mem run) known-plan (to-plan u′) (and-then ! (load ! (from ! (stop !)) (look ! 2 refl)) (and-then ! (load ! (from ! (stop !)) (look ! 12 refl)) (no-more !))) (λ w′.
-        use1 W (later (some (λ (g : PlanRead). ((‵ (flft κ q) ⊛ ‵ ftrue) ⊛ ‵ (S.the-row .own g (w′ ∷ []))) ⊛ raw (ensured 𝓤 H A plan′.ended (plan′.clauses 𝓤 H A mem run) (κ, tt) (behind, (h, tt)) tt g)))) (id⊢ 𝓤 _) $ await ! tt $ pick ! (λ g.
-        split ! $ move ! (1 ∷ []) $ use1 W (raw (fact 𝓤 (g ≡ planOf h (left behind)))) (plan-said 𝓤 H A mem run κ behind h g) $ heard ! (g ≡ planOf h (left behind)) (λ e₃. split ! $ move ! (1 ∷ []) $
+        -- `answer`
+        move ! (0 ∷ 2 ∷ []) $ join ! $ move ! (1 ∷ 0 ∷ []) $ use2 W (raw (Last 𝓤 H A mem run .pre (to-last u′))) (goes-last u′) $
+        calls-at ! fm (Last 𝓤 H A mem run) known-last (to-last u′) (and-then ! (load ! (from ! (stop !)) (look ! 2 refl)) (and-then ! (load ! (from ! (stop !)) (look ! 12 refl)) (no-more !))) (λ w′.
+        use1 W (later (some (λ (g : PlanAnswer). ((‵ (flft κ q) ⊛ ‵ ftrue) ⊛ ‵ (S.the-row .own g (w′ ∷ []))) ⊛ raw (ensured 𝓤 H A last′.ended (last′.clauses 𝓤 H A mem run) (κ, tt) (behind, (h, tt)) tt g)))) (id⊢ 𝓤 _) $ await ! tt $ pick ! (λ g.
+        split ! $ move ! (1 ∷ []) $ use1 W (raw (fact 𝓤 (g ≡ planOf h (left behind) .answer))) (last-said 𝓤 H A mem run κ behind h g) $ heard ! (g ≡ planOf h (left behind) .answer) (λ e₃. split ! $ move ! (1 ∷ []) $
         -- [the result; the token; what the file owns; _9; …; _8; …; _7; …; _6; …; _5; …; _4; …; _3; …; _2; …; _1; …; room for _0; …]
         peeks ! S.the-row (Is S.the-row) (shows 𝓤 H A S.the-row) g (w′ ∷ []) (λ is₃.
-        land ! (from ! (stop !)) (init ! 21 refl (LL.lawful S.the-type S′.the-laws 𝓤 H A W .typed g _ is₃ .0)) $
+        land ! (from ! (stop !)) (init ! 21 refl (EL.lawful S.the-type S′.the-laws 𝓤 H A W tt .typed g _ is₃ .0)) $
         returns ! (look ! 21 refl) $ forget ! 3 refl $ forget ! 5 refl $ forget ! 7 refl $ forget ! 9 refl $ forget ! 11 refl $ forget ! 13 refl $ forget ! 15 refl $ forget ! 17 refl $ forget ! 19 refl $ forget ! 21 refl $
         move ! (21 ∷ 22 ∷ []) $ free1 ! $ move ! (19 ∷ 20 ∷ []) $ free1 ! $ move ! (17 ∷ 18 ∷ []) $ free1 ! $ move ! (15 ∷ 16 ∷ []) $ free1 ! $ move ! (13 ∷ 14 ∷ []) $ free1 ! $ move ! (11 ∷ 12 ∷ []) $ free1 ! $ move ! (9 ∷ 10 ∷ []) $ free1 ! $ move ! (7 ∷ 8 ∷ []) $ free1 ! $ move ! (5 ∷ 6 ∷ []) $ free1 ! $ move ! (3 ∷ 4 ∷ []) $ free1 ! $ free0 ! $
-        by ! (exits g w′ (e₃ ∙ together))))))))))))))))))))))))))))))))
+        by ! (exits g w′ (together g e₃))))))))))))))))))))))))))))))))
 
 module _ {M : Type 1} (𝓤 : URA M) (H : Heap 𝓤) (A : Atoms 𝓤) (W : Given 𝓤 H A) (mem : Memory → SProp 𝓤) (run : Routine → Fun 𝓤) where
-  read-plan-walks : (C : Calls 𝓤 H) (Λ : Loops 𝓤 H) → FmC 𝓤 H (W .laws) C → Triple 𝓤 (C #plan-read·reader·new) (New 𝓤 H A mem run) → Triple 𝓤 (C #plan-read·reader·left) (Left 𝓤 H A mem run) → Triple 𝓤 (C #plan-read·reader·header) (Head 𝓤 H A mem run)
-      → Triple 𝓤 (C #plan-read·reader·advanced) (Advanced 𝓤 H A mem run) → Triple 𝓤 (C #plan-read·reader·plan) (Plan 𝓤 H A mem run)
-      → Walks 𝓤 H A read-plan.ended stayed (WpFn 𝓤 H C Λ code.function) (read-plan.clauses 𝓤 H A mem run)
-  read-plan-walks C Λ fm known-new known-left known-header known-advanced known-plan = walked 𝓤 H A read-plan.ended stayed (read-plan.clauses 𝓤 H A mem run) (WpFn 𝓤 H C Λ code.function) (λ κs. (slice-vals, tt)) (λ κs. (shr-slice-tells (named 0) (κs .0) u8, tt))
-      (λ κs qs bounds a g are. via 𝓤 _ (fst∗ 𝓤 _ (emp 𝓤)) (walk 𝓤 H A W mem run (κs .0) (qs .0) (a .0) C Λ fm known-new known-left known-header known-advanced known-plan (are .0)))
+  check-plan-walks : (C : Calls 𝓤 H) (Λ : Loops 𝓤 H) → FmC 𝓤 H (W .laws) C → Triple 𝓤 (C #plan-read·reader·new) (New 𝓤 H A mem run) → Triple 𝓤 (C #plan-read·reader·left) (Left 𝓤 H A mem run) → Triple 𝓤 (C #plan-read·reader·header) (Head 𝓤 H A mem run)
+      → Triple 𝓤 (C #plan-read·reader·advanced) (Advanced 𝓤 H A mem run) → Triple 𝓤 (C #plan-read·reader·answer) (Last 𝓤 H A mem run)
+      → Walks 𝓤 H A own.ended stayed (WpFn 𝓤 H C Λ code.function) (own.clauses 𝓤 H A mem run)
+  check-plan-walks C Λ fm known-new known-left known-header known-advanced known-last = walked 𝓤 H A own.ended stayed (own.clauses 𝓤 H A mem run) (WpFn 𝓤 H C Λ code.function) (λ κs. (slice-vals, tt)) (λ κs. (shr-slice-tells (named 0) (κs .0) u8, tt))
+      (λ κs qs bounds a g are. via 𝓤 _ (fst∗ 𝓤 _ (emp 𝓤)) (walk 𝓤 H A W mem run (κs .0) (qs .0) (a .0) C Λ fm known-new known-left known-header known-advanced known-last (are .0)))
 
-read-plan-meets : {M : Type 1} (𝓤 : URA M) (H : Heap 𝓤) (A : Atoms 𝓤) (W : Given 𝓤 H A) (mem : Memory → SProp 𝓤) (run : Routine → Fun 𝓤) (𝓣 : Tables 𝓤 H)
+check-plan-meets : {M : Type 1} (𝓤 : URA M) (H : Heap 𝓤) (A : Atoms 𝓤) (W : Given 𝓤 H A) (mem : Memory → SProp 𝓤) (run : Routine → Fun 𝓤) (𝓣 : Tables 𝓤 H)
     → Triple 𝓤 (𝓣 .C #plan-read·reader·new) (New 𝓤 H A mem run) → Triple 𝓤 (𝓣 .C #plan-read·reader·left) (Left 𝓤 H A mem run) → Triple 𝓤 (𝓣 .C #plan-read·reader·header) (Head 𝓤 H A mem run)
-    → Triple 𝓤 (𝓣 .C #plan-read·reader·advanced) (Advanced 𝓤 H A mem run) → Triple 𝓤 (𝓣 .C #plan-read·reader·plan) (Plan 𝓤 H A mem run)
-    → Meets 𝓤 H A read-plan.signature (WpFn 𝓤 H (𝓣 .C) (𝓣 .Λ) code.function) (read-plan.spec 𝓤 H A mem run)
-read-plan-meets 𝓤 H A W mem run 𝓣 known-new known-left known-header known-advanced known-plan = walk-meets 𝓤 H A read-plan.ended stayed W (goes-none-slice 𝓤 H A W 1 (0 ∷ []) tt (plain (λ _. u8)) yes, tt) (read-plan.clauses 𝓤 H A mem run) (WpFn 𝓤 H (𝓣 .C) (𝓣 .Λ) code.function) (WpFn-mono 𝓤 H (W .laws) 𝓣 code.function)
-    (read-plan-walks 𝓤 H A W mem run (𝓣 .C) (𝓣 .Λ) (fmOf 𝓤 H (W .laws) 𝓣) known-new known-left known-header known-advanced known-plan)
+    → Triple 𝓤 (𝓣 .C #plan-read·reader·advanced) (Advanced 𝓤 H A mem run) → Triple 𝓤 (𝓣 .C #plan-read·reader·answer) (Last 𝓤 H A mem run)
+    → Meets 𝓤 H A own.signature (WpFn 𝓤 H (𝓣 .C) (𝓣 .Λ) code.function) (own.spec 𝓤 H A mem run)
+check-plan-meets 𝓤 H A W mem run 𝓣 known-new known-left known-header known-advanced known-last = walk-meets 𝓤 H A own.ended stayed W (goes-none-slice 𝓤 H A W 1 (0 ∷ []) tt (plain (λ _. u8)) yes, tt) (own.clauses 𝓤 H A mem run) (WpFn 𝓤 H (𝓣 .C) (𝓣 .Λ) code.function) (WpFn-mono 𝓤 H (W .laws) 𝓣 code.function)
+    (check-plan-walks 𝓤 H A W mem run (𝓣 .C) (𝓣 .Λ) (fmOf 𝓤 H (W .laws) 𝓣) known-new known-left known-header known-advanced known-last)
 
-pub read-plan-spec : {M : Type 1} → stated.statement M
+pub check-plan-spec : {M : Type 1} → stated.statement M
 unfolding code.routine tablesOf
-read-plan-spec 𝓤 H 𝓜 𝓖 𝓡 =
-    entered 𝓤 H (tripleOf 𝓤 H (𝓖 .A) read-plan.signature (read-plan.spec 𝓤 H (𝓖 .A) (𝓜 .mem) (𝓡 .run)))
-    (tables 𝓤 H 𝓜 𝓡 code.env .C) (tables 𝓤 H 𝓜 𝓡 code.env .Λ) #plan-read·read-plan code.function (code.unfolded 𝓤 H 𝓜 𝓡)
-    (read-plan-meets 𝓤 H (𝓖 .A) (givenOf 𝓤 H 𝓜 𝓖) (𝓜 .mem) (𝓡 .run) (tablesOf 𝓤 H 𝓜 (tables 𝓤 H 𝓜 𝓡 code.env))
+check-plan-spec 𝓤 H 𝓜 𝓖 𝓡 =
+    entered 𝓤 H (tripleOf 𝓤 H (𝓖 .A) own.signature (own.spec 𝓤 H (𝓖 .A) (𝓜 .mem) (𝓡 .run)))
+    (tables 𝓤 H 𝓜 𝓡 code.env .C) (tables 𝓤 H 𝓜 𝓡 code.env .Λ) #plan-read·check-plan code.function (code.unfolded 𝓤 H 𝓜 𝓡)
+    (check-plan-meets 𝓤 H (𝓖 .A) (givenOf 𝓤 H 𝓜 𝓖) (𝓜 .mem) (𝓡 .run) (tablesOf 𝓤 H 𝓜 (tables 𝓤 H 𝓜 𝓡 code.env))
     (cited 𝓤 H (New 𝓤 H (𝓖 .A) (𝓜 .mem) (𝓡 .run)) 𝓜 𝓡 code.env #plan-read·reader·new new-def.routine code.calls-plan-read·reader·new (new-thm.met 𝓤 H 𝓜 𝓖 𝓡))
     (cited 𝓤 H (Left 𝓤 H (𝓖 .A) (𝓜 .mem) (𝓡 .run)) 𝓜 𝓡 code.env #plan-read·reader·left left-def.routine code.calls-plan-read·reader·left (left-thm.met 𝓤 H 𝓜 𝓖 𝓡))
     (cited 𝓤 H (Head 𝓤 H (𝓖 .A) (𝓜 .mem) (𝓡 .run)) 𝓜 𝓡 code.env #plan-read·reader·header header-def.routine code.calls-plan-read·reader·header (header-thm.met 𝓤 H 𝓜 𝓖 𝓡))
     (cited 𝓤 H (Advanced 𝓤 H (𝓖 .A) (𝓜 .mem) (𝓡 .run)) 𝓜 𝓡 code.env #plan-read·reader·advanced advanced-def.routine code.calls-plan-read·reader·advanced (advanced-thm.met 𝓤 H 𝓜 𝓖 𝓡))
-    (cited 𝓤 H (Plan 𝓤 H (𝓖 .A) (𝓜 .mem) (𝓡 .run)) 𝓜 𝓡 code.env #plan-read·reader·plan plan-def.routine code.calls-plan-read·reader·plan (plan-thm.met 𝓤 H 𝓜 𝓖 𝓡)))
+    (cited 𝓤 H (Last 𝓤 H (𝓖 .A) (𝓜 .mem) (𝓡 .run)) 𝓜 𝓡 code.env #plan-read·reader·answer last-def.routine code.calls-plan-read·reader·answer (last-thm.met 𝓤 H 𝓜 𝓖 𝓡)))
