@@ -16,8 +16,7 @@ pub extern "C" fn mortarsedge_plan_check(desks: u32, plan: &[u8]) -> u32
     if !base::is_within(1, 6, desks as usize) {
         return Refusal::BadProcessors.number();
     }
-    let read = plan_read::read_plan(plan);
-    let answer = read.answer;
+    let answer = plan_read::check_plan(plan);
     answer.number()
 }
 

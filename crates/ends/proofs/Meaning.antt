@@ -87,17 +87,20 @@ module _ (p : Plan) (a : planAnswer (programs p) ≡ Accepted) where
             within-high 1 128 (getD (p .operands) (64 * k + i) 0) (send-operand (length m) (slotOf p (64 * k + i)) fine e),
       )
 
+  pub send-numbers-of : sendNumbers (p .tasks) (p .lengths) (p .opcodes) (p .operands) ≡ endsOf p .numbers
+  unfolding endsOf
+  send-numbers-of = numbers-of p
+
   -- the tables computed from the slots, together
   pub ends-of : {senders receivers parents numbers : List ℕ}
       → senders ≡ firstUsers opSend (p .tasks) (p .lengths) (p .opcodes) (p .operands)
       → receivers ≡ firstUsers opReceive (p .tasks) (p .lengths) (p .opcodes) (p .operands)
       → parents ≡ firstUsers opCreate (p .tasks) (p .lengths) (p .opcodes) (p .operands)
-      → numbers ≡ sendNumbers (p .tasks) (p .lengths) (p .opcodes) (p .operands)
+      → numbers ≡ endsOf p .numbers
       → record { senders = senders; receivers = receivers; parents = parents; numbers = numbers } ≡ endsOf p
   unfolding endsOf
   ends-of s r q n =
       let senders = s ∙ first-users-of opSend in
       let receivers = r ∙ first-users-of opReceive in
       let parents = q ∙ first-users-of opCreate in
-      let numbers = n ∙ numbers-of p in
-      λ i. record { senders = senders i; receivers = receivers i; parents = parents i; numbers = numbers i }
+      λ i. record { senders = senders i; receivers = receivers i; parents = parents i; numbers = n i }

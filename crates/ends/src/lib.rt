@@ -1,7 +1,7 @@
 // What is derived once a run from an accepted plan: which task sends and which receives on each
 // channel, each task's parent, and the number of each send.
 mod firsts;
-mod numbers;
+pub mod numbers;
 
 ghost use mathlib.Core.Path.{_≡_};
 ghost use Rattle.plan.specs.declared.PlanAnswer.the-variants.{Accepted};

@@ -3,7 +3,12 @@
 ghost use mathlib.Core.Path.{_≡_};
 ghost use Prim.Native.Nat.{_<_, _≤_};
 ghost use lib.ListN.{length};
-ghost use Rattle.ends.specs.Numbers.{SendsFit, SendsFitAll, numberedTask, sendNumbers};
+ghost use Rattle.plan.specs.declared.PlanAnswer.the-variants.{Accepted};
+ghost use Rattle.plan.specs.Programs.{programs};
+ghost use Rattle.plan.specs.Refusals.{planAnswer};
+ghost use Rattle.plan_rules.specs.Slots.{planIn};
+ghost use Rattle.ends.specs.Derived.{endsOf};
+ghost use Rattle.ends.specs.Numbers.{SendsFit, numberedTask};
 use plan::SEND;
 
 // The sends of task k + 1, which has `count` instructions, numbered.
@@ -33,15 +38,15 @@ fn number_task<'a>(
     }
 }
 
-// The numbers of all sends, task by task.
+// The numbers of all sends of an accepted plan, task by task.
 pub fn send_numbers<'a>(
     tasks: u8,
     lengths: &'a [u8; 64],
     opcodes: &'a [u8; 4096],
     operands: &'a [u16; 4096],
 ) -> [u8; 4096]
-    requires { ⌜ (tasks ≤ 64) × SendsFitAll tasks (now lengths) (now opcodes) (now operands) ⌝ }
-    ensures { λ r. ⌜ r ≡ sendNumbers tasks (now (lengths .entry)) (now (opcodes .entry)) (now (operands .entry)) ⌝ }
+    requires { ⌜ planAnswer (programs (planIn tasks (now lengths) (now opcodes) (now operands))) ≡ Accepted ⌝ }
+    ensures { λ r. ⌜ r ≡ endsOf (planIn tasks (now (lengths .entry)) (now (opcodes .entry)) (now (operands .entry))) .numbers ⌝ }
 {
     let n = base::wide8(tasks);
     let mut numbers = [0u8; 4096];

@@ -24,7 +24,6 @@ use Rattle.rules.specs.declared.step.RunAnswer.the-variants.{Traced, Unstarted,
 use Rattle.rules.specs.declared.system.System.{System}
 use Rattle.rules.specs.Starts.{started}
 use Rattle.rules.specs.StepFiles.{stepsOk, fileSteps, startOf, traceLines, runFileAnswer, runFileText, runFileOutput}
-use Rattle.ends.specs.declared.Ends.{Ends}
 use Rattle.ends.specs.Derived.{endsOf}
 use Rattle.judge.specs.Facts.{facts}
 use Rattle.steploop.specs.Writes.{Written}
@@ -57,9 +56,15 @@ unfolding stepsOk
 steps-few b h = leb-true (length b / 4) 2000 (and-right (eqb (length b % 4) 0) (leb (length b / 4) 2000) h)
 
 -- a run of an accepted plan begins
-pub begins : (n : ℕ) → within 1 6 n ≡ true → (x : Plan) → planAnswer (programs x) ≡ Accepted → {e : Ends} → e ≡ endsOf x
-    → Begins n x (facts (x .tasks) (x .opcodes) (x .operands) (e .numbers) (e .senders) (e .receivers) (e .parents))
-begins n d x a h = record { some = within-low 1 6 n d; most = within-high 1 6 n d; accepted = a; derived = rw h refl }
+pub begins : (n : ℕ) → within 1 6 n ≡ true → (x : Plan) → planAnswer (programs x) ≡ Accepted
+    → {numbers senders receivers parents : List ℕ}
+    → numbers ≡ endsOf x .numbers
+    → senders ≡ endsOf x .senders
+    → receivers ≡ endsOf x .receivers
+    → parents ≡ endsOf x .parents
+    → Begins n x (facts (x .tasks) (x .opcodes) (x .operands) numbers senders receivers parents)
+begins n d x a h s r q =
+    record { some = within-low 1 6 n d; most = within-high 1 6 n d; accepted = a; derived = rw (h, s, r, q) refl }
 
 module _ (n : ℕ) (p b o : List ℕ) where
   -- refusals 1 to 6

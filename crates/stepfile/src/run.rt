@@ -40,7 +40,7 @@ pub fn run_file<'a>(desks: u32, plan: &'a [u8], steps: &'a [u8], out: &'a mut [u
     if !base::is_within(1, 6, desks as usize) {
         return refused(RunAnswer::Unstarted(Refusal::BadProcessors));
     }
-    let read = plan_read::read_plan(plan);
+    let read = plan_read::load(plan);
     let answer = read.answer;
     match answer {
         PlanAnswer::Refused(a) => refused(RunAnswer::Unstarted(a)),
@@ -48,16 +48,21 @@ pub fn run_file<'a>(desks: u32, plan: &'a [u8], steps: &'a [u8], out: &'a mut [u
             if !steps_ok(steps) {
                 return refused(RunAnswer::BadSteps);
             }
-            let e = ends::derive(read.plan);
+            let numbers = ends::numbers::send_numbers(
+                read.plan.tasks,
+                &read.plan.lengths,
+                &read.plan.opcodes,
+                &read.plan.operands,
+            );
             let d = drive(
                 read.plan.tasks,
                 &read.plan.lengths,
                 &read.plan.opcodes,
                 &read.plan.operands,
-                &e.numbers,
-                &e.senders,
-                &e.receivers,
-                &e.parents,
+                &numbers,
+                &read.senders,
+                &read.receivers,
+                &read.parents,
                 desks as u8,
                 steps,
                 out,

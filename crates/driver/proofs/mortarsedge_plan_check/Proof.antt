@@ -6,12 +6,11 @@ use Prim.Native.Nat.{ℕ}
 use borrow.Author.Needs.{needs}
 use borrow.Author.Tests.{not-true, not-false}
 use Rattle.base.specs.Choice.{unless, within}
-use Rattle.plan.specs.declared.PlanRead.{PlanRead}
 use Rattle.plan.specs.declared.PlanAnswer.the-variants.{Refused}
 use Rattle.plan.specs.declared.Refusal.the-variants.{BadProcessors}
 use Rattle.plan.specs.Answers.{answerNumber}
 use Rattle.plan.specs.Files.{fileAnswer, startAnswer}
-use Rattle.plan.specs.Outcomes.{planRead, startNumber}
+use Rattle.plan.specs.Outcomes.{startNumber}
 use Rattle.driver.proofs.mortarsedge_plan_check.Statement.{statement}
 use Rattle.driver.proofs.mortarsedge_plan_check.Tie as tie
 
@@ -32,18 +31,17 @@ returns c =
     let e = sym (l .is-within .ensures) ∙ not-true (l .is-within .result) (c .before .if1 .taken) in
     c .number .ensures ∙ sym (started-if _ _ e)
 
-read-plan-requires : tie.Need-read-plan-requires
-read-plan-requires c κs = search needs
+check-plan-requires : tie.Need-check-plan-requires
+check-plan-requires c κs = search needs
 
 number-requires-2 : tie.Need-number-requires-2
 number-requires-2 c κs = search needs
 
 returns-2 : tie.Need-returns-2
-unfolding planRead
 returns-2 c =
     let l = c .before .before .before in
     let e = sym (l .is-within .ensures) ∙ not-false (l .is-within .result) (c .before .before .if1 .left) in
-    c .number2 .ensures ∙ ap (λ (r : PlanRead). answerNumber (r .answer)) (c .before .read-plan .ensures) ∙ sym (started-if _ _ e)
+    c .number2 .ensures ∙ ap answerNumber (c .before .check-plan .ensures) ∙ sym (started-if _ _ e)
 
 pub mortarsedge-plan-check-spec : {M : Type 1} → statement M
 mortarsedge-plan-check-spec =
@@ -52,6 +50,6 @@ mortarsedge-plan-check-spec =
     is-within-requires
     number-requires
     returns
-    read-plan-requires
+    check-plan-requires
     number-requires-2
     returns-2)

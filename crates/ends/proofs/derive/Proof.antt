@@ -5,7 +5,7 @@ use Rattle.plan.specs.Kinds.{opCreate, opSend, opReceive}
 use Rattle.plan_users.specs.declared.Uses.{Uses}
 use Rattle.ends.specs.Firsts.{firstTasks}
 use Rattle.ends.proofs.FirstUsers.{first-users}
-use Rattle.ends.proofs.Meaning.{tasks-few, sends-fit, ends-of}
+use Rattle.ends.proofs.Meaning.{tasks-few, ends-of}
 use Rattle.ends.proofs.derive.Statement.{statement}
 use Rattle.ends.proofs.derive.Tie as tie
 
@@ -32,7 +32,7 @@ first-tasks-requires-3 : tie.Need-first-tasks-requires-3
 first-tasks-requires-3 c κs = search needs
 
 send-numbers-requires : tie.Need-send-numbers-requires
-send-numbers-requires c κs = (tasks-few (from2 c .args .t1) (from2 c .pre), sends-fit (from2 c .args .t1) (from2 c .pre))
+send-numbers-requires c κs = from2 c .pre
 
 returns : tie.Need-returns
 returns c =

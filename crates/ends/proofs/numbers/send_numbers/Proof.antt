@@ -1,10 +1,13 @@
--- `numbers::send_numbers` is the numbers of all sends. The loop's invariant: those of the first k tasks stand there, and 0 elsewhere.
+-- `numbers::send_numbers` is the numbers of all sends, as the plan's meaning says. The loop's invariant: those of the first k tasks stand there, and 0 elsewhere.
 use Prim.Native.Nat.{_-_, _≤_}
-use mathlib.Core.Path.{_≡_}
+use mathlib.Core.Path.{_≡_, _∙_}
 use native.Mathlib.Omega.{arith}
 use borrow.Author.Needs.{needs}
 use Rattle.base.proofs.Tables.{length-table}
+use Rattle.plan.specs.declared.Plan.{Plan}
+use Rattle.plan_rules.specs.Slots.{planIn}
 use Rattle.ends.specs.Numbers.{sendNumbers}
+use Rattle.ends.proofs.Meaning.{tasks-few, sends-fit, send-numbers-of}
 use Rattle.ends.proofs.Numbering.{tasks-none, tasks-more}
 use Rattle.ends.proofs.numbers.send_numbers.Statement.{statement}
 use Rattle.ends.proofs.numbers.send_numbers.Tie as tie
@@ -15,6 +18,10 @@ Inv-loop tasks lengths opcodes operands n numbers₀ k₀ numbers k = (k ≤ n) 
 abbrev μ-loop : tie.MeasureT-loop
 μ-loop tasks lengths opcodes operands n numbers₀ k₀ numbers k = n - k
 
+-- the plan of which the slots are lent
+abbrev plan-at : tie.Start Inv-loop μ-loop → Plan
+plan-at c = let a = c .args in planIn (a .tasks) (a .lengths .now) (a .opcodes .now) (a .operands .now)
+
 wide8-requires : tie.Need-wide8-requires Inv-loop μ-loop
 wide8-requires c κs = search needs
 
@@ -24,7 +31,9 @@ loop-holds c =
     (search needs, c .wide8 .ensures, tasks-none (a .lengths .now) (a .opcodes .now) (a .operands .now))
 
 element-copy-out-wide8 : tie.Need-element-copy-out-wide8 Inv-loop μ-loop
-element-copy-out-wide8 c = omega arith
+element-copy-out-wide8 c =
+    let s = c .before .before .before in
+    omega (arith, tasks-few (plan-at s) (s .pre))
 
 wide8-requires-2 : tie.Need-wide8-requires-2 Inv-loop μ-loop
 wide8-requires-2 c κs = search needs
@@ -32,8 +41,10 @@ wide8-requires-2 c κs = search needs
 number-task-requires : tie.Need-number-task-requires Inv-loop μ-loop
 number-task-requires c κs =
     let l = c .before .before .before .before in
-    let fits = l .before .before .pre .1 (l .loop .k) (omega arith) in (
-      omega arith,
+    let s = l .before .before in
+    let few = tasks-few (plan-at s) (s .pre) in
+    let fits = sends-fit (plan-at s) (s .pre) (l .loop .k) (omega arith) in (
+      omega (arith, few),
       rw (c .before .wide82 .ensures) (fits .0),
       rw (l .loop .inv .2) (length-table 4096 _),
       rw (c .before .wide82 .ensures) (fits .1),
@@ -57,8 +68,9 @@ loop-again c =
 returns : tie.Need-returns Inv-loop μ-loop
 returns c =
     let l = c .before in
-    let e : l .loop .k ≡ l .before .before .args .tasks = omega arith in
-    rw (← e) (l .loop .inv .2)
+    let s = l .before .before in
+    let e : l .loop .k ≡ s .args .tasks = omega arith in
+    (rw (← e) (l .loop .inv .2)) ∙ send-numbers-of (plan-at s) (s .pre)
 
 pub send-numbers-spec : {M : Type 1} → statement M
 send-numbers-spec =

@@ -11,6 +11,7 @@ use Rattle.plan.specs.Programs.{programs, canonical}
 use Rattle.plan.specs.Refusals.{planAnswer}
 use Rattle.plan.specs.Files.{filePrograms, fileAnswer}
 use Rattle.rules.specs.StepFiles.{stepsOk}
+use Rattle.ends.specs.Derived.{endsOf}
 use Rattle.stepfile.proofs.Outcomes.{read-answer, read-plan-is, plan-ok, start-is, begins, steps-few, desks-refused, file-refused, steps-refused, traced, traced-short}
 use Rattle.stepfile.proofs.run.run_file.Statement.{statement}
 use Rattle.stepfile.proofs.run.run_file.Tie as tie
@@ -20,21 +21,24 @@ desks : (c : tie.Else1) → within 1 6 (c .before .before .before .before .befor
 desks c = let i = c .before .is-within in sym (i .ensures) ∙ not-false (i .result) (c .if1 .left)
 
 file : (c : tie.After-enum-told) → fileAnswer (c .before .before .before .before .before .before .before .before .args .plan .now) ≡ Accepted
-file c = let k = c .before .before in sym (read-answer (k .before .before .before .before .before .before .args .plan .now) (k .read-plan .ensures)) ∙ c .enum-told .given .1
+file c = let k = c .before .before in sym (read-answer (k .before .before .before .before .before .before .args .plan .now) (k .load .ensures .read)) ∙ c .enum-told .given .1
 
 steps : (c : tie.Else2) → stepsOk (c .before .before .before .before .before .before .before .before .before .before .args .steps .now) ≡ true
 steps c = let i = c .before .steps-ok in sym (i .ensures) ∙ not-false (i .result) (c .if2 .left)
 
 -- the plan
-plan-is : (c : tie.After-derive-arg) → c .before .before .before .before .before .read-plan .result .plan ≡ canonical (filePrograms (c .before .before .before .before .before .before .before .before .before .before .before .args .plan .now))
-plan-is c = let k = c .before .before .before .before .before in read-plan-is (k .before .before .before .before .before .before .args .plan .now) (k .read-plan .ensures) (file (c .before .before .before))
+plan-is : (c : tie.Else2) → c .before .before .before .before .load .result .plan ≡ canonical (filePrograms (c .before .before .before .before .before .before .before .before .before .before .args .plan .now))
+plan-is c = let k = c .before .before .before .before in read-plan-is (k .before .before .before .before .before .before .args .plan .now) (k .load .ensures .read) (file (c .before .before))
 
-plan-passes : (c : tie.After-derive-arg) → planAnswer (programs (c .before .before .before .before .before .read-plan .result .plan)) ≡ Accepted
-plan-passes c = rw (plan-is c) (plan-ok (c .before .before .before .before .before .before .before .before .before .before .before .args .plan .now) (file (c .before .before .before)))
+plan-passes : (c : tie.Else2) → planAnswer (programs (c .before .before .before .before .load .result .plan)) ≡ Accepted
+plan-passes c = rw (plan-is c) (plan-ok (c .before .before .before .before .before .before .before .before .before .before .args .plan .now) (file (c .before .before)))
 
--- where the tables are derived
-abbrev derived : tie.After-drive-arg7 → tie.After-derive
-derived c = c .before .before .before .before .before .before .before .before .before
+-- where the sends are numbered, and what is passed before
+abbrev numbered : tie.After-drive-arg6 → tie.After-send-numbers
+numbered c = c .before .before .before .before .before .before .before .before
+
+abbrev passed : tie.After-send-numbers-arg3 → tie.Else2
+passed c = c .before .before .before .before
 
 is-within-requires : tie.Need-is-within-requires
 is-within-requires c κs = search needs
@@ -47,8 +51,8 @@ returns c =
     let i = c .before .before .is-within in
     rw (c .refused .ensures) (desks-refused _ _ _ _ (sym (i .ensures) ∙ not-true (i .result) (c .before .if1 .taken)))
 
-read-plan-requires : tie.Need-read-plan-requires
-read-plan-requires c κs = search needs
+load-requires : tie.Need-load-requires
+load-requires c κs = search needs
 
 enum-known-answer : tie.Need-enum-known-answer
 enum-known-answer c = search needs
@@ -71,19 +75,23 @@ returns-2 c =
     rw (c .refused3 .ensures)
     (steps-refused _ _ _ _ (desks (c .before .before .before .before .before .before)) (file (c .before .before .before)) (sym (i .ensures) ∙ not-true (i .result) (c .before .if2 .taken)))
 
-derive-requires : tie.Need-derive-requires
-derive-requires c κs = plan-passes c
+send-numbers-requires : tie.Need-send-numbers-requires
+send-numbers-requires c κs = plan-passes (passed c)
 
 cast-drive : tie.Need-cast-drive
 cast-drive c =
-    let e = derived c .before .before .before .before .before .before .before in
+    let e = passed (numbered c .before) .before .before .before .before .before in
     omega (arith, within-high 1 6 (e .before .before .before .before .before .args .desks) (desks e))
 
 drive-requires : tie.Need-drive-requires
+unfolding endsOf
 drive-requires c κs =
-    let d = derived (c .before) in
-    let p = d .before in
-    (begins _ (desks (p .before .before .before .before .before .before)) _ (plan-passes p) (d .derive .ensures), steps-few _ (steps (p .before)))
+    let n = numbered (c .before) in
+    let p = passed (n .before) in
+    let users = p .before .before .before .before .load .ensures .firsts (p .before .before .enum-told .given .1) in (
+      begins _ (desks (p .before .before .before .before .before)) _ (plan-passes p) (n .send-numbers .ensures) (users .senders) (users .receivers) (users .parents),
+      steps-few _ (steps p),
+    )
 
 same-length : tie.Need-same-length
 same-length c = search needs
@@ -91,15 +99,15 @@ same-length c = search needs
 returns-3 : tie.Need-returns-3
 returns-3 c =
     let d = c .before .before .before in
-    let p = derived (d .before .before) .before in
-    traced _ _ _ _ (desks (p .before .before .before .before .before .before)) (file (p .before .before .before)) (steps (p .before))
+    let p = passed (numbered (d .before .before) .before) in
+    traced _ _ _ _ (desks (p .before .before .before .before .before)) (file (p .before .before)) (steps p)
     (start-is _ _ _ (plan-is p)) (d .drive .ensures) (c .if3 .taken)
 
 returns-4 : tie.Need-returns-4
 returns-4 c =
     let k = c .before .before .before .before in
     rw (c .refused2 .ensures)
-    (file-refused _ _ _ _ (desks (k .before)) _ (sym (read-answer (k .before .before .before .before .before .before .args .plan .now) (k .read-plan .ensures)) ∙ c .before .before .answer .given .1))
+    (file-refused _ _ _ _ (desks (k .before)) _ (sym (read-answer (k .before .before .before .before .before .before .args .plan .now) (k .load .ensures .read)) ∙ c .before .before .answer .given .1))
 
 same-length-2 : tie.Need-same-length-2
 same-length-2 c = search needs
@@ -107,8 +115,8 @@ same-length-2 c = search needs
 returns-5 : tie.Need-returns-5
 returns-5 c =
     let d = c .before .before .before in
-    let p = derived (d .before .before) .before in
-    traced-short _ _ _ _ (desks (p .before .before .before .before .before .before)) (file (p .before .before .before)) (steps (p .before))
+    let p = passed (numbered (d .before .before) .before) in
+    traced-short _ _ _ _ (desks (p .before .before .before .before .before)) (file (p .before .before)) (steps p)
     (start-is _ _ _ (plan-is p)) (d .drive .ensures) (c .if3 .left)
 
 pub run-file-spec : {M : Type 1} → statement M
@@ -118,14 +126,14 @@ run-file-spec =
     is-within-requires
     refused-requires
     returns
-    read-plan-requires
+    load-requires
     enum-known-answer
     refused-requires-2
     enum-told
     steps-ok-requires
     refused-requires-3
     returns-2
-    derive-requires
+    send-numbers-requires
     cast-drive
     drive-requires
     same-length
