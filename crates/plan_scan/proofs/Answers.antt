@@ -2,14 +2,13 @@
 use mathlib.Core.Path.{_≡_, refl, sym, _∙_, ap}
 use mathlib.Core.Bool.{Bool, true, false, not, _&&_, _||_}
 use mathlib.Core.List.{List, [], _∷_}
-use Prim.Native.Nat.{ℕ, _+_, _*_, _<_, _≤_}
+use Prim.Native.Nat.{ℕ, _+_, _*_, _<_}
 use native.Mathlib.Omega.{arith}
 use lib.ListN.{getD}
 use lib.Dec.{eqb, ltb, leb}
 use borrow.Author.Tests.{eqb-true}
 use Rattle.base.specs.Choice.{unless}
-use Rattle.base.specs.Range.{below, joined}
-use Rattle.base.specs.Lists.{table}
+use Rattle.base.specs.Range.{joined}
 use Rattle.base.proofs.Folds.{fold-same}
 use Rattle.base.proofs.Tables.{getD-table, table-same}
 use Rattle.base.proofs.Tests.{and-true}
@@ -21,7 +20,6 @@ use Rattle.plan.specs.declared.PlanAnswer.the-variants.{Accepted, Refused}
 use Rattle.plan.specs.Kinds.{opCreate, opSend, opReceive}
 use Rattle.plan.specs.Programs.{programs}
 use Rattle.plan.specs.Users.{firstOf}
-use Rattle.plan.specs.Refusals.{planAnswer}
 use Rattle.plan_users.specs.declared.Use.{Use}
 use Rattle.plan_users.specs.Uses.{noUse, useOf, slotUser, usesTo, createFits, createAt, createsIn, channelsIn}
 use Rattle.plan_rules.specs.Sizes.{sizesIn}
@@ -29,7 +27,7 @@ use Rattle.plan_rules.specs.Slots.{planIn, scanned}
 use Rattle.plan_rules.proofs.Meaning.{users-of, answer-of}
 use Rattle.plan_parts.specs.Code.{zerosTo, codeOf}
 use Rattle.plan_scan.specs.declared.walk.Pass.{Pass}
-use Rattle.plan_scan.specs.Firsts.{firstAt, firstsOf, firstUsers, Firsts, createFine, fineAt, createsFine, hasParent, allCreated}
+use Rattle.plan_scan.specs.Firsts.{firstAt, firstsOf, firstUsers, createFine, fineAt, createsFine, hasParent, allCreated}
 use Rattle.plan_scan.specs.Pass.{opcodesIn, operandsIn, codeFine, PassOf, codeAnswer, CodeChecked}
 use Rattle.plan_scan.proofs.Changes.{below-both}
 use Rattle.plan_scan.proofs.Sound.{Sound, sound-use}

@@ -1,13 +1,16 @@
--- Tests of each number below n: one test changes; two tests together. A test under another.
+-- Tests: one beside a test that holds, one under another; of each number below n, where one test changes, and two together.
 use mathlib.Core.Path.{_≡_, refl, sym, _∙_, ap}
-use mathlib.Core.Bool.{Bool, true, false, _&&_, and-assoc}
+use mathlib.Core.Bool.{Bool, true, false, _&&_, _||_}
 use mathlib.Core.Logic.{_≢_, by-cases}
 use Prim.Native.Nat.{ℕ, zero, suc, _<_}
 use native.Mathlib.Decide.{ℕ-discrete}
-use native.Mathlib.Omega.{arith}
 use Rattle.base.specs.Range.{fold, below}
 use Rattle.base.proofs.Folds.{fold-same}
-use Rattle.base.proofs.Tests.{and-left, is-false, below-at, below-all, below-fails, and-false, tests-differ}
+use Rattle.base.proofs.Tests.{and-true, and-false, below-fails}
+
+pub or-true : (b : Bool) → b || true ≡ true
+or-true true = refl
+or-true false = refl
 
 -- a test that matters only where another holds
 pub and-under : (a x y : Bool) → (a ≡ true → x ≡ y) → a && x ≡ a && y
@@ -21,14 +24,10 @@ below-change n i p q l same kept = go (q i) refl
   where
     go : (b : Bool) → q i ≡ b → below n q ≡ below n p && b
     go false e = below-fails q n i l e ∙ sym (and-false (below n p))
-    go true e = fold-same _&&_ true n q p every ∙ sym (and-all (below n p))
+    go true e = fold-same _&&_ true n q p every ∙ sym (and-true (below n p))
       where
         every : (j : ℕ) → j < n → q j ≡ p j
         every j h = by-cases (ℕ-discrete j i) (λ (z : j ≡ i). rw z (e ∙ sym (kept e))) (λ ne. sym (same j h ne))
-
-        and-all : (b : Bool) → b && true ≡ b
-        and-all true = refl
-        and-all false = refl
 
 pub below-both : (n : ℕ) (p q : ℕ → Bool) → below n p && below n q ≡ below n (λ k. p k && q k)
 unfolding fold

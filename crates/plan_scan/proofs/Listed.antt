@@ -6,8 +6,6 @@ use Prim.Native.Nat.{ℕ, _+_, _-_, _<_, _≤_}
 use native.Mathlib.Omega.{arith}
 use lib.ListN.{length, getD, set}
 use lib.Seq.{getD-set-same, getD-set-other}
-use Rattle.base.specs.Range.{below}
-use Rattle.base.specs.Lists.{table}
 use Rattle.base.proofs.Folds.{fold-same}
 use Rattle.base.proofs.Tables.{set-table, getD-table}
 use Rattle.base.proofs.Tests.{below-at}

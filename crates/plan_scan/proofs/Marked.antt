@@ -2,18 +2,19 @@
 use mathlib.Core.Path.{_≡_, refl, sym, _∙_, ap}
 use mathlib.Core.Bool.{Bool, true, false, not, _&&_, _||_, true≢false}
 use mathlib.Core.Logic.{by-cases}
-use Prim.Native.Nat.{ℕ, _<_, _≤_}
+use Prim.Native.Nat.{ℕ, _≤_}
 use native.Mathlib.Decide.{ℕ-discrete}
 use native.Mathlib.Omega.{arith}
-use lib.Dec.{eqb, ltb, leb}
+use lib.Dec.{eqb, ltb}
 use borrow.Author.Tests.{eqb-true, eq-eqb, ne-eqb, lt-leb, not-true}
 use Rattle.base.specs.Choice.{pick}
-use Rattle.base.proofs.Tests.{and-left, and-right, and-false, and-true, and-both}
+use Rattle.base.proofs.Tests.{and-left, and-right, and-false, and-true}
 use Rattle.plan.specs.declared.TaskId.{TaskId}
 use Rattle.plan_users.specs.declared.Use.{Use}
 use Rattle.plan_users.specs.Uses.{useNext, endsFit}
 use Rattle.plan_scan.specs.Marks.{keptOf, createMark, endMark}
 use Rattle.plan_scan.specs.Firsts.{createFine}
+use Rattle.plan_scan.proofs.Changes.{or-true}
 use Rattle.plan_scan.proofs.Sound.{Sound}
 
 module _ (x : Use) (t : TaskId) (s : Sound x) where
@@ -66,10 +67,6 @@ pub ends-swap : (s r : Use) → endsFit s r ≡ endsFit r s
 ends-swap s r =
     fit-swap (s .mixed) (r .mixed) (eqb (s .count) 0) (eqb (r .count) 0) (eqb (s .task .0) (r .task .0))
     ∙ ap (fit (r .mixed) (s .mixed) (eqb (r .count) 0) (eqb (s .count) 0)) (eqb-sym (s .task .0) (r .task .0))
-
-or-true : (b : Bool) → b || true ≡ true
-or-true true = refl
-or-true false = refl
 
 module _ (s r : Use) (t : TaskId) (ss : Sound s) (sr : Sound r) (task : 1 ≤ t .0) where
   -- t is not at the other end

@@ -1,16 +1,15 @@
 -- The pass goes on: from nothing, by one instruction of each kind, and over the rest of a task's slots; and where it stops.
 use mathlib.Core.Path.{_≡_, refl, sym, _∙_, ap}
-use mathlib.Core.Bool.{Bool, true, false, _&&_, _||_, true≢false}
+use mathlib.Core.Bool.{Bool, true, false, _&&_, true≢false}
 use mathlib.Core.List.{List}
 use mathlib.Core.Logic.{_≢_}
-use Prim.Native.Nat.{ℕ, _+_, _*_, _-_, _<_, _≤_}
+use Prim.Native.Nat.{ℕ, _+_, _*_, _<_, _≤_}
 use native.Mathlib.Omega.{arith}
 use lib.ListN.{getD, set, replicate}
 use lib.Dec.{leb}
 use borrow.Author.Tests.{lt-ltb}
 use Rattle.base.specs.Choice.{pick}
-use Rattle.base.specs.Range.{fold, below, joined}
-use Rattle.base.proofs.Slots.{row-of, place-of}
+use Rattle.base.specs.Range.{fold, joined}
 use Rattle.base.proofs.Tables.{all-same, length-table, getD-table}
 use Rattle.base.proofs.Tests.{and-both, and-false, within-low, within-high, below-all, below-fails}
 use Rattle.plan.specs.declared.Instruction.{Instruction}
@@ -27,12 +26,13 @@ use Rattle.plan_rules.specs.declared.scan.Scan.{Scan}
 use Rattle.plan_rules.specs.Slots.{finishFits, scanNext, scannedTo}
 use Rattle.plan_rules.proofs.Scanning.{scan-step, scan-rest}
 use Rattle.plan_parts.specs.declared.code.Fetched.{Fetched}
-use Rattle.plan_parts.specs.Code.{fetchedFrom, usedSlot, slotPlace, slotRead, slotZero, zerosTo}
+use Rattle.plan_parts.specs.Code.{fetchedFrom, usedSlot, slotPlace, slotZero, zerosTo}
 use Rattle.plan_parts.proofs.Slots.{next-zeros, next-place, skip-zeros, skip-place}
 use Rattle.plan_scan.specs.declared.walk.Pass.{Pass}
 use Rattle.plan_scan.specs.Marks.{keptOf, createMark, endMark}
 use Rattle.plan_scan.specs.Firsts.{firstAt, firstsOf, createFine, fineAt, createsFine, NoFirsts}
 use Rattle.plan_scan.specs.Pass.{opcodesIn, operandsIn, PassedIn, codeFine, PassOf}
+use Rattle.plan_scan.proofs.Changes.{or-true}
 use Rattle.plan_scan.proofs.Sound.{sound-use}
 use Rattle.plan_scan.proofs.Listed.{firsts-next, creates-next, ends-next, ends-turned}
 use Rattle.plan_scan.proofs.Sizes.{used-whole, few-tasks, count-few}
@@ -40,10 +40,6 @@ use Rattle.plan_scan.proofs.Sizes.{used-whole, few-tasks, count-few}
 -- the instruction that is fetched
 abbrev pub fetched : Fetched → Instruction
 fetched x = record { opcode = x .opcode; operand = x .operand }
-
-or-true : (b : Bool) → b || true ≡ true
-or-true true = refl
-or-true false = refl
 
 module _ (b : List ℕ) (n : ℕ) (lengths : List ℕ) where
   abbrev opcodes : List ℕ

@@ -1,13 +1,12 @@
 -- What is kept of some tasks, none of them 0: their count is 0 exactly where the first is.
-use mathlib.Core.Path.{_≡_, refl, sym, _∙_}
-use mathlib.Core.Bool.{Bool, true, false, not, _&&_, true≢false}
-use mathlib.Core.List.{List, [], _∷_, _++_}
+use mathlib.Core.Path.{_≡_, refl, sym}
+use mathlib.Core.Bool.{Bool, true, false, not, true≢false}
+use mathlib.Core.List.{List, [], _∷_}
 use Prim.Native.Nat.{ℕ, zero, suc, _+_, _/_, _%_, _<_}
 use native.Mathlib.Omega.{arith}
 use lib.ListN.{getD}
 use lib.Dec.{eqb, ltb}
 use borrow.Author.Tests.{not-true, ne-eqb}
-use Rattle.base.specs.Choice.{pick}
 use Rattle.base.specs.Range.{fold, joined}
 use Rattle.base.specs.Lists.{every}
 use Rattle.base.proofs.Choices.{pick-either}

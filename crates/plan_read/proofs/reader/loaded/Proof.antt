@@ -1,7 +1,7 @@
 -- `reader::loaded` meets its contract: a walk of its MIR, by hand. The reader is taken apart, and `load_at` is called on its bytes and its place. All that the proof knows of `load_at` is that it meets its contract.
 -- What the bytes own is taken out of what the reader owns (`bytes-out`) and goes to the callee, beside the lifetime's token, which comes back; what the reader and the header own is kept whole for the exit.
 -- Assumes nothing.
-use mathlib.Core.Path.{_≡_, refl}
+use mathlib.Core.Path.{refl}
 use Prim.Native.Nat.{_<_, _^_}
 use mathlib.Core.List.{[], _∷_}
 use lib.Dec.{T as Holds}

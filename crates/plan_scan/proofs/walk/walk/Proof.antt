@@ -7,7 +7,7 @@ use mathlib.Core.Logic.{⊎-elim}
 use native.Mathlib.Omega.{arith}
 use borrow.Author.Needs.{needs}
 use borrow.Author.Tests.{not-true, not-false}
-use lib.ListN.{length, getD}
+use lib.ListN.{getD}
 use Rattle.base.proofs.Tests.{within-high}
 use Rattle.plan.specs.Kinds.{opCreate, opSend, opReceive}
 use Rattle.plan.specs.Refusals.{instructionOk}
