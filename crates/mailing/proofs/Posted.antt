@@ -9,6 +9,7 @@ use lib.ListN.{length}
 use Rattle.base.specs.Choice.{pick}
 use Rattle.base.specs.Range.{fold, joined}
 use Rattle.base.proofs.Joins.{length-joined, part-of-sum}
+use Rattle.base.proofs.Tests.{tests-differ}
 use Rattle.rules.specs.declared.message.Message.{Message}
 use Rattle.rules.specs.declared.message.Network.{Network}
 use Rattle.rules.specs.declared.rule.Posting.{Posting}
@@ -16,7 +17,7 @@ use Rattle.rules.specs.declared.rule.Posting.the-variants.{Nothing, Letter, Adv
 use Rattle.rules.specs.Networks.{enqueued, enqueuedAll, lettersOf}
 use Rattle.rules_laws.proofs.Letters.{enqueuedAll-used}
 use Rattle.network.proofs.Adverts.{enqueuedAll-append}
-use Rattle.mailing.specs.Mailing.{roundsOf, skipsAt, letterOf, postedAt}
+use Rattle.mailing.specs.Mailing.{isLetter, roundsOf, skipsAt, letterOf, postedAt}
 
 -- all rounds post the letters
 pub rounds-all : (n : ℕ) (x : Posting) → joined (roundsOf n x) (postedAt x) ≡ lettersOf n x
@@ -24,6 +25,26 @@ unfolding lettersOf fold
 rounds-all n Nothing = refl
 rounds-all n (Letter m) = refl
 rounds-all n (Adverts c d) = refl
+
+-- not adverts: a letter at most
+abbrev pub AtMostOne : Posting → Type 0
+AtMostOne Nothing = Unit {0}
+AtMostOne (Letter m) = Unit {0}
+AtMostOne (Adverts c d) = ⊥
+
+-- such a posting puts its letter behind the others, if it has one
+module _ (n : ℕ) (k : Network) where
+  pub posted-one : (x : Posting) → isLetter x ≡ true → enqueuedAll k (lettersOf n x) ≡ enqueued k (letterOf x 0)
+  unfolding lettersOf enqueuedAll
+  posted-one Nothing h = absurd (tests-differ h refl)
+  posted-one (Letter m) h = refl
+  posted-one (Adverts c d) h = absurd (tests-differ h refl)
+
+  pub posted-none : (x : Posting) → AtMostOne x → isLetter x ≡ false → enqueuedAll k (lettersOf n x) ≡ k
+  unfolding lettersOf enqueuedAll
+  posted-none Nothing one h = refl
+  posted-none (Letter m) one h = absurd (tests-differ refl h)
+  posted-none (Adverts c d) one h = absurd one
 
 -- up to six desks are gone by
 pub few-rounds : (n : ℕ) (x : Posting) → n ≤ 6 → roundsOf n x ≤ 6

@@ -1,26 +1,20 @@
--- The mail changed in place: the letter at position p taken out of so many, none where p is 0; and what is posted, round by round.
-use mathlib.Core.Bool.{Bool, false}
+-- What is posted into the mail: a letter, or letters round by round.
+use mathlib.Core.Bool.{Bool, true, false}
 use mathlib.Core.List.{List, [], _∷_}
-use Prim.Native.Nat.{ℕ, suc, _-_}
+use Prim.Native.Nat.{ℕ, suc}
 use lib.Dec.{eqb}
 use Rattle.base.specs.Choice.{pick}
 use Rattle.rules.specs.declared.message.Message.{Message}
 use Rattle.rules.specs.declared.message.Message.the-variants.{Empty, Advert}
-use Rattle.rules.specs.declared.message.Slot.{Slot}
 use Rattle.rules.specs.declared.rule.Posting.{Posting}
 use Rattle.rules.specs.declared.rule.Posting.the-variants.{Nothing, Letter, Adverts}
 use Rattle.rules.specs.Numbers.{processorId}
-use Rattle.rules.specs.Networks.{noSlot}
 
--- how many letters are behind it, how many are left, and what the last slot then holds, which held x
-abbrev pub behindOf : ℕ → ℕ → ℕ
-behindOf p used = pick (eqb p 0) 0 (used - p)
-
-abbrev pub leftOf : ℕ → ℕ → ℕ
-leftOf p used = pick (eqb p 0) used (used - 1)
-
-abbrev pub closedAt : ℕ → Slot → Slot
-closedAt p x = pick (eqb p 0) x noSlot
+-- a letter, and nothing but that
+abbrev pub isLetter : Posting → Bool
+isLetter Nothing = false
+isLetter (Letter m) = true
+isLetter (Adverts c d) = false
 
 -- how many desks are gone by, in a rig of n: none, one for a letter, all for adverts
 abbrev pub roundsOf : ℕ → Posting → ℕ

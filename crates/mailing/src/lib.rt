@@ -1,43 +1,21 @@
-// The mail changed in place, by a loop that owns it: how a gap is closed and what is posted round by round.
+// What is posted into the mail by a loop that owns it: a letter, or letters round by round.
 ghost use mathlib.Core.Path.{_≡_};
-ghost use Prim.Native.Nat.{_≤_, _<_};
-ghost use Rattle.mailing.specs.Mailing.{behindOf, leftOf, closedAt, roundsOf, skipsAt, letterOf};
+ghost use Prim.Native.Nat.{_<_};
+ghost use Rattle.mailing.specs.Mailing.{isLetter, roundsOf, skipsAt, letterOf};
 use plan::ProcessorId;
 use rules::message::Message;
 use rules::message::Slot;
 use rules::rule::Posting;
 
-// How many letters are behind the one at position p, of so many; none where p is 0.
-pub fn behind(p: usize, used: usize) -> usize
-    requires { ⌜ p ≤ used ⌝ }
-    ensures { λ r. ⌜ r ≡ behindOf p used ⌝ }
+// Whether a letter is posted, and nothing but that.
+pub fn posts(x: Posting) -> bool
+    ensures { λ r. ⌜ r ≡ isLetter x ⌝ }
 {
-    if p == 0 {
-        return 0;
+    match x {
+        Posting::Nothing => false,
+        Posting::Letter(_) => true,
+        Posting::Adverts(_, _) => false,
     }
-    used - p
-}
-
-// How many letters are left without it.
-pub fn left(p: usize, used: usize) -> usize
-    requires { ⌜ p ≤ used ⌝ }
-    ensures { λ r. ⌜ r ≡ leftOf p used ⌝ }
-{
-    if p == 0 {
-        return used;
-    }
-    used - 1
-}
-
-// What the last slot then holds, which held x.
-pub fn closed(p: usize, x: Slot) -> Slot
-    ensures { λ r. ⌜ r ≡ closedAt p x ⌝ }
-{
-    if p == 0 {
-        return x;
-    }
-    let none = Message::Empty;
-    Slot { message: none }
 }
 
 // How many desks a posting goes by, in a rig of so many.

@@ -1,2 +1,3 @@
 -- Where a step looks, and what it finds there.
 pub mod Places
+pub mod Words

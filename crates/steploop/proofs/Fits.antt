@@ -26,6 +26,17 @@ fitting-all room (l ∷ ls) h =
     let e = length-append l (text ls) in
     rw (le-leb (length l) room (omega arith), fitting-all (room - length l) ls (omega arith)) refl
 
+-- they are within the room
+pub fitting-room : (room : ℕ) (ls : List (List ℕ)) → length (fitting room ls) ≤ room
+unfolding fitting
+fitting-room room [] = omega arith
+fitting-room room (l ∷ ls) =
+    let e = length-append l (fitting (room - length l) ls) in
+    let h = fitting-room (room - length l) ls in
+    by-cases (decLe (length l) room)
+    (λ (q : length l ≤ room). rw (le-leb (length l) room q) (omega arith))
+    (λ q. rw (lt-leb (length l) room (omega arith)) (omega arith))
+
 -- where the first lines do not fit, those behind them do not matter
 pub fitting-over : (room : ℕ) (ls ms : List (List ℕ)) → room < length (text ls) → fitting room (ls ++ ms) ≡ fitting room ls
 unfolding text fitting

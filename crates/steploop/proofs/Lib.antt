@@ -1,4 +1,8 @@
 -- Lines and how many fit, steps on the parts of a rig, and the loop over a step file.
 pub mod Fits
 mod Turns
+mod Progress
 mod Going
+mod Posts
+mod Storing
+mod Ways

@@ -1,10 +1,10 @@
 -- Lines written into a lent output, as far as they fit, and steps carried out one after the other.
 use mathlib.Core.Path.{_≡_}
-use mathlib.Core.Bool.{Bool, true}
+use mathlib.Core.Bool.{Bool}
 use mathlib.Core.List.{List, [], _∷_, _++_}
 use Prim.Native.Nat.{ℕ}
-use lib.Dec.{leb}
-use lib.ListN.{length, drop}
+use lib.Dec.{leb, eqb}
+use lib.ListN.{length, drop, getD}
 use Rattle.rules.specs.declared.task.Task.{Task}
 use Rattle.rules.specs.declared.message.Network.{Network}
 use Rattle.rules.specs.declared.step.Step.{Step}
@@ -36,9 +36,24 @@ turnsOf f n ts k s (x ∷ xs) =
     let h = turnsOf f n (t .tasks) (t .network) (t .store) xs in
     record { reports = t .report ∷ h .reports; tasks = h .tasks; network = h .network; store = h .store }
 
--- the lines of the steps are written as far as they fit; where all do, these are the parts then
-pub record RanTo (h : Turns) (before : List ℕ) (r : Ran) (s : Store) (after : List ℕ) : Type 0 where
-  pub lines : Written (stepLines 0 (h .reports)) before (r .filled) (r .whole) after
-  pub tasks : r .whole ≡ true → r .tasks ≡ h .tasks
-  pub network : r .whole ≡ true → r .network ≡ h .network
-  pub store : r .whole ≡ true → s ≡ h .store
+-- so many bytes are filled, and whether every line fitted, by a progress
+abbrev pub filledBy : List ℕ → ℕ
+filledBy progress = getD progress 0 0
+
+abbrev pub wholeBy : List ℕ → Bool
+wholeBy progress = eqb (getD progress 1 0) 0
+
+abbrev pub WrittenBy : List (List ℕ) → List ℕ → List ℕ → List ℕ → Type 0
+WrittenBy lines before progress after = Written lines before (filledBy progress) (wholeBy progress) after
+
+-- a line more, behind whatever lines were written before it
+pub record LineNext (line progress out progress' out' : List ℕ) : Type 0 where
+  pub long : length progress' ≡ length progress
+  pub more : (lines : List (List ℕ)) (before : List ℕ) → WrittenBy lines before progress out → WrittenBy (lines ++ (line ∷ [])) before progress' out'
+
+-- the steps are carried out, and their lines written as far as they fit
+pub record RanTo (h : Turns) (before : List ℕ) (r : Ran) (s : Store) (progress after : List ℕ) : Type 0 where
+  pub lines : WrittenBy (stepLines 0 (h .reports)) before progress after
+  pub tasks : r .tasks ≡ h .tasks
+  pub network : r .network ≡ h .network
+  pub store : s ≡ h .store

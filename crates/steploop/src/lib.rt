@@ -1,7 +1,11 @@
 // The steps of a file, carried out one after the other, each with its line: the loop owns the tasks and the mail, and the
 // columns are lent.
 mod decode;
+mod lines;
+mod report;
 
+ghost use mathlib.Core.List.{_∷_, []};
+ghost use mathlib.Core.Path.{_≡_};
 ghost use Prim.Native.Nat.{_≤_, _/_};
 ghost use lib.ListN.{length};
 ghost use Rattle.rules.specs.StepFiles.{fileSteps};
@@ -11,30 +15,31 @@ ghost use Rattle.judge.specs.Facts.{facts};
 ghost use Rattle.core.specs.Turns.{Rig};
 ghost use Rattle.steploop.specs.Writes.{turnsOf, RanTo};
 use decode::step_at;
+use lines::emit_next;
 use places::index::instruction_at;
-use places::index::letter_slot;
 use places::index::position;
 use places::index::task_slot;
 use places::scope::found;
 use places::scope::scope_of;
-use places::scope::stored;
+use places::word::only_word;
+use places::word::word_changed;
 use plan::TaskId;
+use report::accepted;
+use report::reported;
+use rules::message::Message;
 use rules::message::Network;
-use rules::step::Report;
+use rules::message::Slot;
 use rules::task::Task;
+use scopes::letter_scope;
 use step_act::act;
-use trace::direct::emit_step;
 
-// Where the steps of a file have led: the tasks and the mail then, how much of the output is filled, and whether every
-// line fitted.
+// Where the steps of a file have led: the tasks and the mail then.
 pub struct Ran {
     pub tasks: [Task; 64],
     pub network: Network,
-    pub filled: usize,
-    pub whole: bool,
 }
 
-// A line for each step, each behind those before it.
+// Each step, and a line for it behind those before it, as long as they fit.
 pub fn run_steps<'a>(
     count: u8,
     opcodes: &'a [u8; 4096],
@@ -63,128 +68,160 @@ pub fn run_steps<'a>(
     network: Network,
     steps: &'a [u8],
     out: &'a mut [u8],
+    progress: &'a mut [usize; 2],
 ) -> Ran
-    requires { ⌜ (Linked (now receivers) (now firstreceiving) (now nextreceiving)) × (Linked (now senders) (now firstsending) (now nextsending)) × (length (now steps) / 4 ≤ 2000) × Rig (facts count (now opcodes) (now operands) (now numbers) (now senders) (now receivers) (now parents)) processors tasks network (storeFrom (now hintprocessors) (now hintmoves) (now heldprocessors) (now heldnumbers) (now notes) (now granted) (now awaiting) (now carriedprocessors) (now carriednumbers) (now travellingprocessors) (now travellingmoves)) ⌝ }
-    ensures { λ r. ⌜ RanTo (turnsOf (facts count (now (opcodes .entry)) (now (operands .entry)) (now (numbers .entry)) (now (senders .entry)) (now (receivers .entry)) (now (parents .entry))) processors tasks network (storeFrom (now (hintprocessors .entry)) (now (hintmoves .entry)) (now (heldprocessors .entry)) (now (heldnumbers .entry)) (now (notes .entry)) (now (granted .entry)) (now (awaiting .entry)) (now (carriedprocessors .entry)) (now (carriednumbers .entry)) (now (travellingprocessors .entry)) (now (travellingmoves .entry))) (fileSteps (now (steps .entry)))) (now (out .entry)) r (storeFrom (now (hintprocessors .exit)) (now (hintmoves .exit)) (now (heldprocessors .exit)) (now (heldnumbers .exit)) (now (notes .exit)) (now (granted .exit)) (now (awaiting .exit)) (now (carriedprocessors .exit)) (now (carriednumbers .exit)) (now (travellingprocessors .exit)) (now (travellingmoves .exit))) (now (out .exit)) ⌝ }
+    requires { ⌜ (Linked (now receivers) (now firstreceiving) (now nextreceiving)) × (Linked (now senders) (now firstsending) (now nextsending)) × (length (now steps) / 4 ≤ 2000) × Rig (facts count (now opcodes) (now operands) (now numbers) (now senders) (now receivers) (now parents)) processors tasks network (storeFrom (now hintprocessors) (now hintmoves) (now heldprocessors) (now heldnumbers) (now notes) (now granted) (now awaiting) (now carriedprocessors) (now carriednumbers) (now travellingprocessors) (now travellingmoves)) × (now progress ≡ 0 ∷ 0 ∷ []) ⌝ }
+    ensures { λ r. ⌜ RanTo (turnsOf (facts count (now (opcodes .entry)) (now (operands .entry)) (now (numbers .entry)) (now (senders .entry)) (now (receivers .entry)) (now (parents .entry))) processors tasks network (storeFrom (now (hintprocessors .entry)) (now (hintmoves .entry)) (now (heldprocessors .entry)) (now (heldnumbers .entry)) (now (notes .entry)) (now (granted .entry)) (now (awaiting .entry)) (now (carriedprocessors .entry)) (now (carriednumbers .entry)) (now (travellingprocessors .entry)) (now (travellingmoves .entry))) (fileSteps (now (steps .entry)))) (now (out .entry)) r (storeFrom (now (hintprocessors .exit)) (now (hintmoves .exit)) (now (heldprocessors .exit)) (now (heldnumbers .exit)) (now (notes .exit)) (now (granted .exit)) (now (awaiting .exit)) (now (carriedprocessors .exit)) (now (carriednumbers .exit)) (now (travellingprocessors .exit)) (now (travellingmoves .exit))) (now (progress .exit)) (now (out .exit)) ⌝ }
 {
     let n = steps.len() / 4;
     let mut all = tasks;
     let mut mail = network;
-    let mut filled: usize = 0;
     let mut k: usize = 0;
     while k < n {
         let next = k + 1;
-        // what the step may touch
         let s = step_at(steps, k);
         let t = TaskId(s.task);
         let at = task_slot(t);
-        let x = all[at];
         let used = mail.used;
         let p = position(used, s);
-        let place = letter_slot(p);
-        let slot = mail.slots[place];
-        let m = slot.message;
-        let i = instruction_at(opcodes, operands, t, x.pc);
-        let q = scope_of(senders, receivers, parents, count, s, t, x, i, p, m);
-        let sender = q.sender;
-        let receiver = q.receiver;
-        let from = task_slot(sender);
-        let to = task_slot(receiver);
-        let own = all[from];
-        let other = all[to];
-        let a = found(sender, own);
-        let b = found(receiver, other);
-        // what it leaves
-        let r = act(
-            operands,
-            numbers,
-            senders,
-            receivers,
-            firstreceiving,
-            nextreceiving,
-            firstsending,
-            nextsending,
-            hintprocessors,
-            hintmoves,
-            heldprocessors,
-            heldnumbers,
-            notes,
-            granted,
-            awaiting,
-            carriedprocessors,
-            carriednumbers,
-            travellingprocessors,
-            travellingmoves,
-            count,
-            processors,
-            used,
-            s,
-            t,
-            x,
-            i,
-            p,
-            m,
-            q,
-            a,
-            b,
-        );
-        let left = r.sender;
-        let sent = stored(sender, own, left);
-        all[from] = sent;
-        let beside = all[to];
-        let right = r.receiver;
-        let got = stored(receiver, beside, right);
-        all[to] = got;
-        // the letter that was delivered leaves the mail
-        let behind = mailing::behind(p, used);
-        let mut j: usize = 0;
-        while j < behind {
-            let moved = mail.slots[place + j + 1];
-            mail.slots[place + j] = moved;
-            j += 1;
-        }
-        let last = letter_slot(used);
-        let end = mail.slots[last];
-        let freed = mailing::closed(p, end);
-        mail.slots[last] = freed;
-        let kept = mailing::left(p, used);
-        mail.used = kept;
-        // what is posted joins it
-        let posting = r.posting;
-        let rounds = mailing::rounds(processors, posting);
-        let mut e: u8 = 0;
-        while e < rounds {
-            if !mailing::skips(posting, e) {
-                let l = mailing::letter(posting, e);
-                let free = mail.used;
-                mail.slots[free] = l;
-                mail.used = free + 1;
+        let mut report = accepted();
+        if p != 0 {
+            // a delivery: the letter, and the two tasks that it is about
+            let place = p - 1;
+            let slot = mail.slots[place];
+            let m = slot.message;
+            let q = letter_scope(senders, receivers, parents, m);
+            let from = task_slot(q.sender);
+            let a = found(q.sender, all[from]);
+            let to = task_slot(q.receiver);
+            let b = found(q.receiver, all[to]);
+            let r = letter_act::act(
+                operands,
+                senders,
+                receivers,
+                firstreceiving,
+                nextreceiving,
+                firstsending,
+                nextsending,
+                hintprocessors,
+                hintmoves,
+                heldprocessors,
+                heldnumbers,
+                notes,
+                granted,
+                awaiting,
+                carriedprocessors,
+                carriednumbers,
+                travellingprocessors,
+                travellingmoves,
+                q,
+                m,
+                a,
+                b,
+            );
+            let left = r.sender;
+            if q.sender.0 != 0 {
+                all[from] = left;
             }
-            e += 1;
-        }
-        // its line
-        let answer = r.answer;
-        let received = r.received;
-        let report = Report {
-            answer: answer,
-            received: received,
-        };
-        let written = emit_step(out, filled, next, report);
-        if written == 0 {
-            return Ran {
-                tasks: all,
-                network: mail,
-                filled: filled,
-                whole: false,
+            let right = r.receiver;
+            if q.receiver.0 != 0 {
+                all[to] = right;
+            }
+            // the letter leaves the mail, and what is posted joins it
+            let last = used - 1;
+            let mut j: usize = 0;
+            while place + j < last {
+                let moved = mail.slots[place + j + 1];
+                mail.slots[place + j] = moved;
+                j += 1;
+            }
+            mail.slots[last] = Slot {
+                message: Message::Empty,
             };
+            mail.used = last;
+            let posting = r.posting;
+            if mailing::posts(posting) {
+                let l = mailing::letter(posting, 0);
+                mail.slots[last] = l;
+                mail.used = used;
+            }
+            report = reported(r);
+        } else {
+            let x = all[at];
+            let i = instruction_at(opcodes, operands, t, x.pc);
+            if only_word(count, s, t, x, i) {
+                let y = word_changed(x, i);
+                all[at] = y;
+            } else {
+                // a run, a move, or neither: the task, and the other one of its instruction
+                let none = Message::Empty;
+                let q = scope_of(senders, receivers, parents, count, s, t, x, i, p, none);
+                let from = task_slot(q.sender);
+                let a = found(q.sender, all[from]);
+                let to = task_slot(q.receiver);
+                let b = found(q.receiver, all[to]);
+                let r = act(
+                    operands,
+                    numbers,
+                    senders,
+                    receivers,
+                    firstreceiving,
+                    nextreceiving,
+                    firstsending,
+                    nextsending,
+                    hintprocessors,
+                    hintmoves,
+                    heldprocessors,
+                    heldnumbers,
+                    notes,
+                    granted,
+                    awaiting,
+                    carriedprocessors,
+                    carriednumbers,
+                    travellingprocessors,
+                    travellingmoves,
+                    count,
+                    processors,
+                    used,
+                    s,
+                    t,
+                    x,
+                    i,
+                    p,
+                    none,
+                    q,
+                    a,
+                    b,
+                );
+                let left = r.sender;
+                if q.sender.0 != 0 {
+                    all[from] = left;
+                }
+                let right = r.receiver;
+                if q.receiver.0 != 0 {
+                    all[to] = right;
+                }
+                // what is posted joins the mail
+                let posting = r.posting;
+                let rounds = mailing::rounds(processors, posting);
+                let mut e: u8 = 0;
+                while e < rounds {
+                    if !mailing::skips(posting, e) {
+                        let l = mailing::letter(posting, e);
+                        let free = mail.used;
+                        mail.slots[free] = l;
+                        mail.used = free + 1;
+                    }
+                    e += 1;
+                }
+                report = reported(r);
+            }
         }
-        filled += written;
+        emit_next(out, progress, next, report);
         k = next;
     }
     Ran {
         tasks: all,
         network: mail,
-        filled: filled,
-        whole: true,
     }
 }
