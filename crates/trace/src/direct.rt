@@ -1,4 +1,4 @@
-// The line of a step, written straight into the lent output.
+// The line of a step, written straight into the rest of the lent output.
 ghost use mathlib.Core.Path.{_≡_};
 ghost use mathlib.Core.List.{_∷_, [], _++_};
 ghost use Prim.Native.Nat.{_+_, _<_, _≤_};
@@ -109,13 +109,13 @@ fn put_field(out: &mut [u8], at: usize, n: usize) -> usize
     put_number(out, at + 1, n)
 }
 
-// The numbers of a step and of its answer.
-fn put_head(out: &mut [u8], at: usize, k: usize, a: usize) -> usize
-    requires { ⌜ (k < 100000) × (a < 100000) × (at + length (decimal k ++ (32 ∷ decimal a)) ≤ length (now out)) ⌝ }
-    ensures { λ r. ⌜ PutTo (now (out .entry)) at (decimal k ++ (32 ∷ decimal a)) r (now (out .exit)) ⌝ }
+// The numbers of a step and of its answer, at the front.
+fn put_head(rest: &mut [u8], k: usize, a: usize) -> usize
+    requires { ⌜ (k < 100000) × (a < 100000) × (length (decimal k ++ (32 ∷ decimal a)) ≤ length (now rest)) ⌝ }
+    ensures { λ r. ⌜ PutTo (now (rest .entry)) 0 (decimal k ++ (32 ∷ decimal a)) r (now (rest .exit)) ⌝ }
 {
-    let end = put_number(out, at, k);
-    put_field(out, end, a)
+    let end = put_number(rest, 0, k);
+    put_field(rest, end, a)
 }
 
 // Whether a line of two numbers fits into what is left: no line is longer than 24 bytes.
@@ -140,48 +140,53 @@ fn received_fits(left: usize, k: usize, a: usize, c: usize, w: usize) -> bool
     digits(k) + digits(a) + digits(c) + digits(w) + 4 <= left
 }
 
-// A line of two numbers, if it fits.
-fn emit_head(out: &mut [u8], filled: usize, k: usize, a: usize) -> usize
-    requires { ⌜ (filled ≤ length (now out)) × (k < 100000) × (a < 100000) ⌝ }
-    ensures { λ r. ⌜ Emitted (now (out .entry)) filled (decimal k ++ fields (a ∷ [])) r (now (out .exit)) ⌝ }
+// A line of two numbers at the front, if it fits.
+fn write_head(rest: &mut [u8], k: usize, a: usize) -> usize
+    requires { ⌜ (k < 100000) × (a < 100000) ⌝ }
+    ensures { λ r. ⌜ Emitted (now (rest .entry)) 0 (decimal k ++ fields (a ∷ [])) r (now (rest .exit)) ⌝ }
 {
-    let left = out.len() - filled;
-    if !head_fits(left, k, a) {
+    if !head_fits(rest.len(), k, a) {
         return 0;
     }
-    let end = put_head(out, filled, k, a);
-    out[end] = 10;
-    end + 1 - filled
+    let end = put_head(rest, k, a);
+    rest[end] = 10;
+    end + 1
 }
 
-// A line of two numbers, a channel and a word, if it fits.
-fn emit_received(out: &mut [u8], filled: usize, k: usize, a: usize, c: usize, w: usize) -> usize
-    requires { ⌜ (filled ≤ length (now out)) × (k < 100000) × (a < 100000) × (c < 100000) × (w < 100000) ⌝ }
-    ensures { λ r. ⌜ Emitted (now (out .entry)) filled (decimal k ++ fields (a ∷ c ∷ w ∷ [])) r (now (out .exit)) ⌝ }
+// A line of two numbers, a channel and a word at the front, if it fits.
+fn write_received(rest: &mut [u8], k: usize, a: usize, c: usize, w: usize) -> usize
+    requires { ⌜ (k < 100000) × (a < 100000) × (c < 100000) × (w < 100000) ⌝ }
+    ensures { λ r. ⌜ Emitted (now (rest .entry)) 0 (decimal k ++ fields (a ∷ c ∷ w ∷ [])) r (now (rest .exit)) ⌝ }
 {
-    let left = out.len() - filled;
-    if !received_fits(left, k, a, c, w) {
+    if !received_fits(rest.len(), k, a, c, w) {
         return 0;
     }
-    let head = put_head(out, filled, k, a);
-    let channel = put_field(out, head, c);
-    let word = put_field(out, channel, w);
-    out[word] = 10;
-    word + 1 - filled
+    let head = put_head(rest, k, a);
+    let channel = put_field(rest, head, c);
+    let word = put_field(rest, channel, w);
+    rest[word] = 10;
+    word + 1
 }
 
-// The line of the k-th step, if it fits: how many bytes were written, 0 where it does not fit.
-pub fn emit_step(out: &mut [u8], filled: usize, k: usize, q: Report) -> usize
-    requires { ⌜ (filled ≤ length (now out)) × (k < 100000) ⌝ }
-    ensures { λ r. ⌜ Emitted (now (out .entry)) filled (stepLine k q) r (now (out .exit)) ⌝ }
+// The line of the k-th step at the front of the rest of the output, if it fits: how many bytes were written.
+fn write_step(rest: &mut [u8], k: usize, q: Report) -> usize
+    requires { ⌜ k < 100000 ⌝ }
+    ensures { λ r. ⌜ Emitted (now (rest .entry)) 0 (stepLine k q) r (now (rest .exit)) ⌝ }
 {
     let answer = q.answer;
     let received = q.received;
     let a = base::wide8(answer_number(answer));
     match received {
-        Received::Nothing => emit_head(out, filled, k, a),
-        Received::Word(c, w) => {
-            emit_received(out, filled, k, a, base::wide8(c.0), base::wide16(w.0))
-        }
+        Received::Nothing => write_head(rest, k, a),
+        Received::Word(c, w) => write_received(rest, k, a, base::wide8(c.0), base::wide16(w.0)),
     }
+}
+
+// The line of the k-th step written into the part of the output that is not yet filled: how many bytes were written,
+// 0 where it does not fit.
+pub fn emit_step(out: &mut [u8], filled: usize, k: usize, q: Report) -> usize
+    requires { ⌜ (filled ≤ length (now out)) × (k < 100000) ⌝ }
+    ensures { λ r. ⌜ Emitted (now (out .entry)) filled (stepLine k q) r (now (out .exit)) ⌝ }
+{
+    write_step(&mut out[filled..], k, q)
 }

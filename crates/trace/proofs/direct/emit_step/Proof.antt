@@ -1,71 +1,34 @@
--- `emit_step` writes the line of a step, if it fits.
-use mathlib.Core.Path.{_∙_}
-use native.Mathlib.Omega.{arith}
-use Rattle.trace.proofs.Putting.{step-none, step-word}
+-- `emit_step` puts the line of a step behind what is filled, if it fits.
 use borrow.Author.Needs.{needs}
+use Rattle.trace.proofs.Emitting.{put-back}
 use Rattle.trace.proofs.direct.emit_step.Statement.{statement}
 use Rattle.trace.proofs.direct.emit_step.Tie as tie
 
-answer-number-requires : tie.Need-answer-number-requires
-answer-number-requires c κs = search needs
+sub-write-step : tie.Need-sub-write-step
+sub-write-step c = search needs
 
-wide8-requires : tie.Need-wide8-requires
-wide8-requires c κs = search needs
+part-write-step-start : tie.Need-part-write-step-start
+part-write-step-start c = search needs
 
-enum-told : tie.Need-enum-told
-enum-told c = search needs
+part-write-step-end : tie.Need-part-write-step-end
+part-write-step-end c = search needs
 
-emit-head-requires : tie.Need-emit-head-requires
-emit-head-requires c κs = search needs
-
-enum-known-received : tie.Need-enum-known-received
-enum-known-received c = search needs
-
-wide8-requires-2 : tie.Need-wide8-requires-2
-wide8-requires-2 c κs = search needs
-
-wide16-requires : tie.Need-wide16-requires
-wide16-requires c κs = search needs
-
-emit-received-requires : tie.Need-emit-received-requires
-emit-received-requires c κs = search needs
+write-step-requires : tie.Need-write-step-requires
+write-step-requires c κs = search needs
 
 same-length : tie.Need-same-length
 same-length c = search needs
 
 returns : tie.Need-returns
-returns c =
-    let h = c .before .before in
-    let told = h .before .before in
-    let wide = told .before .before in
-    let a = wide .before .before .before .args in
-    rw (← step-none (a .k) (a .q) (wide .wide8 .result) (wide .wide8 .ensures ∙ wide .before .answer-number .ensures) (told .enum-told .given .1)) (h .emit-head .ensures)
-
-same-length-2 : tie.Need-same-length-2
-same-length-2 c = search needs
-
-returns-2 : tie.Need-returns-2
-returns-2 c =
-    let h = c .before .before in
-    let w = h .before in
-    let known = w .before .before .before .before in
-    let wide = known .before .before in
-    let a = wide .before .before .before .args in
-    rw (← step-word (a .k) (a .q) (wide .wide8 .result) (wide .wide8 .ensures ∙ wide .before .answer-number .ensures) _ _ (known .received .given .1) _ _ (w .before .wide82 .ensures) (w .wide16 .ensures)) (h .emit-received .ensures)
+returns c = put-back _ _ _ _ _ (c .before .before .before .before .before .pre .0) (c .before .before .write-step .ensures)
 
 pub emit-step-spec : {M : Type 1} → statement M
 emit-step-spec =
     tie.close
     (tie.spec
-    answer-number-requires
-    wide8-requires
-    enum-told
-    emit-head-requires
-    enum-known-received
-    wide8-requires-2
-    wide16-requires
-    emit-received-requires
+    sub-write-step
+    part-write-step-start
+    part-write-step-end
+    write-step-requires
     same-length
-    returns
-    same-length-2
-    returns-2)
+    returns)

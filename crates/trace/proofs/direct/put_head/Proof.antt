@@ -1,4 +1,4 @@
--- `put_head` writes two numbers, a space between.
+-- `put_head` writes two numbers at the front, a space between.
 use native.Mathlib.Omega.{arith}
 use Rattle.trace.proofs.Putting.{put-length, put-to-more, head-length}
 use borrow.Author.Needs.{needs}

@@ -1,7 +1,7 @@
--- `emit_received` writes a line of four numbers, if it fits.
+-- `write_received` writes a line of four numbers at the front, if it fits.
 use mathlib.Core.Path.{_≡_, refl, sym, _∙_}
 use mathlib.Core.List.{[], _∷_, _++_}
-use Prim.Native.Nat.{_+_, _-_, _≤_, _<_}
+use Prim.Native.Nat.{_+_, _≤_, _<_}
 use native.Mathlib.Omega.{arith}
 use lib.ListN.{length, length-set}
 use borrow.Author.Tests.{not-true, not-false, leb-true, leb-false}
@@ -10,11 +10,8 @@ use Rattle.trace.specs.Output.{PutTo}
 use Rattle.trace.proofs.Emitting.{fits-not}
 use Rattle.trace.proofs.Putting.{put-length, put-to-more, line-end, head-length, four-text, four-length}
 use borrow.Author.Needs.{needs}
-use Rattle.trace.proofs.direct.emit_received.Statement.{statement}
-use Rattle.trace.proofs.direct.emit_received.Tie as tie
-
-sub-left : tie.Need-sub-left
-sub-left c = search needs
+use Rattle.trace.proofs.direct.write_received.Statement.{statement}
+use Rattle.trace.proofs.direct.write_received.Tie as tie
 
 received-fits-requires : tie.Need-received-fits-requires
 received-fits-requires c κs = search needs
@@ -23,14 +20,14 @@ abbrev start : tie.Else1 → tie.Start
 start c = c .before .before .before
 
 -- the line fits; where the first two numbers end
-room : (c : tie.Else1) → let a = start c .args in a .filled + length (decimal (a .k) ++ fields (a .a ∷ a .c ∷ a .w ∷ [])) ≤ length (a .out .now)
+room : (c : tie.Else1) → let a = start c .args in length (decimal (a .k) ++ fields (a .a ∷ a .c ∷ a .w ∷ [])) ≤ length (a .rest .now)
 room c =
     let f = c .before .received-fits in
     let a = start c .args in
-    omega (arith, leb-true (length (decimal (a .k) ++ fields (a .a ∷ a .c ∷ a .w ∷ []))) (length (a .out .now) - a .filled) (sym (f .ensures) ∙ not-false (f .result) (c .if1 .left)), start c .pre .0)
+    leb-true (length (decimal (a .k) ++ fields (a .a ∷ a .c ∷ a .w ∷ []))) (length (a .rest .now)) (sym (f .ensures) ∙ not-false (f .result) (c .if1 .left))
 
 head-end : (c : tie.After-put-head) → let a = start (c .before .before) .args in
-    c .put-head .result ≡ a .filled + (length (decimal (a .k)) + length (decimal (a .a)) + 1)
+    c .put-head .result ≡ length (decimal (a .k)) + length (decimal (a .a)) + 1
 head-end c =
     let a = start (c .before .before) .args in
     omega (arith, c .put-head .ensures .end, head-length (a .k) (a .a))
@@ -43,13 +40,13 @@ abbrev else1 : tie.After-put-field2 → tie.Else1
 else1 c = head c .before .before
 
 written : (c : tie.After-put-field2) → let a = start (else1 c) .args in
-    PutTo (a .out .now) (a .filled) (((decimal (a .k) ++ (32 ∷ decimal (a .a))) ++ (32 ∷ decimal (a .c))) ++ (32 ∷ decimal (a .w))) (c .put-field2 .result) (c .put-field2 .last .0)
+    PutTo (a .rest .now) 0 (((decimal (a .k) ++ (32 ∷ decimal (a .a))) ++ (32 ∷ decimal (a .c))) ++ (32 ∷ decimal (a .w))) (c .put-field2 .result) (c .put-field2 .last .0)
 written c =
     put-to-more (put-to-more (head c .put-head .ensures) (c .before .before .before .before .put-field .ensures)) (c .put-field2 .ensures)
 
 word-end : (c : tie.After-put-field2) → let a = start (else1 c) .args in
-    (c .put-field2 .result ≡ a .filled + (length (decimal (a .k)) + length (decimal (a .a)) + length (decimal (a .c)) + length (decimal (a .w)) + 3))
-    × (c .put-field2 .result < length (a .out .now))
+    (c .put-field2 .result ≡ length (decimal (a .k)) + length (decimal (a .a)) + length (decimal (a .c)) + length (decimal (a .w)) + 3)
+    × (c .put-field2 .result < length (a .rest .now))
 word-end c =
     let a = start (else1 c) .args in
     omega (arith, head-end (head c), c .before .before .before .before .put-field .ensures .end, c .put-field2 .ensures .end, room (else1 c), four-length (a .k) (a .a) (a .c) (a .w))
@@ -59,7 +56,7 @@ returns c =
     let f = c .before in
     let short = sym (f .received-fits .ensures) ∙ not-true (f .received-fits .result) (c .if1 .taken) in
     let a = f .before .before .args in
-    fits-not (omega (arith, leb-false (length (decimal (a .k) ++ fields (a .a ∷ a .c ∷ a .w ∷ []))) (length (a .out .now) - a .filled) short)) refl refl
+    fits-not (omega (arith, leb-false (length (decimal (a .k) ++ fields (a .a ∷ a .c ∷ a .w ∷ []))) (length (a .rest .now)) short)) refl refl
 
 put-head-requires : tie.Need-put-head-requires
 put-head-requires c κs =
@@ -79,14 +76,11 @@ put-field-requires-2 c κs =
     let a = start (h .before .before) .args in
     (search needs, omega (arith, room (h .before .before), head-end h, f .put-field .ensures .end, four-length (a .k) (a .a) (a .c) (a .w)))
 
-slice-write-out : tie.Need-slice-write-out
-slice-write-out c = omega (arith, word-end (c .before .before) .1)
+slice-write-rest : tie.Need-slice-write-rest
+slice-write-rest c = omega (arith, word-end (c .before .before) .1)
 
 add-result : tie.Need-add-result
 add-result c = search needs
-
-sub-result : tie.Need-sub-result
-sub-result c = search needs
 
 same-length : tie.Need-same-length
 same-length c = simp length-set (put-length (written (c .before .before) .put))
@@ -97,18 +91,16 @@ returns-2 c =
     let a = start (else1 w) .args in
     line-end (written w) _ _ (four-text (a .k) (a .a) (a .c) (a .w)) (word-end w .1) (omega (arith, word-end w .0, four-length (a .k) (a .a) (a .c) (a .w)))
 
-pub emit-received-spec : {M : Type 1} → statement M
-emit-received-spec =
+pub write-received-spec : {M : Type 1} → statement M
+write-received-spec =
     tie.close
     (tie.spec
-    sub-left
     received-fits-requires
     returns
     put-head-requires
     put-field-requires
     put-field-requires-2
-    slice-write-out
+    slice-write-rest
     add-result
-    sub-result
     same-length
     returns-2)
