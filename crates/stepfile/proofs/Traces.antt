@@ -4,7 +4,8 @@ use mathlib.Core.Bool.{Bool, true, false}
 use mathlib.Core.List.{List, [], _∷_, _++_}
 use Prim.Native.Nat.{ℕ, _≤_}
 use native.Mathlib.Omega.{arith}
-use lib.ListN.{length}
+use lib.ListN.{length, getD}
+use borrow.Author.Tests.{eq-eqb, ne-eqb}
 use Rattle.rules.specs.declared.task.Task.{Task}
 use Rattle.rules.specs.declared.message.Network.{Network}
 use Rattle.rules.specs.declared.step.Step.{Step}
@@ -24,7 +25,7 @@ use Rattle.trace.proofs.Lines.{end-of}
 use Rattle.trace.proofs.Filling.{filled-length}
 use Rattle.stepfile.specs.declared.drive.Driven.{Driven}
 use Rattle.steploop.specs.declared.Ran.{Ran}
-use Rattle.steploop.specs.Writes.{Written, Turns, turnsOf, RanTo}
+use Rattle.steploop.specs.Writes.{Written, Turns, turnsOf, RanTo, filledBy}
 use Rattle.steploop.proofs.Fits.{written-filled, written-over}
 use Rattle.stepfile.specs.Writes.{Ended}
 use Rattle.stepfile.proofs.Fits.{written-end}
@@ -66,23 +67,23 @@ module _ {f : Facts} {n : ℕ} {ts : List Task} {k : Network} {s : Store} (g : R
       ap (λ (q : Network). q .used) (w .rig .network) ∙ ap (λ (p : System). p .network .used) (w .system) in
       rw (rest, used, w .reports, end-of (steps (g .system) xs .system)) refl
 
-  module _ {before : List ℕ} {ran : Ran} {kept : Store} {mid : List ℕ} (h : RanTo ranIn before ran kept mid) where
+  module _ {before : List ℕ} {ran : Ran} {kept : Store} {progress mid : List ℕ} (h : RanTo ranIn before ran kept progress mid) where
+    pub ran-rig : Rig f n (ran .tasks) (ran .network) kept
+    ran-rig = rw (h .tasks, h .network, h .store) (stood-in .rig)
+
     -- a line of a step does not fit
-    pub driven-short : ran .whole ≡ false → Written (traceLines (g .system) xs) before (ran .filled) false mid
-    driven-short w = rw (trace-lines _ refl) (written-over _ (rw w at (h .lines)))
+    pub driven-short : (getD progress 1 0 ≡ 0 → ⊥) → Written (traceLines (g .system) xs) before (filledBy progress) false mid
+    driven-short w = rw (trace-lines _ refl) (written-over _ (rw (ne-eqb (getD progress 1 0) 0 w) at (h .lines)))
 
     -- they all fit
-    module _ (w : ran .whole ≡ true) where
-      pub ran-rig : Rig f n (ran .tasks) (ran .network) kept
-      ran-rig = rw (h .tasks w, h .network w, h .store w) (stood-in .rig)
+    module _ (w : getD progress 1 0 ≡ 0) where
+      all-fit : Written (stepLines 0 (ranIn .reports)) before (filledBy progress) true mid
+      all-fit = rw (eq-eqb (getD progress 1 0) 0 w) at (h .lines)
 
-      pub ran-room : ran .filled ≤ length mid
-      ran-room =
-          let l = written-filled (rw w at (h .lines)) in
-          omega (arith, l .end, l .room, filled-length l)
+      pub ran-room : filledBy progress ≤ length mid
+      ran-room = let l = written-filled all-fit in omega (arith, l .end, l .room, filled-length l)
 
       pub driven-end : {d : Driven} {after : List ℕ} (b : Bool) → b ≡ restIn f n (ran .tasks) kept (ran .network .used)
-          → Ended (endText b (ran .network .used)) mid (ran .filled) d after
+          → Ended (endText b (ran .network .used)) mid (filledBy progress) d after
           → Written (traceLines (g .system) xs) before (d .filled) (d .whole) after
-      driven-end b e t =
-          rw (trace-lines b (rw (h .tasks w, h .network w, h .store w) at e)) (written-end (rw w at (h .lines)) (rw (h .network w) at t))
+      driven-end b e t = rw (trace-lines b (rw (h .tasks, h .network, h .store) at e)) (written-end all-fit (rw (h .network) at t))

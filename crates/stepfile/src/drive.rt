@@ -93,6 +93,7 @@ pub fn drive<'a>(
     );
     let tasks = start_tasks();
     let network = no_letters();
+    let mut progress = [0usize; 2];
     let ran = run_steps(
         count,
         opcodes,
@@ -121,9 +122,10 @@ pub fn drive<'a>(
         network,
         steps,
         out,
+        &mut progress,
     );
-    let filled = ran.filled;
-    if !ran.whole {
+    let filled = progress[0];
+    if progress[1] != 0 {
         return Driven {
             filled: filled,
             whole: false,
