@@ -25,7 +25,7 @@ pub fn only_word(count: u8, s: Step, t: TaskId, x: Task, i: Instruction) -> bool
     if !tasks::state::is_in(x, TaskState::Ready) {
         return false;
     }
-    6 <= i.opcode
+    SET <= i.opcode
 }
 
 // What that instruction leaves of the task.

@@ -92,8 +92,8 @@ pub fn run_steps<'a>(
             let m = slot.message;
             let q = letter_scope(senders, receivers, parents, m);
             let from = task_slot(q.sender);
-            let a = found(q.sender, all[from]);
             let to = task_slot(q.receiver);
+            let a = found(q.sender, all[from]);
             let b = found(q.receiver, all[to]);
             let r = letter_act::act(
                 operands,
@@ -157,8 +157,8 @@ pub fn run_steps<'a>(
                 let none = Message::Empty;
                 let q = scope_of(senders, receivers, parents, count, s, t, x, i, p, none);
                 let from = task_slot(q.sender);
-                let a = found(q.sender, all[from]);
                 let to = task_slot(q.receiver);
+                let a = found(q.sender, all[from]);
                 let b = found(q.receiver, all[to]);
                 let r = act(
                     operands,

@@ -111,16 +111,16 @@ found-at ts e = ap (λ (q : Scope). foundAt (q .sender) (getD ts (taskSlot (q .s
 found-to : (ts : List Task) {q r : Scope} → q ≡ r → foundAt (q .receiver) (getD ts (taskSlot (q .receiver)) noTask) ≡ foundAt (r .receiver) (getD ts (taskSlot (r .receiver)) noTask)
 found-to ts e = ap (λ (q : Scope). foundAt (q .receiver) (getD ts (taskSlot (q .receiver)) noTask)) e
 
-sender-is : (c : tie.After-found Inv-loop2 μ-loop2 Inv-loop3 μ-loop3 Inv-loop μ-loop) → c .found .result ≡ seenSender (given (c .before .before .before .before .before .before .before .before .before .before .before .before .before .before)) (c .before .before .before .before .before .before .before .before .before .before .before .loop .all) (c .before .before .before .before .before .before .before .before .before .before .before .loop .mail) (c .before .before .before .before .before .before .before .before .before .step-at .result)
+sender-is : (c : tie.After-found Inv-loop2 μ-loop2 Inv-loop3 μ-loop3 Inv-loop μ-loop) → c .found .result ≡ seenSender (given (c .before .before .before .before .before .before .before .before .before .before .before .before .before .before .before)) (c .before .before .before .before .before .before .before .before .before .before .before .before .loop .all) (c .before .before .before .before .before .before .before .before .before .before .before .before .loop .mail) (c .before .before .before .before .before .before .before .before .before .before .step-at .result)
 sender-is c =
     c .found .ensures
-    ∙ ap (λ n. foundAt (c .before .before .before .letter-scope .result .sender) (getD (c .before .before .before .before .before .before .before .before .before .before .before .loop .all) n noTask)) (c .before .before .task-slot2 .ensures .0)
-    ∙ found-at (c .before .before .before .before .before .before .before .before .before .before .before .loop .all) (scope-is (c .before .before .before))
+    ∙ ap (λ n. foundAt (c .before .before .before .before .letter-scope .result .sender) (getD (c .before .before .before .before .before .before .before .before .before .before .before .before .loop .all) n noTask)) (c .before .before .before .task-slot2 .ensures .0)
+    ∙ found-at (c .before .before .before .before .before .before .before .before .before .before .before .before .loop .all) (scope-is (c .before .before .before .before))
 
 receiver-is : (c : tie.After-found2 Inv-loop2 μ-loop2 Inv-loop3 μ-loop3 Inv-loop μ-loop) → c .found2 .result ≡ seenReceiver (given (c .before .before .before .before .before .before .before .before .before .before .before .before .before .before .before .before .before)) (c .before .before .before .before .before .before .before .before .before .before .before .before .before .before .loop .all) (c .before .before .before .before .before .before .before .before .before .before .before .before .before .before .loop .mail) (c .before .before .before .before .before .before .before .before .before .before .before .before .step-at .result)
 receiver-is c =
     c .found2 .ensures
-    ∙ ap (λ n. foundAt (c .before .before .before .before .before .before .letter-scope .result .receiver) (getD (c .before .before .before .before .before .before .before .before .before .before .before .before .before .before .loop .all) n noTask)) (c .before .before .task-slot3 .ensures .0)
+    ∙ ap (λ n. foundAt (c .before .before .before .before .before .before .letter-scope .result .receiver) (getD (c .before .before .before .before .before .before .before .before .before .before .before .before .before .before .loop .all) n noTask)) (c .before .before .before .before .task-slot3 .ensures .0)
     ∙ found-to (c .before .before .before .before .before .before .before .before .before .before .before .before .before .before .loop .all) (scope-is (c .before .before .before .before .before .before))
 
 -- another step
@@ -147,16 +147,16 @@ scope2-is c =
     ∙ ap (λ (j : Instruction). at (seenTask (given (c .before .before .before .before .before .before .before .before .before .before .before .before .before .before)) (c .before .before .before .before .before .before .before .before .before .before .before .loop .all) (c .before .before .before .before .before .before .before .before .before .before .before .loop .mail) (c .before .before .before .before .before .before .before .before .before .step-at .result)) j (c .before .before .before .before .before .before .before .position .result) Empty) (instruction-is (c .before .before .before))
     ∙ none-scope (f .senders) (f .receivers) (f .parents) (f .tasks) (c .before .before .before .before .before .before .before .before .before .step-at .result) (named (given (c .before .before .before .before .before .before .before .before .before .before .before .before .before .before)) (c .before .before .before .before .before .before .before .before .before .before .before .loop .all) (c .before .before .before .before .before .before .before .before .before .before .before .loop .mail) (c .before .before .before .before .before .before .before .before .before .step-at .result)) (seenTask (given (c .before .before .before .before .before .before .before .before .before .before .before .before .before .before)) (c .before .before .before .before .before .before .before .before .before .before .before .loop .all) (c .before .before .before .before .before .before .before .before .before .before .before .loop .mail) (c .before .before .before .before .before .before .before .before .before .step-at .result)) (seenInstruction (given (c .before .before .before .before .before .before .before .before .before .before .before .before .before .before)) (c .before .before .before .before .before .before .before .before .before .before .before .loop .all) (c .before .before .before .before .before .before .before .before .before .before .before .loop .mail) (c .before .before .before .before .before .before .before .before .before .step-at .result)) (c .before .before .before .before .before .before .before .position .result) (seenPosition (given (c .before .before .before .before .before .before .before .before .before .before .before .before .before .before)) (c .before .before .before .before .before .before .before .before .before .before .before .loop .all) (c .before .before .before .before .before .before .before .before .before .before .before .loop .mail) (c .before .before .before .before .before .before .before .before .before .step-at .result)) Empty (seenLetter (given (c .before .before .before .before .before .before .before .before .before .before .before .before .before .before)) (c .before .before .before .before .before .before .before .before .before .before .before .loop .all) (c .before .before .before .before .before .before .before .before .before .before .before .loop .mail) (c .before .before .before .before .before .before .before .before .before .step-at .result)) (none-is (c .before .before .before .before .before)) (seen-none (c .before .before .before .before .before))
 
-sender2-is : (c : tie.After-found3 Inv-loop2 μ-loop2 Inv-loop3 μ-loop3 Inv-loop μ-loop) → c .found3 .result ≡ seenSender (given (c .before .before .before .before .before .before .before .before .before .before .before .before .before .before .before .before .before)) (c .before .before .before .before .before .before .before .before .before .before .before .before .before .before .loop .all) (c .before .before .before .before .before .before .before .before .before .before .before .before .before .before .loop .mail) (c .before .before .before .before .before .before .before .before .before .before .before .before .step-at .result)
+sender2-is : (c : tie.After-found3 Inv-loop2 μ-loop2 Inv-loop3 μ-loop3 Inv-loop μ-loop) → c .found3 .result ≡ seenSender (given (c .before .before .before .before .before .before .before .before .before .before .before .before .before .before .before .before .before .before)) (c .before .before .before .before .before .before .before .before .before .before .before .before .before .before .before .loop .all) (c .before .before .before .before .before .before .before .before .before .before .before .before .before .before .before .loop .mail) (c .before .before .before .before .before .before .before .before .before .before .before .before .before .step-at .result)
 sender2-is c =
     c .found3 .ensures
-    ∙ ap (λ n. foundAt (c .before .before .before .scope-of .result .sender) (getD (c .before .before .before .before .before .before .before .before .before .before .before .before .before .before .loop .all) n noTask)) (c .before .before .task-slot4 .ensures .0)
-    ∙ found-at (c .before .before .before .before .before .before .before .before .before .before .before .before .before .before .loop .all) (scope2-is (c .before .before .before))
+    ∙ ap (λ n. foundAt (c .before .before .before .before .scope-of .result .sender) (getD (c .before .before .before .before .before .before .before .before .before .before .before .before .before .before .before .loop .all) n noTask)) (c .before .before .before .task-slot4 .ensures .0)
+    ∙ found-at (c .before .before .before .before .before .before .before .before .before .before .before .before .before .before .before .loop .all) (scope2-is (c .before .before .before .before))
 
 receiver2-is : (c : tie.After-found4 Inv-loop2 μ-loop2 Inv-loop3 μ-loop3 Inv-loop μ-loop) → c .found4 .result ≡ seenReceiver (given (c .before .before .before .before .before .before .before .before .before .before .before .before .before .before .before .before .before .before .before .before)) (c .before .before .before .before .before .before .before .before .before .before .before .before .before .before .before .before .before .loop .all) (c .before .before .before .before .before .before .before .before .before .before .before .before .before .before .before .before .before .loop .mail) (c .before .before .before .before .before .before .before .before .before .before .before .before .before .before .before .step-at .result)
 receiver2-is c =
     c .found4 .ensures
-    ∙ ap (λ n. foundAt (c .before .before .before .before .before .before .scope-of .result .receiver) (getD (c .before .before .before .before .before .before .before .before .before .before .before .before .before .before .before .before .before .loop .all) n noTask)) (c .before .before .task-slot5 .ensures .0)
+    ∙ ap (λ n. foundAt (c .before .before .before .before .before .before .scope-of .result .receiver) (getD (c .before .before .before .before .before .before .before .before .before .before .before .before .before .before .before .before .before .loop .all) n noTask)) (c .before .before .before .before .task-slot5 .ensures .0)
     ∙ found-to (c .before .before .before .before .before .before .before .before .before .before .before .before .before .before .before .before .before .loop .all) (scope2-is (c .before .before .before .before .before .before))
 
 -- the tasks then
@@ -172,7 +172,7 @@ receiver-stored c =
     let t = c .before .before .before .before .before .before .before .before .before .before .before .before .before .before .before .before .before .before .before .before .before .before .before .before .letter-scope .result .receiver in
     let y = c .before .before .before .before .before .before .act .result .receiver in
     let l = subst (λ (q : Scope). q .receiver .0 ≤ 64) (sym (scope-is (c .before .before .before .before .before .before .before .before .before .before .before .before .before .before .before .before .before .before .before .before .before .before .before .before))) (receiver-few (rig (c .before .before .before .before .before .before .before .before .before .before .before .before .before .before .before .before .before .before .before .before .before .before .before .before .before .before .before .before .before .before .before)) (c .before .before .before .before .before .before .before .before .before .before .before .before .before .before .before .before .before .before .before .before .before .before .before .before .before .before .before .before .before .before .step-at .result)) in
-    ⊎-elim (λ w. w .1 ∙ ap (λ n. set (c .before .before .before .if2 .all) n y) (c .before .before .before .before .before .before .before .before .before .before .before .before .before .before .before .before .before .before .before .before .task-slot3 .ensures .0) ∙ put-some (c .before .before .before .if2 .all) t l y (w .0 .taken)) (λ w. w .1 ∙ put-none (c .before .before .before .if2 .all) t l y (w .0 .left)) (c .if3 .came)
+    ⊎-elim (λ w. w .1 ∙ ap (λ n. set (c .before .before .before .if2 .all) n y) (c .before .before .before .before .before .before .before .before .before .before .before .before .before .before .before .before .before .before .before .before .before .before .task-slot3 .ensures .0) ∙ put-some (c .before .before .before .if2 .all) t l y (w .0 .taken)) (λ w. w .1 ∙ put-none (c .before .before .before .if2 .all) t l y (w .0 .left)) (c .if3 .came)
 
 sender2-stored : (c : tie.Joined6 Inv-loop2 μ-loop2 Inv-loop3 μ-loop3 Inv-loop μ-loop) → c .if6 .all ≡ taskStored (c .before .before .before .before .before .before .before .before .before .before .before .before .before .before .before .before .before .before .before .before .before .before .before .before .before .before .before .before .before .before .before .before .loop .all) (c .before .before .before .before .before .before .before .before .before .before .before .before .before .before .before .before .before .before .before .before .before .scope-of .result .sender) (c .before .before .before .act2 .result .sender)
 sender2-stored c =
@@ -186,7 +186,7 @@ receiver2-stored c =
     let t = c .before .before .before .before .before .before .before .before .before .before .before .before .before .before .before .before .before .before .before .before .before .before .before .before .scope-of .result .receiver in
     let y = c .before .before .before .before .before .before .act2 .result .receiver in
     let l = subst (λ (q : Scope). q .receiver .0 ≤ 64) (sym (scope2-is (c .before .before .before .before .before .before .before .before .before .before .before .before .before .before .before .before .before .before .before .before .before .before .before .before))) (receiver-few (rig (c .before .before .before .before .before .before .before .before .before .before .before .before .before .before .before .before .before .before .before .before .before .before .before .before .before .before .before .before .before .before .before .before .before .before)) (c .before .before .before .before .before .before .before .before .before .before .before .before .before .before .before .before .before .before .before .before .before .before .before .before .before .before .before .before .before .before .before .before .before .step-at .result)) in
-    ⊎-elim (λ w. w .1 ∙ ap (λ n. set (c .before .before .before .if6 .all) n y) (c .before .before .before .before .before .before .before .before .before .before .before .before .before .before .before .before .before .before .before .before .task-slot5 .ensures .0) ∙ put-some (c .before .before .before .if6 .all) t l y (w .0 .taken)) (λ w. w .1 ∙ put-none (c .before .before .before .if6 .all) t l y (w .0 .left)) (c .if7 .came)
+    ⊎-elim (λ w. w .1 ∙ ap (λ n. set (c .before .before .before .if6 .all) n y) (c .before .before .before .before .before .before .before .before .before .before .before .before .before .before .before .before .before .before .before .before .before .before .task-slot5 .ensures .0) ∙ put-some (c .before .before .before .if6 .all) t l y (w .0 .taken)) (λ w. w .1 ∙ put-none (c .before .before .before .if6 .all) t l y (w .0 .left)) (c .if7 .came)
 
 -- a letter that moves is within the mail
 inside : (c : tie.In-loop2 Inv-loop2 μ-loop2 Inv-loop3 μ-loop3 Inv-loop μ-loop) → c .before .before .before .before .before .before .before .before .before .before .before .before .before .before .before .before .before .before .before .before .before .before .before .before .before .before .before .before .before .before .position .result - 1 + c .before .loop2 .j + 1 < c .before .before .before .before .before .before .before .before .before .before .before .before .before .before .before .before .before .before .before .before .before .before .before .before .before .before .before .before .before .before .before .before .before .before .loop .mail .used
@@ -217,7 +217,7 @@ one-more c = let l = c .before .before .position .ensures .1 in omega (arith, l,
 at-most : (c : tie.After-act Inv-loop2 μ-loop2 Inv-loop3 μ-loop3 Inv-loop μ-loop) → AtMostOne (c .act .result .posting)
 at-most c =
     let q = c .before .before .before .before .before .before .before .before .before .before .before .before .before .before .before .before .before .before .letter-scope .result in
-    subst (λ (r : Act). AtMostOne (r .posting)) (sym (c .act .ensures .0)) (letter-posts q (getD (c .before .before .before .before .before .before .before .before .before .before .before .before .before .before .before .before .before .before .before .before .before .before .before .before .before .before .loop .mail .slots) (c .before .before .before .before .before .before .before .before .before .before .before .before .before .before .before .before .before .before .before .before .before .before .position .result - 1) noSlot .message) (siteAt ((given (c .before .before .before .before .before .before .before .before .before .before .before .before .before .before .before .before .before .before .before .before .before .before .before .before .before .before .before .before .before)) .operands) q (c .before .before .before .before .before .before .before .before .before .before .before .before .before .before .before .found .result) (c .before .before .before .before .before .before .before .before .before .before .before .before .found2 .result) (cellOf (storeFrom (c .before .before .before .before .before .before .before .before .before .before .before .before .before .before .before .before .before .before .before .before .before .before .before .before .before .before .loop .hintprocessors) (c .before .before .before .before .before .before .before .before .before .before .before .before .before .before .before .before .before .before .before .before .before .before .before .before .before .before .loop .hintmoves) (c .before .before .before .before .before .before .before .before .before .before .before .before .before .before .before .before .before .before .before .before .before .before .before .before .before .before .loop .heldprocessors) (c .before .before .before .before .before .before .before .before .before .before .before .before .before .before .before .before .before .before .before .before .before .before .before .before .before .before .loop .heldnumbers) (c .before .before .before .before .before .before .before .before .before .before .before .before .before .before .before .before .before .before .before .before .before .before .before .before .before .before .loop .notes) (c .before .before .before .before .before .before .before .before .before .before .before .before .before .before .before .before .before .before .before .before .before .before .before .before .before .before .loop .granted) (c .before .before .before .before .before .before .before .before .before .before .before .before .before .before .before .before .before .before .before .before .before .before .before .before .before .before .loop .awaiting) (c .before .before .before .before .before .before .before .before .before .before .before .before .before .before .before .before .before .before .before .before .before .before .before .before .before .before .loop .carriedprocessors) (c .before .before .before .before .before .before .before .before .before .before .before .before .before .before .before .before .before .before .before .before .before .before .before .before .before .before .loop .carriednumbers) (c .before .before .before .before .before .before .before .before .before .before .before .before .before .before .before .before .before .before .before .before .before .before .before .before .before .before .loop .travellingprocessors) (c .before .before .before .before .before .before .before .before .before .before .before .before .before .before .before .before .before .before .before .before .before .before .before .before .before .before .loop .travellingmoves)) q)))
+    subst (λ (r : Act). AtMostOne (r .posting)) (sym (c .act .ensures .0)) (letter-posts q (getD (c .before .before .before .before .before .before .before .before .before .before .before .before .before .before .before .before .before .before .before .before .before .before .before .before .before .before .loop .mail .slots) (c .before .before .before .before .before .before .before .before .before .before .before .before .before .before .before .before .before .before .before .before .before .before .position .result - 1) noSlot .message) (siteAt ((given (c .before .before .before .before .before .before .before .before .before .before .before .before .before .before .before .before .before .before .before .before .before .before .before .before .before .before .before .before .before)) .operands) q (c .before .before .before .before .before .before .before .before .before .before .before .before .before .before .found .result) (c .before .before .before .before .before .before .before .before .before .before .before .before .found2 .result) (cellOf (storeFrom (c .before .before .before .before .before .before .before .before .before .before .before .before .before .before .before .before .before .before .before .before .before .before .before .before .before .before .loop .hintprocessors) (c .before .before .before .before .before .before .before .before .before .before .before .before .before .before .before .before .before .before .before .before .before .before .before .before .before .before .loop .hintmoves) (c .before .before .before .before .before .before .before .before .before .before .before .before .before .before .before .before .before .before .before .before .before .before .before .before .before .before .loop .heldprocessors) (c .before .before .before .before .before .before .before .before .before .before .before .before .before .before .before .before .before .before .before .before .before .before .before .before .before .before .loop .heldnumbers) (c .before .before .before .before .before .before .before .before .before .before .before .before .before .before .before .before .before .before .before .before .before .before .before .before .before .before .loop .notes) (c .before .before .before .before .before .before .before .before .before .before .before .before .before .before .before .before .before .before .before .before .before .before .before .before .before .before .loop .granted) (c .before .before .before .before .before .before .before .before .before .before .before .before .before .before .before .before .before .before .before .before .before .before .before .before .before .before .loop .awaiting) (c .before .before .before .before .before .before .before .before .before .before .before .before .before .before .before .before .before .before .before .before .before .before .before .before .before .before .loop .carriedprocessors) (c .before .before .before .before .before .before .before .before .before .before .before .before .before .before .before .before .before .before .before .before .before .before .before .before .before .before .loop .carriednumbers) (c .before .before .before .before .before .before .before .before .before .before .before .before .before .before .before .before .before .before .before .before .before .before .before .before .before .before .loop .travellingprocessors) (c .before .before .before .before .before .before .before .before .before .before .before .before .before .before .before .before .before .before .before .before .before .before .before .before .before .before .loop .travellingmoves)) q)))
 
 -- with what is posted
 mail-is : (c : tie.Joined4 Inv-loop2 μ-loop2 Inv-loop3 μ-loop3 Inv-loop μ-loop) → c .if4 .mail ≡ enqueuedAll (dequeued (c .before .before .before .before .before .before .before .before .before .before .before .before .before .before .before .before .before .before .before .before .before .before .before .before .before .before .before .before .before .before .before .before .before .before .before .before .loop .mail) (c .before .before .before .before .before .before .before .before .before .before .before .before .before .before .before .before .before .before .before .before .before .before .before .before .before .before .before .before .before .before .before .before .position .result)) (lettersOf (c .before .before .before .before .before .before .before .before .before .before .before .before .before .before .before .before .before .before .before .before .before .before .before .before .before .before .before .before .before .before .before .before .before .before .before .before .before .before .before .args .processors) (c .before .before .before .before .before .before .before .before .before .before .act .result .posting))
@@ -254,7 +254,7 @@ delivery-is c =
     let mail : c .before .if4 .mail ≡ enqueuedAll (dequeued k (seenPosition (given (c .before .before .before .before .before .before .before .before .before .before .before .before .before .before .before .before .before .before .before .before .before .before .before .before .before .before .before .before .before .before .before .before .before .before .before .before .before .before .before .before)) (c .before .before .before .before .before .before .before .before .before .before .before .before .before .before .before .before .before .before .before .before .before .before .before .before .before .before .before .before .before .before .before .before .before .before .before .before .before .loop .all) (c .before .before .before .before .before .before .before .before .before .before .before .before .before .before .before .before .before .before .before .before .before .before .before .before .before .before .before .before .before .before .before .before .before .before .before .before .before .loop .mail) (c .before .before .before .before .before .before .before .before .before .before .before .before .before .before .before .before .before .before .before .before .before .before .before .before .before .before .before .before .before .before .before .before .before .before .before .step-at .result))) (lettersOf (c .before .before .before .before .before .before .before .before .before .before .before .before .before .before .before .before .before .before .before .before .before .before .before .before .before .before .before .before .before .before .before .before .before .before .before .before .before .before .before .before .args .processors) (r .posting)) =
     mail-is (c .before) ∙ ap (λ p. enqueuedAll (dequeued k p) (lettersOf (c .before .before .before .before .before .before .before .before .before .before .before .before .before .before .before .before .before .before .before .before .before .before .before .before .before .before .before .before .before .before .before .before .before .before .before .before .before .before .before .before .args .processors) (r .posting))) (c .before .before .before .before .before .before .before .before .before .before .before .before .before .before .before .before .before .before .before .before .before .before .before .before .before .before .before .before .before .before .before .before .before .position .ensures .0) in
     same-turn refl refl refl refl refl refl refl refl refl refl refl tasks mail (c .reported .ensures)
-    ∙ delivered (rig (c .before .before .before .before .before .before .before .before .before .before .before .before .before .before .before .before .before .before .before .before .before .before .before .before .before .before .before .before .before .before .before .before .before .before .before .before)) (c .before .before .before .before .before .before .before .before .before .before .before .before .before .before .before .before .before .before .before .before .before .before .before .before .before .before .before .before .before .before .before .before .before .before .before .step-at .result) (scope-is (c .before .before .before .before .before .before .before .before .before .before .before .before .before .before .before .before .before .before .before .before .before .before .before .before .before .before .before .before .before)) (sender-is (c .before .before .before .before .before .before .before .before .before .before .before .before .before .before .before .before .before .before .before .before .before .before .before .before .before .before)) (receiver-is (c .before .before .before .before .before .before .before .before .before .before .before .before .before .before .before .before .before .before .before .before .before .before .before)) (seen-some (c .before .before .before .before .before .before .before .before .before .before .before .before .before .before .before .before .before .before .before .before .before .before .before .before .before .before .before .before .before .before .before)) (letter-is (c .before .before .before .before .before .before .before .before .before .before .before .before .before .before .before .before .before .before .before .before .before .before .before .before .before .before .before .before .before .before)) (c .before .before .before .before .before .before .before .before .before .before .before .act .ensures)
+    ∙ delivered (rig (c .before .before .before .before .before .before .before .before .before .before .before .before .before .before .before .before .before .before .before .before .before .before .before .before .before .before .before .before .before .before .before .before .before .before .before .before)) (c .before .before .before .before .before .before .before .before .before .before .before .before .before .before .before .before .before .before .before .before .before .before .before .before .before .before .before .before .before .before .before .before .before .before .before .step-at .result) (scope-is (c .before .before .before .before .before .before .before .before .before .before .before .before .before .before .before .before .before .before .before .before .before .before .before .before .before .before .before .before .before)) (sender-is (c .before .before .before .before .before .before .before .before .before .before .before .before .before .before .before .before .before .before .before .before .before .before .before .before .before)) (receiver-is (c .before .before .before .before .before .before .before .before .before .before .before .before .before .before .before .before .before .before .before .before .before .before .before)) (seen-some (c .before .before .before .before .before .before .before .before .before .before .before .before .before .before .before .before .before .before .before .before .before .before .before .before .before .before .before .before .before .before .before)) (letter-is (c .before .before .before .before .before .before .before .before .before .before .before .before .before .before .before .before .before .before .before .before .before .before .before .before .before .before .before .before .before .before)) (c .before .before .before .before .before .before .before .before .before .before .before .act .ensures)
 
 -- what a run that changes a word leaves
 word-is : (c : tie.After-word-changed Inv-loop2 μ-loop2 Inv-loop3 μ-loop3 Inv-loop μ-loop) → turned (c .before .before .before .before .before .before .accepted .result) (set (c .before .before .before .before .before .before .before .before .before .before .before .loop .all) (c .before .before .before .before .before .before .before .before .task-slot .result) (c .word-changed .result)) (c .before .before .before .before .before .before .before .before .before .before .before .loop .mail) (storeFrom (c .before .before .before .before .before .before .before .before .before .before .before .loop .hintprocessors) (c .before .before .before .before .before .before .before .before .before .before .before .loop .hintmoves) (c .before .before .before .before .before .before .before .before .before .before .before .loop .heldprocessors) (c .before .before .before .before .before .before .before .before .before .before .before .loop .heldnumbers) (c .before .before .before .before .before .before .before .before .before .before .before .loop .notes) (c .before .before .before .before .before .before .before .before .before .before .before .loop .granted) (c .before .before .before .before .before .before .before .before .before .before .before .loop .awaiting) (c .before .before .before .before .before .before .before .before .before .before .before .loop .carriedprocessors) (c .before .before .before .before .before .before .before .before .before .before .before .loop .carriednumbers) (c .before .before .before .before .before .before .before .before .before .before .before .loop .travellingprocessors) (c .before .before .before .before .before .before .before .before .before .before .before .loop .travellingmoves)) ≡ turnOf (given (c .before .before .before .before .before .before .before .before .before .before .before .before .before .before)) (c .before .before .before .before .before .before .before .before .before .before .before .before .before .before .args .processors) (c .before .before .before .before .before .before .before .before .before .before .before .loop .all) (c .before .before .before .before .before .before .before .before .before .before .before .loop .mail) (storeFrom (c .before .before .before .before .before .before .before .before .before .before .before .loop .hintprocessors) (c .before .before .before .before .before .before .before .before .before .before .before .loop .hintmoves) (c .before .before .before .before .before .before .before .before .before .before .before .loop .heldprocessors) (c .before .before .before .before .before .before .before .before .before .before .before .loop .heldnumbers) (c .before .before .before .before .before .before .before .before .before .before .before .loop .notes) (c .before .before .before .before .before .before .before .before .before .before .before .loop .granted) (c .before .before .before .before .before .before .before .before .before .before .before .loop .awaiting) (c .before .before .before .before .before .before .before .before .before .before .before .loop .carriedprocessors) (c .before .before .before .before .before .before .before .before .before .before .before .loop .carriednumbers) (c .before .before .before .before .before .before .before .before .before .before .before .loop .travellingprocessors) (c .before .before .before .before .before .before .before .before .before .before .before .loop .travellingmoves)) (c .before .before .before .before .before .before .before .before .before .step-at .result)
@@ -278,7 +278,7 @@ free c =
     let x = c .before .before .before .before .before .before .before .before .before .before .before .act2 .result .posting in
     subst (λ (k : Network). k .used < 256) (sym (c .before .before .before .loop3 .inv .1))
     (after-room x (c .before .before .before .before .before .before .before .before .before .before .before .before .before .before .before .before .before .before .before .before .before .before .before .before .before .before .before .before .before .before .before .before .before .before .before .before .before .before .before .before .loop .mail) (c .before .before .before .before .before .before .before .before .before .before .before .before .before .before .before .before .before .before .before .before .before .before .before .before .before .before .before .before .before .before .before .before .before .before .before .before .before .before .before .before .before .before .before .args .processors) (c .before .before .before .loop3 .e) (subst (λ n. c .before .before .before .loop3 .e < n) (c .before .before .before .before .rounds .ensures) (c .before .before .loop3-test .taken)) (sym (c .before .skips .ensures) ∙ not-true (c .before .skips .result) (c .if8 .taken))
-    (room (rig (c .before .before .before .before .before .before .before .before .before .before .before .before .before .before .before .before .before .before .before .before .before .before .before .before .before .before .before .before .before .before .before .before .before .before .before .before .before .before .before)) (c .before .before .before .before .before .before .before .before .before .before .before .before .before .before .before .before .before .before .before .before .before .before .before .before .before .before .before .before .before .before .before .before .before .before .before .before .before .before .step-at .result) (scope2-is (c .before .before .before .before .before .before .before .before .before .before .before .before .before .before .before .before .before .before .before .before .before .before .before .before .before .before .before .before .before)) (sender2-is (c .before .before .before .before .before .before .before .before .before .before .before .before .before .before .before .before .before .before .before .before .before .before .before .before .before .before)) (receiver2-is (c .before .before .before .before .before .before .before .before .before .before .before .before .before .before .before .before .before .before .before .before .before .before .before)) (seen-none (c .before .before .before .before .before .before .before .before .before .before .before .before .before .before .before .before .before .before .before .before .before .before .before .before .before .before .before .before .before .before .before .before .before .before)) (task-is (c .before .before .before .before .before .before .before .before .before .before .before .before .before .before .before .before .before .before .before .before .before .before .before .before .before .before .before .before .before .before .before .before .before)) (instruction-is (c .before .before .before .before .before .before .before .before .before .before .before .before .before .before .before .before .before .before .before .before .before .before .before .before .before .before .before .before .before .before .before .before)) (c .before .before .before .before .before .before .before .before .before .before .before .before .before .before .before .before .before .before .before .before .before .before .before .before .before .before .before .before .before .before .before .before .before .before .before .before .position .result) Empty (none-is (c .before .before .before .before .before .before .before .before .before .before .before .before .before .before .before .before .before .before .before .before .before .before .before .before .before .before .before .before .before .before .before .before .before .before)) (c .before .before .before .before .before .before .before .before .before .before .before .act2 .ensures .0)))
+    (room (rig (c .before .before .before .before .before .before .before .before .before .before .before .before .before .before .before .before .before .before .before .before .before .before .before .before .before .before .before .before .before .before .before .before .before .before .before .before .before .before .before)) (c .before .before .before .before .before .before .before .before .before .before .before .before .before .before .before .before .before .before .before .before .before .before .before .before .before .before .before .before .before .before .before .before .before .before .before .before .before .before .step-at .result) (scope2-is (c .before .before .before .before .before .before .before .before .before .before .before .before .before .before .before .before .before .before .before .before .before .before .before .before .before .before .before .before .before)) (sender2-is (c .before .before .before .before .before .before .before .before .before .before .before .before .before .before .before .before .before .before .before .before .before .before .before .before .before)) (receiver2-is (c .before .before .before .before .before .before .before .before .before .before .before .before .before .before .before .before .before .before .before .before .before .before .before)) (seen-none (c .before .before .before .before .before .before .before .before .before .before .before .before .before .before .before .before .before .before .before .before .before .before .before .before .before .before .before .before .before .before .before .before .before .before)) (task-is (c .before .before .before .before .before .before .before .before .before .before .before .before .before .before .before .before .before .before .before .before .before .before .before .before .before .before .before .before .before .before .before .before .before)) (instruction-is (c .before .before .before .before .before .before .before .before .before .before .before .before .before .before .before .before .before .before .before .before .before .before .before .before .before .before .before .before .before .before .before .before)) (c .before .before .before .before .before .before .before .before .before .before .before .before .before .before .before .before .before .before .before .before .before .before .before .before .before .before .before .before .before .before .before .before .before .before .before .before .position .result) Empty (none-is (c .before .before .before .before .before .before .before .before .before .before .before .before .before .before .before .before .before .before .before .before .before .before .before .before .before .before .before .before .before .before .before .before .before .before)) (c .before .before .before .before .before .before .before .before .before .before .before .act2 .ensures .0)))
 
 -- what another step leaves
 step-is : (c : tie.After-reported2 Inv-loop2 μ-loop2 Inv-loop3 μ-loop3 Inv-loop μ-loop) → turned (c .reported2 .result) (c .before .before .before .before .if7 .all) (c .before .before .loop3 .mail) (storeFrom (c .before .before .before .before .before .before .before .before .before .before .act2 .last .1 .1 .1 .1 .1 .1 .1 .1 .0) (c .before .before .before .before .before .before .before .before .before .before .act2 .last .1 .1 .1 .1 .1 .1 .1 .1 .1 .0) (c .before .before .before .before .before .before .before .before .before .before .act2 .last .1 .1 .1 .1 .1 .1 .1 .1 .1 .1 .0) (c .before .before .before .before .before .before .before .before .before .before .act2 .last .1 .1 .1 .1 .1 .1 .1 .1 .1 .1 .1 .0) (c .before .before .before .before .before .before .before .before .before .before .act2 .last .1 .1 .1 .1 .1 .1 .1 .1 .1 .1 .1 .1 .0) (c .before .before .before .before .before .before .before .before .before .before .act2 .last .1 .1 .1 .1 .1 .1 .1 .1 .1 .1 .1 .1 .1 .0) (c .before .before .before .before .before .before .before .before .before .before .act2 .last .1 .1 .1 .1 .1 .1 .1 .1 .1 .1 .1 .1 .1 .1 .0) (c .before .before .before .before .before .before .before .before .before .before .act2 .last .1 .1 .1 .1 .1 .1 .1 .1 .1 .1 .1 .1 .1 .1 .1 .0) (c .before .before .before .before .before .before .before .before .before .before .act2 .last .1 .1 .1 .1 .1 .1 .1 .1 .1 .1 .1 .1 .1 .1 .1 .1 .0) (c .before .before .before .before .before .before .before .before .before .before .act2 .last .1 .1 .1 .1 .1 .1 .1 .1 .1 .1 .1 .1 .1 .1 .1 .1 .1 .0) (c .before .before .before .before .before .before .before .before .before .before .act2 .last .1 .1 .1 .1 .1 .1 .1 .1 .1 .1 .1 .1 .1 .1 .1 .1 .1 .1 .0)) ≡ turnOf (given (c .before .before .before .before .before .before .before .before .before .before .before .before .before .before .before .before .before .before .before .before .before .before .before .before .before .before .before .before .before .before .before .before .before .before .before .before .before .before .before .before .before .before)) (c .before .before .before .before .before .before .before .before .before .before .before .before .before .before .before .before .before .before .before .before .before .before .before .before .before .before .before .before .before .before .before .before .before .before .before .before .before .before .before .before .before .before .args .processors) (c .before .before .before .before .before .before .before .before .before .before .before .before .before .before .before .before .before .before .before .before .before .before .before .before .before .before .before .before .before .before .before .before .before .before .before .before .before .before .before .loop .all) (c .before .before .before .before .before .before .before .before .before .before .before .before .before .before .before .before .before .before .before .before .before .before .before .before .before .before .before .before .before .before .before .before .before .before .before .before .before .before .before .loop .mail) (storeFrom (c .before .before .before .before .before .before .before .before .before .before .before .before .before .before .before .before .before .before .before .before .before .before .before .before .before .before .before .before .before .before .before .before .before .before .before .before .before .before .before .loop .hintprocessors) (c .before .before .before .before .before .before .before .before .before .before .before .before .before .before .before .before .before .before .before .before .before .before .before .before .before .before .before .before .before .before .before .before .before .before .before .before .before .before .before .loop .hintmoves) (c .before .before .before .before .before .before .before .before .before .before .before .before .before .before .before .before .before .before .before .before .before .before .before .before .before .before .before .before .before .before .before .before .before .before .before .before .before .before .before .loop .heldprocessors) (c .before .before .before .before .before .before .before .before .before .before .before .before .before .before .before .before .before .before .before .before .before .before .before .before .before .before .before .before .before .before .before .before .before .before .before .before .before .before .before .loop .heldnumbers) (c .before .before .before .before .before .before .before .before .before .before .before .before .before .before .before .before .before .before .before .before .before .before .before .before .before .before .before .before .before .before .before .before .before .before .before .before .before .before .before .loop .notes) (c .before .before .before .before .before .before .before .before .before .before .before .before .before .before .before .before .before .before .before .before .before .before .before .before .before .before .before .before .before .before .before .before .before .before .before .before .before .before .before .loop .granted) (c .before .before .before .before .before .before .before .before .before .before .before .before .before .before .before .before .before .before .before .before .before .before .before .before .before .before .before .before .before .before .before .before .before .before .before .before .before .before .before .loop .awaiting) (c .before .before .before .before .before .before .before .before .before .before .before .before .before .before .before .before .before .before .before .before .before .before .before .before .before .before .before .before .before .before .before .before .before .before .before .before .before .before .before .loop .carriedprocessors) (c .before .before .before .before .before .before .before .before .before .before .before .before .before .before .before .before .before .before .before .before .before .before .before .before .before .before .before .before .before .before .before .before .before .before .before .before .before .before .before .loop .carriednumbers) (c .before .before .before .before .before .before .before .before .before .before .before .before .before .before .before .before .before .before .before .before .before .before .before .before .before .before .before .before .before .before .before .before .before .before .before .before .before .before .before .loop .travellingprocessors) (c .before .before .before .before .before .before .before .before .before .before .before .before .before .before .before .before .before .before .before .before .before .before .before .before .before .before .before .before .before .before .before .before .before .before .before .before .before .before .before .loop .travellingmoves)) (c .before .before .before .before .before .before .before .before .before .before .before .before .before .before .before .before .before .before .before .before .before .before .before .before .before .before .before .before .before .before .before .before .before .before .before .before .before .step-at .result)
@@ -293,13 +293,13 @@ step-is c =
     let mail : c .before .before .loop3 .mail ≡ enqueuedAll k (lettersOf n (r .posting)) =
     c .before .before .loop3 .inv .1 ∙ ap (after (r .posting) k) all ∙ ap (enqueuedAll k) (rounds-all n (r .posting)) in
     same-turn refl refl refl refl refl refl refl refl refl refl refl tasks mail (c .reported2 .ensures)
-    ∙ ran (rig (c .before .before .before .before .before .before .before .before .before .before .before .before .before .before .before .before .before .before .before .before .before .before .before .before .before .before .before .before .before .before .before .before .before .before .before .before .before .before)) (c .before .before .before .before .before .before .before .before .before .before .before .before .before .before .before .before .before .before .before .before .before .before .before .before .before .before .before .before .before .before .before .before .before .before .before .before .before .step-at .result) (scope2-is (c .before .before .before .before .before .before .before .before .before .before .before .before .before .before .before .before .before .before .before .before .before .before .before .before .before .before .before .before)) (sender2-is (c .before .before .before .before .before .before .before .before .before .before .before .before .before .before .before .before .before .before .before .before .before .before .before .before .before)) (receiver2-is (c .before .before .before .before .before .before .before .before .before .before .before .before .before .before .before .before .before .before .before .before .before .before)) (seen-none (c .before .before .before .before .before .before .before .before .before .before .before .before .before .before .before .before .before .before .before .before .before .before .before .before .before .before .before .before .before .before .before .before .before)) (task-is (c .before .before .before .before .before .before .before .before .before .before .before .before .before .before .before .before .before .before .before .before .before .before .before .before .before .before .before .before .before .before .before .before)) (instruction-is (c .before .before .before .before .before .before .before .before .before .before .before .before .before .before .before .before .before .before .before .before .before .before .before .before .before .before .before .before .before .before .before)) (c .before .before .before .before .before .before .before .before .before .before .before .before .before .before .before .before .before .before .before .before .before .before .before .before .before .before .before .before .before .before .before .before .before .before .before .position .result) Empty (none-is (c .before .before .before .before .before .before .before .before .before .before .before .before .before .before .before .before .before .before .before .before .before .before .before .before .before .before .before .before .before .before .before .before .before)) (c .before .before .before .before .before .before .before .before .before .before .act2 .ensures)
+    ∙ ran (rig (c .before .before .before .before .before .before .before .before .before .before .before .before .before .before .before .before .before .before .before .before .before .before .before .before .before .before .before .before .before .before .before .before .before .before .before .before .before .before)) (c .before .before .before .before .before .before .before .before .before .before .before .before .before .before .before .before .before .before .before .before .before .before .before .before .before .before .before .before .before .before .before .before .before .before .before .before .before .step-at .result) (scope2-is (c .before .before .before .before .before .before .before .before .before .before .before .before .before .before .before .before .before .before .before .before .before .before .before .before .before .before .before .before)) (sender2-is (c .before .before .before .before .before .before .before .before .before .before .before .before .before .before .before .before .before .before .before .before .before .before .before .before)) (receiver2-is (c .before .before .before .before .before .before .before .before .before .before .before .before .before .before .before .before .before .before .before .before .before .before)) (seen-none (c .before .before .before .before .before .before .before .before .before .before .before .before .before .before .before .before .before .before .before .before .before .before .before .before .before .before .before .before .before .before .before .before .before)) (task-is (c .before .before .before .before .before .before .before .before .before .before .before .before .before .before .before .before .before .before .before .before .before .before .before .before .before .before .before .before .before .before .before .before)) (instruction-is (c .before .before .before .before .before .before .before .before .before .before .before .before .before .before .before .before .before .before .before .before .before .before .before .before .before .before .before .before .before .before .before)) (c .before .before .before .before .before .before .before .before .before .before .before .before .before .before .before .before .before .before .before .before .before .before .before .before .before .before .before .before .before .before .before .before .before .before .before .position .result) Empty (none-is (c .before .before .before .before .before .before .before .before .before .before .before .before .before .before .before .before .before .before .before .before .before .before .before .before .before .before .before .before .before .before .before .before .before)) (c .before .before .before .before .before .before .before .before .before .before .act2 .ensures)
 
 -- what the step leaves is what it is to leave
 turned-is : (c : tie.Joined1 Inv-loop2 μ-loop2 Inv-loop3 μ-loop3 Inv-loop μ-loop) → turned (c .if1 .report) (c .if1 .all) (c .if1 .mail) (storeFrom (c .if1 .hintprocessors) (c .if1 .hintmoves) (c .if1 .heldprocessors) (c .if1 .heldnumbers) (c .if1 .notes) (c .if1 .granted) (c .if1 .awaiting) (c .if1 .carriedprocessors) (c .if1 .carriednumbers) (c .if1 .travellingprocessors) (c .if1 .travellingmoves)) ≡ turnOf (given (c .before .before .before .before .before .before .before .before .before)) (c .before .before .before .before .before .before .before .before .before .args .processors) (c .before .before .before .before .before .before .loop .all) (c .before .before .before .before .before .before .loop .mail) (storeFrom (c .before .before .before .before .before .before .loop .hintprocessors) (c .before .before .before .before .before .before .loop .hintmoves) (c .before .before .before .before .before .before .loop .heldprocessors) (c .before .before .before .before .before .before .loop .heldnumbers) (c .before .before .before .before .before .before .loop .notes) (c .before .before .before .before .before .before .loop .granted) (c .before .before .before .before .before .before .loop .awaiting) (c .before .before .before .before .before .before .loop .carriedprocessors) (c .before .before .before .before .before .before .loop .carriednumbers) (c .before .before .before .before .before .before .loop .travellingprocessors) (c .before .before .before .before .before .before .loop .travellingmoves)) (stepAt (c .before .before .before .before .before .before .before .before .before .args .steps .now) (c .before .before .before .before .before .before .loop .k))
 turned-is c =
-    ⊎-elim (λ w. same-turn (w .32) (w .33) (w .34) (w .35) (w .36) (w .37) (w .38) (w .39) (w .40) (w .41) (w .42) (w .43) (w .44) (w .45) ∙ delivery-is (record { before = record { before = record { before = record { before = record { before = record { before = record { before = record { before = record { before = record { before = record { before = record { before = record { before = record { before = record { before = record { before = record { before = record { before = record { before = record { before = record { before = record { before = record { before = record { before = record { before = record { before = record { before = record { before = record { before = record { before = record { before = record { before = c .before; if1 = w .0 }; slot = w .1 }; letter-scope = w .2 }; task-slot2 = w .3 }; found-arg = w .4 }; found = w .5 }; task-slot3 = w .6 }; found-arg2 = w .7 }; found2 = w .8 }; act-arg = w .9 }; act-arg2 = w .10 }; act-arg3 = w .11 }; act-arg4 = w .12 }; act-arg5 = w .13 }; act-arg6 = w .14 }; act-arg7 = w .15 }; act-arg8 = w .16 }; act-arg9 = w .17 }; act-arg10 = w .18 }; act-arg11 = w .19 }; act = w .20 }; left = w .21 }; struct-known = w .22 }; if2 = w .23 }; right = w .24 }; struct-known2 = w .25 }; if3 = w .26 }; loop2 = w .27 }; loop2-test = w .28 }; posts = w .29 }; if4 = w .30 }; reported = w .31 }))
-    (⊎-elim (λ w. same-turn (w .6) (w .7) (w .8) (w .9) (w .10) (w .11) (w .12) (w .13) (w .14) (w .15) (w .16) (w .17) (w .18) (w .19) ∙ word-is (record { before = record { before = record { before = record { before = record { before = record { before = c .before; if1 = w .0 }; x = w .1 }; instruction-at = w .2 }; only-word = w .3 }; if5 = w .4 }; word-changed = w .5 })) (λ w. same-turn (w .34) (w .35) (w .36) (w .37) (w .38) (w .39) (w .40) (w .41) (w .42) (w .43) (w .44) (w .45) (w .46) (w .47) ∙ step-is (record { before = record { before = record { before = record { before = record { before = record { before = record { before = record { before = record { before = record { before = record { before = record { before = record { before = record { before = record { before = record { before = record { before = record { before = record { before = record { before = record { before = record { before = record { before = record { before = record { before = record { before = record { before = record { before = record { before = record { before = record { before = record { before = record { before = record { before = c .before; if1 = w .0 }; x = w .1 }; instruction-at = w .2 }; only-word = w .3 }; if5 = w .4 }; scope-of = w .5 }; task-slot4 = w .6 }; found-arg3 = w .7 }; found3 = w .8 }; task-slot5 = w .9 }; found-arg4 = w .10 }; found4 = w .11 }; act-arg12 = w .12 }; act-arg13 = w .13 }; act-arg14 = w .14 }; act-arg15 = w .15 }; act-arg16 = w .16 }; act-arg17 = w .17 }; act-arg18 = w .18 }; act-arg19 = w .19 }; act-arg20 = w .20 }; act-arg21 = w .21 }; act-arg22 = w .22 }; act2 = w .23 }; left2 = w .24 }; struct-known3 = w .25 }; if6 = w .26 }; right2 = w .27 }; struct-known4 = w .28 }; if7 = w .29 }; rounds = w .30 }; loop3 = w .31 }; loop3-test = w .32 }; reported2 = w .33 })))
+    ⊎-elim (λ w. same-turn (w .32) (w .33) (w .34) (w .35) (w .36) (w .37) (w .38) (w .39) (w .40) (w .41) (w .42) (w .43) (w .44) (w .45) ∙ delivery-is (record { before = record { before = record { before = record { before = record { before = record { before = record { before = record { before = record { before = record { before = record { before = record { before = record { before = record { before = record { before = record { before = record { before = record { before = record { before = record { before = record { before = record { before = record { before = record { before = record { before = record { before = record { before = record { before = record { before = record { before = record { before = record { before = c .before; if1 = w .0 }; slot = w .1 }; letter-scope = w .2 }; task-slot2 = w .3 }; task-slot3 = w .4 }; found-arg = w .5 }; found = w .6 }; found-arg2 = w .7 }; found2 = w .8 }; act-arg = w .9 }; act-arg2 = w .10 }; act-arg3 = w .11 }; act-arg4 = w .12 }; act-arg5 = w .13 }; act-arg6 = w .14 }; act-arg7 = w .15 }; act-arg8 = w .16 }; act-arg9 = w .17 }; act-arg10 = w .18 }; act-arg11 = w .19 }; act = w .20 }; left = w .21 }; struct-known = w .22 }; if2 = w .23 }; right = w .24 }; struct-known2 = w .25 }; if3 = w .26 }; loop2 = w .27 }; loop2-test = w .28 }; posts = w .29 }; if4 = w .30 }; reported = w .31 }))
+    (⊎-elim (λ w. same-turn (w .6) (w .7) (w .8) (w .9) (w .10) (w .11) (w .12) (w .13) (w .14) (w .15) (w .16) (w .17) (w .18) (w .19) ∙ word-is (record { before = record { before = record { before = record { before = record { before = record { before = c .before; if1 = w .0 }; x = w .1 }; instruction-at = w .2 }; only-word = w .3 }; if5 = w .4 }; word-changed = w .5 })) (λ w. same-turn (w .34) (w .35) (w .36) (w .37) (w .38) (w .39) (w .40) (w .41) (w .42) (w .43) (w .44) (w .45) (w .46) (w .47) ∙ step-is (record { before = record { before = record { before = record { before = record { before = record { before = record { before = record { before = record { before = record { before = record { before = record { before = record { before = record { before = record { before = record { before = record { before = record { before = record { before = record { before = record { before = record { before = record { before = record { before = record { before = record { before = record { before = record { before = record { before = record { before = record { before = record { before = record { before = record { before = c .before; if1 = w .0 }; x = w .1 }; instruction-at = w .2 }; only-word = w .3 }; if5 = w .4 }; scope-of = w .5 }; task-slot4 = w .6 }; task-slot5 = w .7 }; found-arg3 = w .8 }; found3 = w .9 }; found-arg4 = w .10 }; found4 = w .11 }; act-arg12 = w .12 }; act-arg13 = w .13 }; act-arg14 = w .14 }; act-arg15 = w .15 }; act-arg16 = w .16 }; act-arg17 = w .17 }; act-arg18 = w .18 }; act-arg19 = w .19 }; act-arg20 = w .20 }; act-arg21 = w .21 }; act-arg22 = w .22 }; act2 = w .23 }; left2 = w .24 }; struct-known3 = w .25 }; if6 = w .26 }; right2 = w .27 }; struct-known4 = w .28 }; if7 = w .29 }; rounds = w .30 }; loop3 = w .31 }; loop3-test = w .32 }; reported2 = w .33 })))
     (c .if1 .came)
     ∙ ap (turnOf (given (c .before .before .before .before .before .before .before .before .before)) (c .before .before .before .before .before .before .before .before .before .args .processors) (c .before .before .before .before .before .before .loop .all) (c .before .before .before .before .before .before .loop .mail) (storeFrom (c .before .before .before .before .before .before .loop .hintprocessors) (c .before .before .before .before .before .before .loop .hintmoves) (c .before .before .before .before .before .before .loop .heldprocessors) (c .before .before .before .before .before .before .loop .heldnumbers) (c .before .before .before .before .before .before .loop .notes) (c .before .before .before .before .before .before .loop .granted) (c .before .before .before .before .before .before .loop .awaiting) (c .before .before .before .before .before .before .loop .carriedprocessors) (c .before .before .before .before .before .before .loop .carriednumbers) (c .before .before .before .before .before .before .loop .travellingprocessors) (c .before .before .before .before .before .before .loop .travellingmoves))) (c .before .before .before .before .step-at .ensures)
 
@@ -337,10 +337,10 @@ task-slot-requires-2 : tie.Need-task-slot-requires-2 Inv-loop2 μ-loop2 Inv-loop
 task-slot-requires-2 c κs = search needs
 
 mul-found : tie.Need-mul-found Inv-loop2 μ-loop2 Inv-loop3 μ-loop3 Inv-loop μ-loop
-mul-found c = omega (arith, c .task-slot2 .ensures .1)
+mul-found c = omega (arith, c .before .task-slot2 .ensures .1)
 
 array-copy-out-found : tie.Need-array-copy-out-found Inv-loop2 μ-loop2 Inv-loop3 μ-loop3 Inv-loop μ-loop
-array-copy-out-found c = omega (arith, c .task-slot2 .ensures .1)
+array-copy-out-found c = omega (arith, c .before .task-slot2 .ensures .1)
 
 found-requires : tie.Need-found-requires Inv-loop2 μ-loop2 Inv-loop3 μ-loop3 Inv-loop μ-loop
 found-requires c κs = search needs
@@ -349,16 +349,16 @@ task-slot-requires-3 : tie.Need-task-slot-requires-3 Inv-loop2 μ-loop2 Inv-loop
 task-slot-requires-3 c κs = search needs
 
 mul-found-2 : tie.Need-mul-found-2 Inv-loop2 μ-loop2 Inv-loop3 μ-loop3 Inv-loop μ-loop
-mul-found-2 c = omega (arith, c .task-slot3 .ensures .1)
+mul-found-2 c = omega (arith, c .before .before .task-slot3 .ensures .1)
 
 array-copy-out-found-2 : tie.Need-array-copy-out-found-2 Inv-loop2 μ-loop2 Inv-loop3 μ-loop3 Inv-loop μ-loop
-array-copy-out-found-2 c = omega (arith, c .task-slot3 .ensures .1)
+array-copy-out-found-2 c = omega (arith, c .before .before .task-slot3 .ensures .1)
 
 found-requires-2 : tie.Need-found-requires-2 Inv-loop2 μ-loop2 Inv-loop3 μ-loop3 Inv-loop μ-loop
 found-requires-2 c κs = search needs
 
 act-requires : tie.Need-act-requires Inv-loop2 μ-loop2 Inv-loop3 μ-loop3 Inv-loop μ-loop
-act-requires c κs = (c .before .before .before .before .before .before .before .before .before .before .before .before .before .before .before .before .before .before .before .before .before .before .before .before .before .before .before .before .pre .0, c .before .before .before .before .before .before .before .before .before .before .before .before .before .before .before .before .before .before .before .before .before .before .before .before .before .before .before .before .pre .1, can-deliver (rig (c .before .before .before .before .before .before .before .before .before .before .before .before .before .before .before .before .before .before .before .before .before .before .before .before)) (c .before .before .before .before .before .before .before .before .before .before .before .before .before .before .before .before .before .before .before .before .before .before .before .step-at .result) (scope-is (c .before .before .before .before .before .before .before .before .before .before .before .before .before .before .before .before .before)) (sender-is (c .before .before .before .before .before .before .before .before .before .before .before .before .before .before)) (receiver-is (c .before .before .before .before .before .before .before .before .before .before .before)) (seen-some (c .before .before .before .before .before .before .before .before .before .before .before .before .before .before .before .before .before .before .before)) (letter-is (c .before .before .before .before .before .before .before .before .before .before .before .before .before .before .before .before .before .before)))
+act-requires c κs = (c .before .before .before .before .before .before .before .before .before .before .before .before .before .before .before .before .before .before .before .before .before .before .before .before .before .before .before .before .pre .0, c .before .before .before .before .before .before .before .before .before .before .before .before .before .before .before .before .before .before .before .before .before .before .before .before .before .before .before .before .pre .1, can-deliver (rig (c .before .before .before .before .before .before .before .before .before .before .before .before .before .before .before .before .before .before .before .before .before .before .before .before)) (c .before .before .before .before .before .before .before .before .before .before .before .before .before .before .before .before .before .before .before .before .before .before .before .step-at .result) (scope-is (c .before .before .before .before .before .before .before .before .before .before .before .before .before .before .before .before .before)) (sender-is (c .before .before .before .before .before .before .before .before .before .before .before .before .before)) (receiver-is (c .before .before .before .before .before .before .before .before .before .before .before)) (seen-some (c .before .before .before .before .before .before .before .before .before .before .before .before .before .before .before .before .before .before .before)) (letter-is (c .before .before .before .before .before .before .before .before .before .before .before .before .before .before .before .before .before .before)))
 
 mul-all : tie.Need-mul-all Inv-loop2 μ-loop2 Inv-loop3 μ-loop3 Inv-loop μ-loop
 mul-all c = omega (arith, c .before .before .before .before .before .before .before .before .before .before .before .before .before .before .before .before .before .before .before .before .task-slot2 .ensures .1)
@@ -367,10 +367,10 @@ array-set-from-all : tie.Need-array-set-from-all Inv-loop2 μ-loop2 Inv-loop3 μ
 array-set-from-all c = omega (arith, c .before .before .before .before .before .before .before .before .before .before .before .before .before .before .before .before .before .before .before .before .task-slot2 .ensures .1)
 
 mul-all-2 : tie.Need-mul-all-2 Inv-loop2 μ-loop2 Inv-loop3 μ-loop3 Inv-loop μ-loop
-mul-all-2 c = omega (arith, c .before .before .before .before .before .before .before .before .before .before .before .before .before .before .before .before .before .before .before .before .task-slot3 .ensures .1)
+mul-all-2 c = omega (arith, c .before .before .before .before .before .before .before .before .before .before .before .before .before .before .before .before .before .before .before .before .before .before .task-slot3 .ensures .1)
 
 array-set-from-all-2 : tie.Need-array-set-from-all-2 Inv-loop2 μ-loop2 Inv-loop3 μ-loop3 Inv-loop μ-loop
-array-set-from-all-2 c = omega (arith, c .before .before .before .before .before .before .before .before .before .before .before .before .before .before .before .before .before .before .before .before .task-slot3 .ensures .1)
+array-set-from-all-2 c = omega (arith, c .before .before .before .before .before .before .before .before .before .before .before .before .before .before .before .before .before .before .before .before .before .before .task-slot3 .ensures .1)
 
 sub-last : tie.Need-sub-last Inv-loop2 μ-loop2 Inv-loop3 μ-loop3 Inv-loop μ-loop
 sub-last c = let l = c .before .before .before .before .before .before .before .before .before .before .before .before .before .before .before .before .before .before .before .before .before .before .before .before .before .before .before .before .position .ensures .1 in omega (arith, l, c .before .before .before .before .before .before .before .before .before .before .before .before .before .before .before .before .before .before .before .before .before .before .before .before .before .before .if1 .taken, few (c .before .before .before .before .before .before .before .before .before .before .before .before .before .before .before .before .before .before .before .before .before .before .before .before .before .before .before .before .before .before .before))
@@ -474,10 +474,10 @@ task-slot-requires-4 : tie.Need-task-slot-requires-4 Inv-loop2 μ-loop2 Inv-loop
 task-slot-requires-4 c κs = search needs
 
 mul-found-3 : tie.Need-mul-found-3 Inv-loop2 μ-loop2 Inv-loop3 μ-loop3 Inv-loop μ-loop
-mul-found-3 c = omega (arith, c .task-slot4 .ensures .1)
+mul-found-3 c = omega (arith, c .before .task-slot4 .ensures .1)
 
 array-copy-out-found-3 : tie.Need-array-copy-out-found-3 Inv-loop2 μ-loop2 Inv-loop3 μ-loop3 Inv-loop μ-loop
-array-copy-out-found-3 c = omega (arith, c .task-slot4 .ensures .1)
+array-copy-out-found-3 c = omega (arith, c .before .task-slot4 .ensures .1)
 
 found-requires-3 : tie.Need-found-requires-3 Inv-loop2 μ-loop2 Inv-loop3 μ-loop3 Inv-loop μ-loop
 found-requires-3 c κs = search needs
@@ -486,16 +486,16 @@ task-slot-requires-5 : tie.Need-task-slot-requires-5 Inv-loop2 μ-loop2 Inv-loop
 task-slot-requires-5 c κs = search needs
 
 mul-found-4 : tie.Need-mul-found-4 Inv-loop2 μ-loop2 Inv-loop3 μ-loop3 Inv-loop μ-loop
-mul-found-4 c = omega (arith, c .task-slot5 .ensures .1)
+mul-found-4 c = omega (arith, c .before .before .task-slot5 .ensures .1)
 
 array-copy-out-found-4 : tie.Need-array-copy-out-found-4 Inv-loop2 μ-loop2 Inv-loop3 μ-loop3 Inv-loop μ-loop
-array-copy-out-found-4 c = omega (arith, c .task-slot5 .ensures .1)
+array-copy-out-found-4 c = omega (arith, c .before .before .task-slot5 .ensures .1)
 
 found-requires-4 : tie.Need-found-requires-4 Inv-loop2 μ-loop2 Inv-loop3 μ-loop3 Inv-loop μ-loop
 found-requires-4 c κs = search needs
 
 act-requires-2 : tie.Need-act-requires-2 Inv-loop2 μ-loop2 Inv-loop3 μ-loop3 Inv-loop μ-loop
-act-requires-2 c κs = (c .before .before .before .before .before .before .before .before .before .before .before .before .before .before .before .before .before .before .before .before .before .before .before .before .before .before .before .before .before .before .before .pre .0, c .before .before .before .before .before .before .before .before .before .before .before .before .before .before .before .before .before .before .before .before .before .before .before .before .before .before .before .before .before .before .before .pre .1, can-go (rig (c .before .before .before .before .before .before .before .before .before .before .before .before .before .before .before .before .before .before .before .before .before .before .before .before .before .before .before)) (c .before .before .before .before .before .before .before .before .before .before .before .before .before .before .before .before .before .before .before .before .before .before .before .before .before .before .step-at .result) (scope2-is (c .before .before .before .before .before .before .before .before .before .before .before .before .before .before .before .before .before)) (sender2-is (c .before .before .before .before .before .before .before .before .before .before .before .before .before .before)) (receiver2-is (c .before .before .before .before .before .before .before .before .before .before .before)) (task-is (c .before .before .before .before .before .before .before .before .before .before .before .before .before .before .before .before .before .before .before .before .before)) (instruction-is (c .before .before .before .before .before .before .before .before .before .before .before .before .before .before .before .before .before .before .before .before)) (c .before .before .before .before .before .before .before .before .before .before .before .before .before .before .before .before .before .before .before .before .before .before .before .before .position .result) Empty (none-is (c .before .before .before .before .before .before .before .before .before .before .before .before .before .before .before .before .before .before .before .before .before .before)))
+act-requires-2 c κs = (c .before .before .before .before .before .before .before .before .before .before .before .before .before .before .before .before .before .before .before .before .before .before .before .before .before .before .before .before .before .before .before .pre .0, c .before .before .before .before .before .before .before .before .before .before .before .before .before .before .before .before .before .before .before .before .before .before .before .before .before .before .before .before .before .before .before .pre .1, can-go (rig (c .before .before .before .before .before .before .before .before .before .before .before .before .before .before .before .before .before .before .before .before .before .before .before .before .before .before .before)) (c .before .before .before .before .before .before .before .before .before .before .before .before .before .before .before .before .before .before .before .before .before .before .before .before .before .before .step-at .result) (scope2-is (c .before .before .before .before .before .before .before .before .before .before .before .before .before .before .before .before .before)) (sender2-is (c .before .before .before .before .before .before .before .before .before .before .before .before .before)) (receiver2-is (c .before .before .before .before .before .before .before .before .before .before .before)) (task-is (c .before .before .before .before .before .before .before .before .before .before .before .before .before .before .before .before .before .before .before .before .before)) (instruction-is (c .before .before .before .before .before .before .before .before .before .before .before .before .before .before .before .before .before .before .before .before)) (c .before .before .before .before .before .before .before .before .before .before .before .before .before .before .before .before .before .before .before .before .before .before .before .before .position .result) Empty (none-is (c .before .before .before .before .before .before .before .before .before .before .before .before .before .before .before .before .before .before .before .before .before .before)))
 
 mul-all-4 : tie.Need-mul-all-4 Inv-loop2 μ-loop2 Inv-loop3 μ-loop3 Inv-loop μ-loop
 mul-all-4 c = omega (arith, c .before .before .before .before .before .before .before .before .before .before .before .before .before .before .before .before .before .before .before .before .task-slot4 .ensures .1)
@@ -504,10 +504,10 @@ array-set-from-all-4 : tie.Need-array-set-from-all-4 Inv-loop2 μ-loop2 Inv-loop
 array-set-from-all-4 c = omega (arith, c .before .before .before .before .before .before .before .before .before .before .before .before .before .before .before .before .before .before .before .before .task-slot4 .ensures .1)
 
 mul-all-5 : tie.Need-mul-all-5 Inv-loop2 μ-loop2 Inv-loop3 μ-loop3 Inv-loop μ-loop
-mul-all-5 c = omega (arith, c .before .before .before .before .before .before .before .before .before .before .before .before .before .before .before .before .before .before .before .before .task-slot5 .ensures .1)
+mul-all-5 c = omega (arith, c .before .before .before .before .before .before .before .before .before .before .before .before .before .before .before .before .before .before .before .before .before .before .task-slot5 .ensures .1)
 
 array-set-from-all-5 : tie.Need-array-set-from-all-5 Inv-loop2 μ-loop2 Inv-loop3 μ-loop3 Inv-loop μ-loop
-array-set-from-all-5 c = omega (arith, c .before .before .before .before .before .before .before .before .before .before .before .before .before .before .before .before .before .before .before .before .task-slot5 .ensures .1)
+array-set-from-all-5 c = omega (arith, c .before .before .before .before .before .before .before .before .before .before .before .before .before .before .before .before .before .before .before .before .before .before .task-slot5 .ensures .1)
 
 rounds-requires : tie.Need-rounds-requires Inv-loop2 μ-loop2 Inv-loop3 μ-loop3 Inv-loop μ-loop
 rounds-requires c κs = search needs
@@ -598,10 +598,10 @@ run-steps-spec =
     element-copy-out-slot
     letter-scope-requires
     task-slot-requires-2
+    task-slot-requires-3
     mul-found
     array-copy-out-found
     found-requires
-    task-slot-requires-3
     mul-found-2
     array-copy-out-found-2
     found-requires-2
@@ -639,10 +639,10 @@ run-steps-spec =
     array-set-from-all-3
     scope-of-requires
     task-slot-requires-4
+    task-slot-requires-5
     mul-found-3
     array-copy-out-found-3
     found-requires-3
-    task-slot-requires-5
     mul-found-4
     array-copy-out-found-4
     found-requires-4
