@@ -42,8 +42,8 @@ enum {
     MORTARSEDGE_OUTPUT_ENOUGH =
         MORTARSEDGE_MAX_STEPS * MORTARSEDGE_MAX_LINE + MORTARSEDGE_MAX_END_LINE,
     /* Stack for a call, with some to spare: make ctest measures what is needed. */
-    MORTARSEDGE_PLAN_CHECK_STACK = 96 * 1024,
-    MORTARSEDGE_RUN_STACK = 256 * 1024
+    MORTARSEDGE_PLAN_CHECK_STACK = 16 * 1024,
+    MORTARSEDGE_RUN_STACK = 128 * 1024
 };
 
 /* The answers: of a call 0 to 6, 8 and 20, of a step in the trace 0 and 10 to 19. */

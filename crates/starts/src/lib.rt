@@ -62,7 +62,7 @@ pub fn no_letters() -> Network
 }
 
 // Nothing in the tables and the channels.
-fn no_store() -> Store
+pub fn no_store() -> Store
     ensures { λ r. ⌜ r ≡ noStore ⌝ }
 {
     let tables = Tables {

@@ -25,8 +25,11 @@ link-requires c κs = search needs
 link-requires-2 : tie.Need-link-requires-2
 link-requires-2 c κs = search needs
 
+no-store-requires : tie.Need-no-store-requires
+no-store-requires c κs = search needs
+
 locate-requires : tie.Need-locate-requires
-locate-requires c κs = (linked-by (c .before .before .before .before .before .before .before .before .before .link .ensures), omega arith, omega arith)
+locate-requires c κs = (linked-by (c .before .before .before .before .before .before .before .before .before .before .before .before .before .before .before .before .before .before .before .before .before .before .before .link .ensures), omega arith, omega arith)
 
 start-tasks-requires : tie.Need-start-tasks-requires
 start-tasks-requires c κs = search needs
@@ -37,7 +40,7 @@ no-letters-requires c κs = search needs
 -- the fourth of these: the parts are those of the rig at the start
 abbrev run-steps-requires : tie.Need-run-steps-requires
 run-steps-requires c κs =
-    (linked-by (c .before .before .before .before .before .before .before .before .before .before .before .before .before .before .before .before .before .before .before .before .before .before .before .before .before .before .before .before .before .link .ensures), linked-by (c .before .before .before .before .before .before .before .before .before .before .before .before .before .before .before .before .before .before .before .before .before .before .before .before .before .before .link2 .ensures), c .before .before .before .before .before .before .before .before .before .before .before .before .before .before .before .before .before .before .before .before .before .before .before .before .before .before .before .before .before .before .before .before .pre .1, begun (c .before .before .before .before .before .before .before .before .before .before .before .before .before .before .before .before .before .before .before .before .before .before .before .before .before .before .before .before .before .before .before .before .pre .0) (c .before .before .before .before .before .before .before .before .before .before .before .before .before .before .before .before .before .before .start-tasks .ensures) (c .before .before .before .before .before .before .before .before .before .before .before .before .before .before .before .before .before .no-letters .ensures) (c .before .before .before .before .before .before .before .before .before .before .before .before .before .before .before .before .before .before .before .locate .ensures), refl)
+    (linked-by (c .before .before .before .before .before .before .before .before .before .before .before .before .before .before .before .before .before .before .before .before .before .before .before .before .before .before .before .before .before .before .before .before .before .before .before .before .before .before .before .before .before .before .before .link .ensures), linked-by (c .before .before .before .before .before .before .before .before .before .before .before .before .before .before .before .before .before .before .before .before .before .before .before .before .before .before .before .before .before .before .before .before .before .before .before .before .before .before .before .before .link2 .ensures), c .before .before .before .before .before .before .before .before .before .before .before .before .before .before .before .before .before .before .before .before .before .before .before .before .before .before .before .before .before .before .before .before .before .before .before .before .before .before .before .before .before .before .before .before .before .before .pre .1, begun (c .before .before .before .before .before .before .before .before .before .before .before .before .before .before .before .before .before .before .before .before .before .before .before .before .before .before .before .before .before .before .before .before .before .before .before .before .before .before .before .before .before .before .before .before .before .before .pre .0) (c .before .before .before .before .before .before .before .before .before .before .before .before .before .before .before .before .before .before .start-tasks .ensures) (c .before .before .before .before .before .before .before .before .before .before .before .before .before .before .before .before .before .no-letters .ensures) (c .before .before .before .before .before .before .before .before .before .before .before .before .before .before .before .before .before .before .before .before .before .before .before .before .before .before .before .before .before .before .before .before .before .before .before .before .before .no-store .ensures) (c .before .before .before .before .before .before .before .before .before .before .before .before .before .before .before .before .before .before .before .locate .ensures), refl)
 
 array-read-filled : tie.Need-array-read-filled
 array-read-filled c = search needs
@@ -83,6 +86,7 @@ drive-spec =
     (tie.spec
     link-requires
     link-requires-2
+    no-store-requires
     locate-requires
     start-tasks-requires
     no-letters-requires
