@@ -5,10 +5,9 @@ use mathlib.Core.List.{List, [], _++_, append-assoc, append-nil}
 use Prim.Native.Nat.{ℕ, _+_, _-_, _≤_, _<_}
 use native.Mathlib.Decide.{decLe}
 use native.Mathlib.Nat.{zero-add}
-use native.Mathlib.Numerals.{add-one}
 use native.Mathlib.Omega.{arith}
-use lib.ListN.{length, getD, set, take, drop, length-drop, drop-of-length-le}
-use lib.Seq.{paste-suc, take-all, drop-drop}
+use lib.ListN.{length, take, drop, length-drop, drop-of-length-le}
+use lib.Seq.{take-all, drop-drop}
 use borrow.Author.Tests.{le-leb, lt-leb}
 use borrow.Rule.Slice.PartMut.{midOf, putMid, put-same, mid-len}
 use Rattle.trace.specs.Output.{Emitted}
@@ -41,11 +40,6 @@ module _ {o : List ℕ} {f : ℕ} {t : List ℕ} {r : ℕ} {p : List ℕ} where
     pub fitted-not : 1 ≤ length t → r ≡ 0 → length o < f + length t
     fitted-not h z =
         by-cases (decLe (f + length t) (length o)) (λ (l : f + length t ≤ length o). absurd (omega (arith, count-fits l))) (λ n. omega arith)
-
--- one byte more copied to the front
-pub copy-more : (d s : List ℕ) (j : ℕ) → j < length d → j < length s
-    → set (take j s ++ drop j d) j (getD s j 0) ≡ take (j + 1) s ++ drop (j + 1) d
-copy-more d s j hd hs = rw add-one (simp zero-add at (paste-suc d 0 s j 0 (omega arith) hs))
 
 -- the part from f on, with the line put at its front, is put back
 pub put-back : (o : List ℕ) (f : ℕ) (t : List ℕ) (r : ℕ) (p : List ℕ) → f ≤ length o → Emitted (midOf f (length o - f) o) 0 t r p

@@ -5,14 +5,8 @@ use Prim.Native.Nat.{ℕ, _+_, _≤_, _<_}
 use native.Mathlib.Omega.{arith}
 use lib.ListN.{length, take, drop, length-append, length-drop}
 use lib.Seq.{take-append-seam, drop-append-add, drop-drop}
-use Rattle.trace.specs.declared.Line.{Line}
-use Rattle.trace.specs.Lines.{textOf, Holds}
 use Rattle.trace.specs.Output.{Emitted, Filled}
 use Rattle.trace.proofs.Emitting.{count-fits, bytes-fit, bytes-same, fitted, fitted-not}
-
--- what was emitted is the line's text
-pub emitted-text : {l : Line} {o : List ℕ} {f : ℕ} {t : List ℕ} {r : ℕ} {p : List ℕ} → Holds t l → Emitted o f (textOf l) r p → Emitted o f t r p
-emitted-text h e = rw (h .text) at e
 
 pub filled-none : (o : List ℕ) → Filled o [] 0 o
 filled-none o = record { bytes = refl; end = refl; room = omega arith }

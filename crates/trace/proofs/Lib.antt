@@ -1,5 +1,4 @@
 -- Lines put together, and put behind one another in the output.
-pub mod Adding
 pub mod Lines
 pub mod Emitting
 pub mod Filling

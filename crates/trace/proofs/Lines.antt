@@ -1,23 +1,32 @@
--- A line put together from nothing holds its text; the text of the last line is that of the paper.
-use mathlib.Core.Path.{_≡_, refl, _∙_}
-use mathlib.Core.Bool.{Bool}
-use mathlib.Core.List.{List, [], _∷_, _++_, append-assoc}
-use Prim.Native.Nat.{ℕ, _≤_}
+-- The last line: put together field by field, its length, and that it is the paper's.
+use mathlib.Core.Path.{_≡_, refl}
+use mathlib.Core.Bool.{Bool, true, false}
+use mathlib.Core.List.{[], _∷_, _++_, append-assoc}
+use Prim.Native.Nat.{ℕ, _+_}
 use native.Mathlib.Omega.{arith}
+use lib.ListN.{length, length-append}
 use Rattle.base.specs.Choice.{pick}
 use Rattle.rules.specs.declared.system.System.{System}
 use Rattle.rules.specs.Steps.{quiescent}
 use Rattle.rules.specs.Trace.{decimal, fields, endLine}
-use Rattle.trace.specs.declared.Line.{Line}
-use Rattle.trace.specs.Lines.{textOf, Adds, Holds, endText}
+use Rattle.trace.specs.Lines.{endWord, endText}
+use Rattle.trace.proofs.Putting.{one-digit}
 
-pub held : {l r : Line} {t : List ℕ} → (textOf l ≡ []) × (l .used ≡ 0) → Adds l t r → 1 ≤ r .used → r .used ≤ 24 → Holds t r
-held e a s f = record { text = a .text ∙ rw (e .0) refl; long = omega (arith, a .long, e .1); some = s; fits = f }
+-- r says whether the rig is at rest, as a number
+module _ (b : Bool) (n : ℕ) {r : ℕ} (e : r ≡ pick b 1 0) where
+  pub end-text : ((endWord ++ (32 ∷ decimal r)) ++ (32 ∷ decimal n)) ++ (10 ∷ []) ≡ endText b n
+  unfolding endText fields
+  end-text = simp append-assoc (rw e refl)
 
-pub end-text : (b : Bool) (n : ℕ)
-    → (((101 ∷ 110 ∷ 100 ∷ []) ++ (32 ∷ decimal (pick b 1 0))) ++ (32 ∷ decimal n)) ++ (10 ∷ []) ≡ endText b n
-unfolding endText fields
-end-text b n = simp append-assoc
+one-flag : (b : Bool) → length (decimal (pick b 1 0)) ≡ 1
+one-flag true = one-digit 1 (omega arith)
+one-flag false = one-digit 0 (omega arith)
+
+pub end-length : (b : Bool) (n : ℕ) → length (endText b n) ≡ length (decimal n) + 7
+end-length b n = rw (← end-text b n refl) (simp length-append (omega (arith, one-flag b)))
+
+pub flag-length : (b : Bool) {r : ℕ} → r ≡ pick b 1 0 → length (decimal r) ≡ 1
+flag-length b e = rw e (one-flag b)
 
 -- the last line of a rig
 pub end-of : (r : System) → endLine r ≡ endText (quiescent r) (r .network .used)

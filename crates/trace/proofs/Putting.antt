@@ -72,15 +72,19 @@ pub put-to-more : {o : List ℕ} {at : ℕ} {t : List ℕ} {r : ℕ} {p u : List
 put-to-more {t = t} {u = u} x y =
     record { put = put-more (x .put) (rw (x .end) at (y .put)); end = omega (arith, x .end, y .end, length-append t u) }
 
+-- a byte, with where it ends
+pub put-to-byte : (o : List ℕ) (at b : ℕ) → at < length o → PutTo o at (b ∷ []) (at + 1) (set o at b)
+put-to-byte o at b h = record { put = put-byte o at b h; end = refl }
+
 -- a space and what is put behind it
 pub put-space : {o : List ℕ} {at : ℕ} {t : List ℕ} {r : ℕ} {p : List ℕ} → at < length o → PutTo (set o at 32) (at + 1) t r p → PutTo o at (32 ∷ t) r p
-put-space {o} {at} h x = put-to-more (record { put = put-byte o at 32 h; end = refl }) x
+put-space {o} {at} h x = put-to-more (put-to-byte o at 32 h) x
 
 -- a line feed behind t is the line s
 pub line-end : {o : List ℕ} {f : ℕ} {t : List ℕ} {r : ℕ} {p : List ℕ} → PutTo o f t r p → (s : List ℕ) (n : ℕ) → t ++ (10 ∷ []) ≡ s → r < length o → n ≡ length s
     → Emitted o f s n (set p r 10)
 line-end {r = r} {p = p} x s n e h l =
-    let y = put-to-more x (record { put = put-byte p r 10 (omega (arith, put-length (x .put))); end = refl }) in
+    let y = put-to-more x (put-to-byte p r 10 (omega (arith, put-length (x .put)))) in
     let z = rw e at (y .put) in
     fits (z .room) l (z .bytes)
 

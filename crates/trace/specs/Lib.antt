@@ -1,3 +1,3 @@
--- What a line holds as it is put together, and what the output holds behind it.
+-- The text of the last line, and what the output holds behind a line.
 pub mod Lines
 pub mod Output

@@ -1,13 +1,15 @@
-// The line of a step, written straight into the rest of the lent output.
+// The lines of the trace, written straight into the rest of the lent output.
 ghost use mathlib.Core.Path.{_≡_};
 ghost use mathlib.Core.List.{_∷_, [], _++_};
 ghost use Prim.Native.Nat.{_+_, _<_, _≤_};
 ghost use lib.ListN.{length};
 ghost use lib.Dec.{leb};
 ghost use Rattle.rules.specs.Trace.{decimal, fields, stepLine};
+ghost use Rattle.trace.specs.Lines.{endWord, endText};
 ghost use Rattle.trace.specs.Output.{Emitted, Put, PutTo};
 use super::answer_number;
 use super::digit;
+use super::flag;
 use rules::rule::Received;
 use rules::step::Report;
 
@@ -189,4 +191,39 @@ pub fn emit_step(out: &mut [u8], filled: usize, k: usize, q: Report) -> usize
     ensures { λ r. ⌜ Emitted (now (out .entry)) filled (stepLine k q) r (now (out .exit)) ⌝ }
 {
     write_step(&mut out[filled..], k, q)
+}
+
+// The word that begins the last line, at the front.
+fn put_end(rest: &mut [u8]) -> usize
+    requires { ⌜ 3 ≤ length (now rest) ⌝ }
+    ensures { λ r. ⌜ PutTo (now (rest .entry)) 0 endWord r (now (rest .exit)) ⌝ }
+{
+    rest[0] = 101;
+    rest[1] = 110;
+    rest[2] = 100;
+    3
+}
+
+// The last line at the front of the rest of the output, if it fits: how many bytes were written.
+fn write_end(rest: &mut [u8], quiet: bool, letters: usize) -> usize
+    requires { ⌜ letters < 100000 ⌝ }
+    ensures { λ r. ⌜ Emitted (now (rest .entry)) 0 (endText quiet letters) r (now (rest .exit)) ⌝ }
+{
+    if rest.len() < digits(letters) + 7 {
+        return 0;
+    }
+    let word = put_end(rest);
+    let answer = put_field(rest, word, flag(quiet));
+    let end = put_field(rest, answer, letters);
+    rest[end] = 10;
+    end + 1
+}
+
+// The last line written into the part of the output that is not yet filled: how many bytes were written, 0 where it
+// does not fit.
+pub fn emit_end(out: &mut [u8], filled: usize, quiet: bool, letters: usize) -> usize
+    requires { ⌜ (filled ≤ length (now out)) × (letters < 100000) ⌝ }
+    ensures { λ r. ⌜ Emitted (now (out .entry)) filled (endText quiet letters) r (now (out .exit)) ⌝ }
+{
+    write_end(&mut out[filled..], quiet, letters)
 }
