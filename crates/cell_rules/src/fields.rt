@@ -1,8 +1,7 @@
-// A cell with one field changed, of the fields that only these rules change.
+// A cell with another held offer.
 ghost use mathlib.Core.Path.{_≡_};
-ghost use Rattle.rules.specs.Cells.{withHeld, withTravelling};
+ghost use Rattle.rules.specs.Cells.{withHeld};
 use rules::channel::Cell;
-use rules::channel::Hint;
 use rules::channel::Offer;
 
 // The desk's held offer.
@@ -12,15 +11,5 @@ pub fn with_held(mut x: Cell, o: Offer) -> Cell
     let mut e = x.entry;
     e.held = o;
     x.entry = e;
-    x
-}
-
-// The channel's travelling pointer.
-pub fn with_travelling(mut x: Cell, h: Hint) -> Cell
-    ensures { λ r. ⌜ r ≡ withTravelling x h ⌝ }
-{
-    let mut k = x.channel;
-    k.travelling = h;
-    x.channel = k;
     x
 }

@@ -1,5 +1,4 @@
-// What happens to what is kept for one channel at a desk: an offer, an advert, a call, a word; a birth, a move, an arrival.
+// What happens to what is kept for one channel at a desk: an offer, an advert, a call and a word.
 pub mod change;
 mod fields;
 mod order;
-pub mod sweeps;

@@ -9,7 +9,7 @@ use Rattle.rules.specs.Networks.{letterAt}
 use Rattle.rules.specs.Sound.{messageOk}
 use Rattle.rules_sound.proofs.Mail.{letter-fine}
 use Rattle.rules_sound.proofs.Sound.{sound}
-use Rattle.tables.specs.declared.store.Store.{Store}
+use Rattle.judge.specs.declared.store.Store.{Store}
 use Rattle.judge.specs.Facts.{Facts}
 use Rattle.core.specs.Turns.{Rig}
 
@@ -17,6 +17,7 @@ use Rattle.core.specs.Turns.{Rig}
 pub letter-ok : {f : Facts} {n : ℕ} {ts : List Task} {k : Network} {s : Store} (g : Rig f n ts k s) (q : ℕ) → 1 ≤ q → q ≤ k .used
     → messageOk n (f .tasks) (letterAt k q) ≡ true
 letter-ok g q some there =
-    let r = g .system in
-    rw (g .facts-of, g .processors, g .network)
-    (letter-fine (r .processors) (r .plan) (r .network) (g .shaped .slots) (sound r (g .shaped) (g .sound) .mail) q some (rw (g .network) at there))
+    let p = g .parts in
+    let r = p .system in
+    rw (p .facts-of, p .processors, g .network)
+    (letter-fine (r .processors) (r .plan) (r .network) (p .shaped .slots) (sound r (p .shaped) (p .sound) .mail) q some (rw (g .network) at there))

@@ -7,7 +7,7 @@ use lib.ListN.{length}
 use borrow.Author.Tests.{leb-true}
 use Rattle.base.proofs.Tests.{and-right}
 use Rattle.rules.specs.Networks.{lettersOf}
-use Rattle.tables.specs.Store.{sweepOk}
+use Rattle.judge.specs.Store.{sweepOk}
 use Rattle.judge.specs.declared.change.Change.{Change}
 use Rattle.judge.specs.Fetches.{scopeOk}
 use Rattle.judge.specs.Feasible.{changeOk}

@@ -13,9 +13,9 @@ use Rattle.rules_laws.specs.Shapes.{Shaped}
 use Rattle.rules_laws.proofs.Steps.{ruled-step}
 use Rattle.rules_laws.proofs.Shapes.{step-shaped, step-plan, step-processors}
 use Rattle.rules_sound.proofs.Kept.{step-kept}
-use Rattle.tables.specs.declared.store.Store.{Store}
-use Rattle.tables.specs.Store.{storeIn}
-use Rattle.judge.specs.Facts.{Facts, factsOf, PartsOf}
+use Rattle.judge.specs.declared.store.Store.{Store}
+use Rattle.judge.specs.Store.{storeIn}
+use Rattle.judge.specs.Facts.{Facts, factsOf}
 use Rattle.judge.specs.Rests.{restIn}
 use Rattle.judge.proofs.AtRest.{rest-is}
 use Rattle.core.specs.declared.turn.Turn.{Turn}
@@ -25,45 +25,50 @@ use Rattle.core.proofs.Turning.{turn-is}
 -- a rig's own parts
 abbrev pub own-parts : (r : System) → Shaped r → systemOk r ≡ true → Rig (factsOf (r .plan)) (r .processors) (r .tasks) (r .network) (storeIn r)
 own-parts r z o =
-    record { system = r; shaped = z; sound = o; facts-of = refl; processors = refl; tasks = refl; network = refl; store = refl }
+    record { parts = record { system = r; shaped = z; sound = o; facts-of = refl; processors = refl; tasks = refl; store = refl; letters = refl }; network = refl }
+
+-- rest and a step of parts that are those of rig r
+module _ {f : Facts} {n : ℕ} {ts : List Task} {k : Network} {s : Store} (r : System) (z : Shaped r) (o : systemOk r ≡ true)
+    (e : f ≡ factsOf (r .plan)) (d : n ≡ r .processors) (t : ts ≡ r .tasks) (m : k ≡ r .network) (c : s ≡ storeIn r) where
+  rest-of : restIn f n ts s (k .used) ≡ quiescent r
+  rest-of = rw (e, d, t, m, c) (rest-is r z o)
+
+  turn-of : (x : Step) → turnOf f n ts k s x ≡ partsOf (ruledStep r x)
+  turn-of x = rw (e, d, t, m, c) (turn-is r z o x)
 
 module _ {f : Facts} {n : ℕ} {ts : List Task} {k : Network} {s : Store} (g : Rig f n ts k s) where
-  pub rig-parts : PartsOf f n ts s (k .used)
-  rig-parts =
-      record {
-        system = g .system;
-        shaped = g .shaped;
-        sound = g .sound;
-        facts-of = g .facts-of;
-        processors = g .processors;
-        tasks = g .tasks;
-        store = g .store;
-        letters = ap (λ (q : Network). q .used) (g .network);
-      }
+  abbrev pub rig-system : System
+  rig-system = g .parts .system
 
-  pub rig-rest : restIn f n ts s (k .used) ≡ quiescent (g .system)
-  rig-rest = rw (g .facts-of, g .processors, g .tasks, g .network, g .store) (rest-is (g .system) (g .shaped) (g .sound))
+  pub rig-rest : restIn f n ts s (k .used) ≡ quiescent rig-system
+  rig-rest = let p = g .parts in rest-of (p .system) (p .shaped) (p .sound) (p .facts-of) (p .processors) (p .tasks) (g .network) (p .store)
 
   module _ (x : Step) where
-    pub rig-turn : turnOf f n ts k s x ≡ partsOf (ruledStep (g .system) x)
-    rig-turn = rw (g .facts-of, g .processors, g .tasks, g .network, g .store) (turn-is (g .system) (g .shaped) (g .sound) x)
+    pub rig-turn : turnOf f n ts k s x ≡ partsOf (ruledStep rig-system x)
+    rig-turn = let p = g .parts in turn-of (p .system) (p .shaped) (p .sound) (p .facts-of) (p .processors) (p .tasks) (g .network) (p .store) x
 
     -- after the step
     unfoldable pub rig-next : let t = turnOf f n ts k s x in Rig f n (t .tasks) (t .network) (t .store)
     rig-next =
-        let r = g .system in
-        let stepped = ruled-step r x (g .sound) in
+        let p = g .parts in
+        let r = rig-system in
+        let stepped = ruled-step r x (p .sound) in
+        let mail = ap (λ (t : Turn). t .network) rig-turn in
         record {
-          system = ruledStep r x .system;
-          shaped = rw stepped (step-shaped r x (g .shaped));
-          sound = rw stepped (step-kept r x (g .shaped) (g .sound));
-          facts-of = g .facts-of ∙ rw (stepped, step-plan r x) refl;
-          processors = g .processors ∙ rw (stepped, step-processors r x) refl;
-          tasks = ap (λ (t : Turn). t .tasks) rig-turn;
-          network = ap (λ (t : Turn). t .network) rig-turn;
-          store = ap (λ (t : Turn). t .store) rig-turn;
+          parts =
+              record {
+                system = ruledStep r x .system;
+                shaped = rw stepped (step-shaped r x (p .shaped));
+                sound = rw stepped (step-kept r x (p .shaped) (p .sound));
+                facts-of = p .facts-of ∙ rw (stepped, step-plan r x) refl;
+                processors = p .processors ∙ rw (stepped, step-processors r x) refl;
+                tasks = ap (λ (t : Turn). t .tasks) rig-turn;
+                store = ap (λ (t : Turn). t .store) rig-turn;
+                letters = ap (λ (q : Network). q .used) mail;
+              };
+          network = mail;
         }
 
-    pub rig-next-system : rig-next .system ≡ ruledStep (g .system) x .system
+    pub rig-next-system : rig-next .parts .system ≡ ruledStep rig-system x .system
     unfolding rig-next
     rig-next-system = refl

@@ -24,7 +24,7 @@ use Rattle.rules_laws.proofs.StepKinds.{answer-run, performed-run, answer-deliv
 use Rattle.rules_sound.specs.Sound.{Sound}
 use Rattle.rules_sound.proofs.Sound.{sound}
 use Rattle.rules_sound.proofs.Answers.{run-passed}
-use Rattle.tables.specs.Store.{storeIn}
+use Rattle.judge.specs.Store.{storeIn}
 use Rattle.judge.specs.Facts.{factsOf}
 use Rattle.judge.specs.RunVerdicts.{judgedRun}
 use Rattle.judge.specs.MoveVerdicts.{moveChange, judgedMove}

@@ -9,7 +9,7 @@ use Rattle.rules.specs.Steps.{step}
 use Rattle.rules_laws.specs.Shapes.{Shaped}
 use Rattle.rules_laws.proofs.Steps.{ruled-step}
 use Rattle.rules_laws.proofs.Shapes.{step-plan, step-processors}
-use Rattle.tables.specs.Store.{storeIn}
+use Rattle.judge.specs.Store.{storeIn}
 use Rattle.judge.specs.Facts.{factsOf}
 use Rattle.core.specs.declared.turn.Turn.{Turn}
 use Rattle.core.specs.Turns.{turnOf, partsOf}

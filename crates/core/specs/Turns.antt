@@ -1,6 +1,5 @@
 -- One step carried out on the parts of a rig that 9 does not refuse.
 use mathlib.Core.Path.{_≡_}
-use mathlib.Core.Bool.{true}
 use mathlib.Core.List.{List}
 use Prim.Native.Nat.{ℕ}
 use lib.Dec.{eqb}
@@ -13,19 +12,16 @@ use Rattle.rules.specs.declared.step.StepAnswer.{StepAnswer}
 use Rattle.rules.specs.declared.step.StepAnswer.the-variants.{Accepted, NoMessage, BadStep}
 use Rattle.rules.specs.declared.step.Report.{Report}
 use Rattle.rules.specs.declared.step.Stepped.{Stepped}
-use Rattle.rules.specs.declared.system.System.{System}
 use Rattle.rules.specs.Numbers.{taskId, processorId}
 use Rattle.rules.specs.Networks.{letterAt, enqueuedAll, dequeued, lettersOf}
-use Rattle.rules.specs.Sound.{systemOk}
 use Rattle.rules.specs.Steps.{isRun, isDeliver, isMove}
-use Rattle.rules_laws.specs.Shapes.{Shaped}
-use Rattle.tables.specs.declared.store.Store.{Store}
-use Rattle.tables.specs.Store.{storeIn, swept}
+use Rattle.judge.specs.declared.store.Store.{Store}
+use Rattle.judge.specs.Store.{storeIn, swept}
 use Rattle.core.specs.declared.turn.Turn.{Turn}
 use Rattle.judge.specs.declared.change.Change.{Change}
 use Rattle.judge.specs.declared.change.Verdict.{Verdict}
 use Rattle.judge.specs.declared.change.Verdict.the-variants.{Refused, Accepted as Allowed}
-use Rattle.judge.specs.Facts.{Facts, factsOf}
+use Rattle.judge.specs.Facts.{Facts, PartsOf}
 use Rattle.judge.specs.Fetches.{taskStored, cellPut}
 use Rattle.judge.specs.RunVerdicts.{judgedRun}
 use Rattle.judge.specs.MoveVerdicts.{judgedMove}
@@ -73,13 +69,7 @@ turnOf f n ts k s x =
 abbrev pub partsOf : Stepped → Turn
 partsOf o = turned (o .report) (o .system .tasks) (o .system .network) (storeIn (o .system))
 
--- these are the parts of a rig that 9 does not refuse
+-- these are the parts of a rig that 9 does not refuse, its mail among them
 pub record Rig (f : Facts) (n : ℕ) (ts : List Task) (k : Network) (s : Store) : Type 0 where
-  pub system : System
-  pub shaped : Shaped system
-  pub sound : systemOk system ≡ true
-  pub facts-of : f ≡ factsOf (system .plan)
-  pub processors : n ≡ system .processors
-  pub tasks : ts ≡ system .tasks
-  pub network : k ≡ system .network
-  pub store : s ≡ storeIn system
+  pub parts : PartsOf f n ts s (k .used)
+  pub network : k ≡ parts .system .network

@@ -1,8 +1,8 @@
 // What a step leaves.
+use judge::store::Store;
 use rules::message::Network;
 use rules::step::Report;
 use rules::task::Task;
-use tables::store::Store;
 
 // What a step leaves: its report, and the parts of the rig then.
 pub struct Turn {

@@ -14,21 +14,22 @@ use Rattle.rules.specs.Sound.{systemOk}
 use Rattle.rules.specs.Steps.{wellFormed, kindAnswer, ruledAnswer, stepAnswer, runStep, quiescent}
 use Rattle.rules_laws.specs.Shapes.{Shaped}
 use Rattle.rules_sound.proofs.Sound.{sound}
-use Rattle.tables.specs.Store.{storeIn}
-use Rattle.judge.specs.declared.change.Change.{Change}
+use Rattle.judge.specs.Store.{storeIn}
+use Rattle.judge.specs.declared.change.Verdict.{Verdict}
 use Rattle.judge.specs.declared.change.Verdict.the-variants.{Refused, Accepted}
 use Rattle.judge.specs.Facts.{factsOf}
 use Rattle.judge.specs.RunVerdicts.{judgedRun}
 use Rattle.judge.specs.Rests.{isRefused, restIn}
 use Rattle.judge.specs.Effects.{ranOf}
-use Rattle.judge.specs.Answers.{verdictOf}
+use Rattle.judge.specs.Answers.{unlessRefused}
 use Rattle.judge.proofs.Runs.{run-answer}
 
-verdict-refused : (k : Change) (a : StepAnswer) → isRefused (verdictOf k a) ≡ not (isAccepted a)
-verdict-refused k a = go (isAccepted a)
+-- where v refuses nothing, the answer alone refuses
+pub refused-by : (a : StepAnswer) (v : Verdict) → isRefused v ≡ false → isRefused (unlessRefused a v) ≡ not (isAccepted a)
+refused-by a v h = go (isAccepted a)
   where
-    go : (b : Bool) → isRefused (pick b (Accepted k) (Refused a)) ≡ not b
-    go true = refl
+    go : (b : Bool) → isRefused (pick b v (Refused a)) ≡ not b
+    go true = h
     go false = refl
 
 module _ (r : System) (z : Shaped r) (o : systemOk r ≡ true) where
@@ -38,7 +39,7 @@ module _ (r : System) (z : Shaped r) (o : systemOk r ≡ true) where
       ≡ not (isAccepted (stepAnswer r (runStep t)))
   unfolding stepAnswer ruledAnswer wellFormed kindAnswer
   run-refused t =
-      rw (o, run-answer r (sound r z o) (taskId t)) (verdict-refused (ranOf r (taskId t) (nextOf r (taskId t))) (runAnswer r (taskId t)))
+      rw (o, run-answer r (sound r z o) (taskId t)) (refused-by (runAnswer r (taskId t)) (Accepted (ranOf r (taskId t) (nextOf r (taskId t)))) refl)
 
   pub rest-is : restIn (factsOf (r .plan)) (r .processors) (r .tasks) (storeIn r) (r .network .used) ≡ quiescent r
   unfolding restIn quiescent

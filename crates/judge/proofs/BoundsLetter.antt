@@ -18,7 +18,7 @@ use Rattle.rules.specs.declared.message.Message.the-variants.{Empty, Offered, A
 use Rattle.rules.specs.Numbers.{channelNumberOk, processorOk, taskNumberOk}
 use Rattle.rules.specs.Sound.{knownOk, madeOk, messageOk}
 use Rattle.letters.specs.Letters.{childOf}
-use Rattle.tables.specs.declared.store.Store.{Store}
+use Rattle.judge.specs.declared.store.Store.{Store}
 use Rattle.judge.specs.Facts.{Facts, PartsOf}
 use Rattle.judge.specs.Fetches.{siteIn}
 use Rattle.judge.specs.Scopes.{channelScope, letterScope, namesOk}

@@ -2,10 +2,8 @@
 use mathlib.Core.Path.{_≡_, refl, _∙_, ap}
 use mathlib.Core.Bool.{true}
 use mathlib.Core.List.{List}
-use Prim.Native.Nat.{ℕ, _+_, _-_, _≤_}
-use native.Mathlib.Omega.{arith}
+use Prim.Native.Nat.{ℕ, _-_, _≤_}
 use lib.ListN.{length}
-use borrow.Author.Tests.{le-leb}
 use Rattle.base.specs.Choice.{within}
 use Rattle.base.proofs.Choices.{pick-either}
 use Rattle.rules.specs.declared.task.Task.{Task}
@@ -23,16 +21,15 @@ use Rattle.rules_laws.specs.Shapes.{Shaped}
 use Rattle.rules_sound.specs.Sound.{Sound}
 use Rattle.rules_sound.specs.Stands.{Whole}
 use Rattle.rules_sound.proofs.Deliveries.{open-fine}
-use Rattle.tables.specs.declared.store.Store.{Store}
-use Rattle.tables.specs.Store.{storeIn}
+use Rattle.judge.specs.declared.store.Store.{Store}
+use Rattle.judge.specs.Store.{storeIn}
 use Rattle.judge.specs.Facts.{Facts, factsOf, PartsOf}
 use Rattle.judge.specs.Fetches.{scopeOk}
 use Rattle.judge.specs.Scopes.{letterScope}
 use Rattle.judge.specs.Openings.{letterChange, openedIn}
-use Rattle.judge.specs.Feasible.{changeOk}
 use Rattle.judge.proofs.Effects.{effect-posting}
 use Rattle.judge.proofs.Openings.{open-effect}
-use Rattle.judge.proofs.BoundsParts.{rig-sound, used-few}
+use Rattle.judge.proofs.BoundsParts.{rig-sound}
 use Rattle.judge.proofs.BoundsVerdicts.{Placed}
 use Rattle.judge.proofs.BoundsLetter.{letter-reached}
 
@@ -68,9 +65,3 @@ module _ {f : Facts} {n : ℕ} {ts : List Task} {s : Store} {used : ℕ} (p : Pa
   letters-few =
       rw (p .facts-of, p .processors, p .tasks, p .store)
       (opened-few (p .system) (p .shaped) (rig-sound p) m (rw (p .facts-of, p .processors) at o))
-
-  pub open-feasible : 1 ≤ used → changeOk n (used - 1) (openedIn f ts s m) ≡ true
-  open-feasible some =
-      let (scope, sweep) = opened-placed in
-      let fits = le-leb (used - 1 + length (lettersOf n (openedIn f ts s m .outcome .posting))) 256 (omega (arith, letters-few, used-few p)) in
-      simp (scope, sweep, fits)

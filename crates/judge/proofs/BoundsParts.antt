@@ -18,7 +18,7 @@ use Rattle.rules_sound.proofs.Born.{place-few as behind-few}
 use Rattle.rules_sound.proofs.Frames.{tasks-few, program-in}
 use Rattle.rules_sound.proofs.Sound.{sound}
 use Rattle.ends.proofs.Entries.{sender-in, receiver-in, parent-in}
-use Rattle.tables.specs.declared.store.Store.{Store}
+use Rattle.judge.specs.declared.store.Store.{Store}
 use Rattle.judge.specs.Facts.{Facts, PartsOf}
 use Rattle.judge.specs.Fetches.{taskIn}
 use Rattle.judge.specs.Scopes.{namedIn}
@@ -51,9 +51,6 @@ module _ {f : Facts} {n : ℕ} {ts : List Task} {s : Store} {used : ℕ} (p : Pa
 
   pub used-few : used ≤ 256
   used-few = rw (p .letters) (rig-sound .mail .used)
-
-  pub processors-some : 1 ≤ n
-  processors-some = rw (p .processors) (rig-sound .frame .some)
 
   pub processors-few : n ≤ 6
   processors-few = rw (p .processors) (rig-sound .frame .few)

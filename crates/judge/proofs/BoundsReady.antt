@@ -23,7 +23,7 @@ use Rattle.rules_sound.specs.Settled.{Settled}
 use Rattle.rules_sound.specs.Sound.{programIn}
 use Rattle.rules_sound.proofs.Settled.{settled}
 use Rattle.rules_sound.proofs.Frames.{program-in}
-use Rattle.tables.specs.declared.store.Store.{Store}
+use Rattle.judge.specs.declared.store.Store.{Store}
 use Rattle.judge.specs.Facts.{Facts, PartsOf}
 use Rattle.judge.specs.Fetches.{taskIn, instructionIn}
 use Rattle.judge.specs.Scopes.{argumentOk}

@@ -1,5 +1,5 @@
 -- A run of a ready task, in the parts of a rig that 9 does not refuse: what it reaches, and that its numbers can go on.
-use mathlib.Core.Path.{_≡_, refl}
+use mathlib.Core.Path.{_≡_}
 use mathlib.Core.Bool.{true}
 use mathlib.Core.List.{List}
 use Prim.Native.Nat.{ℕ}
@@ -8,7 +8,7 @@ use lib.Dec.{eqb}
 use borrow.Author.Tests.{eqb-true}
 use Rattle.base.specs.Choice.{within}
 use Rattle.base.proofs.Choices.{pick-cases}
-use Rattle.base.proofs.Tests.{within-high, within-both}
+use Rattle.base.proofs.Tests.{within-high}
 use Rattle.plan.specs.declared.TaskId.{TaskId}
 use Rattle.plan.specs.declared.Instruction.{Instruction}
 use Rattle.plan.specs.Kinds.{opCreate, opFinish, opSend, opReceive}
@@ -16,15 +16,14 @@ use Rattle.plan_laws.proofs.Programs.{send-operand, receive-operand}
 use Rattle.rules.specs.declared.task.Task.{Task}
 use Rattle.rules.specs.declared.task.TaskState.the-variants.{Ready}
 use Rattle.rules.specs.Tasks.{isIn}
-use Rattle.tables.specs.declared.store.Store.{Store}
+use Rattle.judge.specs.declared.store.Store.{Store}
 use Rattle.judge.specs.declared.change.Scope.{Scope}
 use Rattle.judge.specs.Facts.{Facts, PartsOf}
-use Rattle.judge.specs.Fetches.{taskIn, siteIn}
+use Rattle.judge.specs.Fetches.{taskIn}
 use Rattle.judge.specs.Scopes.{runScope}
-use Rattle.judge.specs.RunVerdicts.{RunnableAt, sendsFrom}
-use Rattle.judge.proofs.BoundsParts.{within-wider, count-few, sender-few, receiver-few, parent-few}
+use Rattle.judge.proofs.BoundsParts.{sender-few, receiver-few, parent-few}
 use Rattle.judge.proofs.BoundsScope.{Reached, scope-reached}
-use Rattle.judge.proofs.BoundsReady.{nextAt, place-some, place-last, desk-in, instruction-ok, argument-ok, child-few}
+use Rattle.judge.proofs.BoundsReady.{nextAt, desk-in, instruction-ok, child-few}
 
 module _ {f : Facts} {n : ℕ} {ts : List Task} {s : Store} {used : ℕ} (p : PartsOf f n ts s used) (t : TaskId)
     (w : within 1 (f .tasks) (t .0) ≡ true) (ready : isIn Ready (taskIn ts t) ≡ true) where
@@ -57,24 +56,3 @@ module _ {f : Facts} {n : ℕ} {ts : List Task} {s : Store} {used : ℕ} (p : Pa
       let c = within-high 1 128 (next .operand) (receive-operand (f .tasks) next fine (eqb-true (next .opcode) opReceive k)) in
       scope-reached p _ (sender-few p (next .operand)) high c desk)
       (λ e. scope-reached p _ high (omega arith) (omega arith) desk))))
-
-  pub runnable : RunnableAt t next (siteIn (f .operands) ts s reach)
-  unfolding siteIn
-  runnable =
-      let r = run-reached in
-      let few = count-few p in
-      record {
-        task = within-wider (f .tasks) 64 few (t .0) w;
-        argument = argument-ok p t w ready;
-        child = λ k. omega (arith, child-few p t w ready k);
-        sender-place = omega (arith, r .sender-place);
-        receiver-place = omega (arith, r .receiver-place);
-        called = omega (arith, r .called);
-      }
-
-  pub sends-from : sendsFrom next (siteIn (f .operands) ts s reach) ≡ true
-  unfolding siteIn runScope
-  sends-from =
-      pick-cases (λ b. b ≡ true) (eqb (next .opcode) opSend) _ true
-      (λ k. rw (eqb-true (next .opcode) opSend k) (within-both 1 64 (taskIn ts t .pc) (place-some p t w ready) (place-last p t w ready)))
-      (λ e. refl)

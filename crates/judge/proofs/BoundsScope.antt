@@ -11,7 +11,7 @@ use Rattle.base.proofs.Choices.{pick-cases}
 use Rattle.rules.specs.declared.task.Task.{Task}
 use Rattle.rules.specs.declared.channel.Cell.{Cell}
 use Rattle.rules.specs.Systems.{channelAt}
-use Rattle.tables.specs.declared.store.Store.{Store}
+use Rattle.judge.specs.declared.store.Store.{Store}
 use Rattle.judge.specs.declared.change.Scope.{Scope}
 use Rattle.judge.specs.Facts.{Facts, PartsOf}
 use Rattle.judge.specs.Fetches.{taskIn, noCell, scopeOk, cellOf}

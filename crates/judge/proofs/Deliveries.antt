@@ -10,7 +10,7 @@ use Rattle.rules.specs.Deliver.{delivered}
 use Rattle.rules_laws.specs.Shapes.{Shaped}
 use Rattle.rules_sound.specs.Sound.{Holds, Sound}
 use Rattle.rules_sound.proofs.Mail.{letter-fine}
-use Rattle.tables.specs.Store.{storeIn}
+use Rattle.judge.specs.Store.{storeIn}
 use Rattle.judge.specs.Facts.{factsOf}
 use Rattle.judge.specs.Openings.{openedIn}
 use Rattle.judge.specs.Effects.{effectOf}

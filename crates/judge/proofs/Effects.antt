@@ -14,9 +14,9 @@ use Rattle.rules.specs.Numbers.{taskId, channelId}
 use Rattle.rules.specs.Systems.{withTask, withTasks, withCell}
 use Rattle.rules.specs.Effects.{Effect, withOutcome, applied}
 use Rattle.rules_sound.specs.Sound.{Holds}
-use Rattle.tables.specs.declared.sweep.Sweep.{Sweep}
-use Rattle.tables.specs.declared.sweep.Sweep.the-variants.{Nothing}
-use Rattle.tables.specs.Store.{storeIn}
+use Rattle.judge.specs.declared.sweep.Sweep.{Sweep}
+use Rattle.judge.specs.declared.sweep.Sweep.the-variants.{Nothing}
+use Rattle.judge.specs.Store.{storeIn}
 use Rattle.judge.specs.declared.change.Change.{Change}
 use Rattle.judge.specs.Fetches.{taskStored, cellPut, siteIn}
 use Rattle.judge.specs.Scopes.{scope, alone}

@@ -29,7 +29,7 @@ use Rattle.rules.specs.Runs.{nextOf}
 use Rattle.rules_sound.specs.Sound.{programIn, Holds}
 use Rattle.rules_sound.proofs.Born.{place-few}
 use Rattle.rules_sound.proofs.Settled.{settled}
-use Rattle.tables.specs.Store.{storeIn}
+use Rattle.judge.specs.Store.{storeIn}
 use Rattle.judge.specs.Fetches.{taskIn, taskStored, slotAt, instructionIn, lastOf, isOnIn, cellOf, siteIn}
 use Rattle.judge.specs.Scopes.{scope}
 
@@ -46,9 +46,6 @@ module _ (r : System) (t : TaskId) where
       go : (b : Bool) → pick b r (withTasks r (set (r .tasks) (t .0 - 1) x)) ≡ withTasks r (pick b (r .tasks) (set (r .tasks) (t .0 - 1) x))
       go true = refl
       go false = refl
-
-  pub tasks-written : (x : Task) → withTask r t x .tasks ≡ taskStored (r .tasks) t x
-  tasks-written x = ap (λ (q : System). q .tasks) (task-written x)
 
 -- an instruction of task t's program, from 0
 module _ (p : Plan) (t : TaskId) (l : 1 ≤ t .0) (h : t .0 ≤ p .tasks) where

@@ -1,4 +1,6 @@
 -- What is computed on the parts of a rig is what the rules say of the rig.
+pub mod StoreLaws
+pub mod Sweeping
 pub mod Sweeps
 pub mod Fetching
 pub mod Names
@@ -7,6 +9,7 @@ pub mod SendNumbers
 pub mod LocalRuns
 pub mod ChannelRuns
 pub mod Answers
+pub mod Passed
 pub mod Runs
 pub mod Moves
 pub mod Openings

@@ -17,7 +17,7 @@ use Rattle.rules.specs.Systems.{taskAt, withTask, meaning}
 use Rattle.rules.specs.Starts.{birth}
 use Rattle.rules.specs.Local.{createRule}
 use Rattle.rules.specs.Runs.{ranCreate, ranFinish, executed}
-use Rattle.tables.specs.declared.sweep.Sweep.the-variants.{Nothing, Birth}
+use Rattle.judge.specs.declared.sweep.Sweep.the-variants.{Nothing, Birth}
 use Rattle.judge.specs.Fetches.{siteIn}
 use Rattle.judge.specs.Scopes.{runScope}
 use Rattle.judge.specs.RunVerdicts.{runChange, ranIn}

@@ -28,8 +28,8 @@ use Rattle.rules_laws.proofs.TaskAt.{withTask-taskAt}
 use Rattle.rules_sound.specs.Sound.{Startable, Holds}
 use Rattle.rules_sound.proofs.Frames.{user-in, tasks-few}
 use Rattle.ends.specs.Derived.{endsOf}
-use Rattle.tables.specs.declared.sweep.Sweep.the-variants.{Nothing, Arrival}
-use Rattle.tables.specs.Store.{storeIn}
+use Rattle.judge.specs.declared.sweep.Sweep.the-variants.{Nothing, Arrival}
+use Rattle.judge.specs.Store.{storeIn}
 use Rattle.judge.specs.Facts.{factsOf}
 use Rattle.judge.specs.Fetches.{siteIn}
 use Rattle.judge.specs.Scopes.{channelScope}

@@ -24,22 +24,22 @@ use Rattle.rules.specs.Runs.{nextOf, ran, fits, finishesEarly, runAnswer}
 use Rattle.rules_sound.specs.Sound.{programIn, Sound}
 use Rattle.rules_sound.proofs.Settled.{settled}
 use Rattle.rules_sound.proofs.Frames.{tasks-few, in-plan}
-use Rattle.tables.specs.Store.{storeIn}
+use Rattle.judge.specs.Store.{storeIn}
 use Rattle.judge.specs.declared.change.Verdict.{Verdict}
-use Rattle.judge.specs.declared.change.Verdict.the-variants.{Refused, Accepted as Allowed}
+use Rattle.judge.specs.declared.change.Verdict.the-variants.{Accepted as Allowed}
 use Rattle.judge.specs.Facts.{factsOf}
-use Rattle.judge.specs.RunVerdicts.{fittingIn, judgedRun}
+use Rattle.judge.specs.RunVerdicts.{fittingIn, runRefusal, judgedRun}
 use Rattle.judge.specs.Effects.{effectOf, ranOf}
-use Rattle.judge.specs.Answers.{verdictOf}
+use Rattle.judge.specs.Answers.{unlessRefused, verdictOf}
 use Rattle.judge.proofs.Fetching.{task-read, next-read}
 use Rattle.judge.proofs.LocalRuns.{create-ran, sync-ran, finish-ran, set-ran, add-ran}
 use Rattle.judge.proofs.ChannelRuns.{send-ran, receive-ran}
-use Rattle.judge.proofs.Answers.{refused-unless}
+use Rattle.judge.proofs.Answers.{refused-unless, fitting-answer}
 
 -- the verdict on a ready task t whose next instruction is i
 abbrev judgedNext : System → TaskId → Instruction → Verdict
 judgedNext r t i =
-    unless (not (isFinish i && not (isChildless (taskAt r t)))) (Refused FinishWithChildren) (fittingIn (r .processors) (r .network .used) (ranOf r t i))
+    unlessRefused (unless (not (isFinish i && not (isChildless (taskAt r t)))) FinishWithChildren Accepted) (fittingIn (r .processors) (r .network .used) (ranOf r t i))
 
 module _ (r : System) (f : Sound r) (t : TaskId) where
   -- a ready task
@@ -84,17 +84,17 @@ module _ (r : System) (f : Sound r) (t : TaskId) where
     ready-judged =
         let k = ranOf r t (nextOf r t) in
         rw run-effect
-        (refused-unless k (not (finishesEarly r t)) FinishWithChildren _ _ refl
-        (λ e. refused-unless k (fits r (effectOf r k)) NetworkFull Accepted (Allowed k) refl (λ q. refl)))
+        (refused-unless _ (Allowed k) (not (finishesEarly r t)) FinishWithChildren Accepted _ refl (λ e. fitting-answer k (fits r (effectOf r k))))
 
   pub run-answer : judgedRun (factsOf (r .plan)) (r .processors) (r .tasks) (storeIn r) (r .network .used) t ≡ verdictOf (ranOf r t (nextOf r t)) (runAnswer r t)
-  unfolding judgedRun runAnswer
+  unfolding judgedRun runRefusal runAnswer
   run-answer =
       let k = ranOf r t (nextOf r t) in
       let m = r .plan .tasks in
       rw (task-read r t)
-      (refused-unless k (within 1 m (t .0)) NoTask _ _ refl
+      (refused-unless _ (Allowed k) (within 1 m (t .0)) NoTask _ _ refl
       (λ w.
       let l = within-low 1 m (t .0) w in
       let h = within-high 1 m (t .0) w in
-      refused-unless k (isIn Ready (taskAt r t)) NotReady _ _ refl (λ ready. ap (judgedNext r t) (next-read r (f .rig) t l h ready) ∙ ready-judged l h ready)))
+      refused-unless _ (Allowed k) (isIn Ready (taskAt r t)) NotReady _ _ refl
+      (λ ready. ap (judgedNext r t) (next-read r (f .rig) t l h ready) ∙ ready-judged l h ready)))

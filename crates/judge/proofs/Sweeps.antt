@@ -13,12 +13,12 @@ use Rattle.rules.specs.Arrivals.{arrivalReceiving, arrivalSending}
 use Rattle.rules.specs.Moves.{departureSending}
 use Rattle.ends.specs.Derived.{endsOf}
 use Rattle.ends.proofs.Entries.{sender-at, receiver-at}
-use Rattle.tables.specs.declared.sweep.CellRule.{CellRule}
-use Rattle.tables.specs.declared.sweep.CellRule.the-variants.{Locate, ArriveReceiving, ArriveSending, DepartSending}
-use Rattle.tables.specs.declared.sweep.Sweep.{Sweep}
-use Rattle.tables.specs.declared.sweep.Sweep.the-variants.{Birth, Departure, Arrival}
-use Rattle.tables.specs.Store.{storeIn, withStore, ruleOf, endIs, forEnds, swept}
-use Rattle.tables.proofs.Rigs.{for-channels, for-cells-same}
+use Rattle.judge.specs.declared.sweep.CellRule.{CellRule}
+use Rattle.judge.specs.declared.sweep.CellRule.the-variants.{Locate, ArriveReceiving, ArriveSending, DepartSending}
+use Rattle.judge.specs.declared.sweep.Sweep.{Sweep}
+use Rattle.judge.specs.declared.sweep.Sweep.the-variants.{Birth, Departure, Arrival}
+use Rattle.judge.specs.Store.{storeIn, withStore, ruleOf, endIs, forEnds, swept}
+use Rattle.judge.proofs.StoreLaws.{for-channels, for-cells-same}
 
 module _ (r : System) (t : TaskId) (d : ProcessorId) (rule : CellRule) where
   pub for-receiving : forReceiving r t d (ruleOf rule) ≡ withStore r (forEnds (endsOf (r .plan) .receivers) t d rule (storeIn r))

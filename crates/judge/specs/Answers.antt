@@ -6,6 +6,10 @@ use Rattle.judge.specs.declared.change.Change.{Change}
 use Rattle.judge.specs.declared.change.Verdict.{Verdict}
 use Rattle.judge.specs.declared.change.Verdict.the-variants.{Refused, Accepted}
 
+-- the answer's refusal, or else the verdict v
+abbrev pub unlessRefused : StepAnswer → Verdict → Verdict
+unlessRefused a v = pick (isAccepted a) v (Refused a)
+
 -- on a step that is answered a and would make the change k
 abbrev pub verdictOf : Change → StepAnswer → Verdict
-verdictOf k a = pick (isAccepted a) (Accepted k) (Refused a)
+verdictOf k a = unlessRefused a (Accepted k)

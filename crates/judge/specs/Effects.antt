@@ -4,7 +4,7 @@ use Rattle.plan.specs.declared.Instruction.{Instruction}
 use Rattle.rules.specs.declared.system.System.{System}
 use Rattle.rules.specs.Systems.{withTasks}
 use Rattle.rules.specs.Effects.{Effect}
-use Rattle.tables.specs.Store.{storeIn, withStore, swept}
+use Rattle.judge.specs.Store.{storeIn, withStore, swept}
 use Rattle.judge.specs.declared.change.Change.{Change}
 use Rattle.judge.specs.Facts.{factsOf}
 use Rattle.judge.specs.Fetches.{taskStored, cellPut}

@@ -9,8 +9,8 @@ use Rattle.rules.specs.declared.system.System.{System}
 use Rattle.rules.specs.Sound.{systemOk}
 use Rattle.rules_laws.specs.Shapes.{Shaped}
 use Rattle.ends.specs.Derived.{endsOf}
-use Rattle.tables.specs.declared.store.Store.{Store}
-use Rattle.tables.specs.Store.{storeIn}
+use Rattle.judge.specs.declared.store.Store.{Store}
+use Rattle.judge.specs.Store.{storeIn}
 
 pub record Facts : Type 0 where
   pub tasks : ℕ

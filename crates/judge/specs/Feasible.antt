@@ -4,7 +4,7 @@ use Prim.Native.Nat.{ℕ, _+_}
 use lib.Dec.{leb}
 use lib.ListN.{length}
 use Rattle.rules.specs.Networks.{lettersOf}
-use Rattle.tables.specs.Store.{sweepOk}
+use Rattle.judge.specs.Store.{sweepOk}
 use Rattle.judge.specs.declared.change.Change.{Change}
 use Rattle.judge.specs.declared.change.Verdict.{Verdict}
 use Rattle.judge.specs.declared.change.Verdict.the-variants.{Refused, Accepted}

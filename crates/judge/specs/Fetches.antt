@@ -16,8 +16,8 @@ use Rattle.rules.specs.declared.rule.Site.{Site}
 use Rattle.rules.specs.Numbers.{noProcessor}
 use Rattle.rules.specs.Tasks.{noTask, isIn}
 use Rattle.rules.specs.Cells.{unknown, noOffer}
-use Rattle.tables.specs.declared.store.Store.{Store}
-use Rattle.tables.specs.Store.{cellIn, cellStored}
+use Rattle.judge.specs.declared.store.Store.{Store}
+use Rattle.judge.specs.Store.{cellIn, cellStored}
 use Rattle.judge.specs.declared.change.Scope.{Scope}
 
 -- task t of the tasks; 0 is none

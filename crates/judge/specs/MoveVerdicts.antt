@@ -3,7 +3,8 @@ use mathlib.Core.Path.{_≡_}
 use mathlib.Core.Bool.{true, not}
 use mathlib.Core.List.{List}
 use Prim.Native.Nat.{ℕ, _+_, _≤_}
-use lib.Dec.{eqb}
+use lib.Dec.{eqb, leb}
+use lib.ListN.{length}
 use Rattle.base.specs.Choice.{unless, within}
 use Rattle.plan.specs.declared.TaskId.{TaskId}
 use Rattle.plan.specs.declared.ProcessorId.{ProcessorId}
@@ -12,17 +13,19 @@ use Rattle.rules.specs.declared.task.TaskState.the-variants.{Ready}
 use Rattle.rules.specs.declared.message.Message.the-variants.{Migration}
 use Rattle.rules.specs.declared.rule.Posting.the-variants.{Letter}
 use Rattle.rules.specs.declared.rule.Received.the-variants.{Nothing as NoWord}
-use Rattle.rules.specs.declared.step.StepAnswer.the-variants.{NoTask, NotReady, NoProcessor, AlreadyThere, MoveWithChildren, MovesSpent}
-use Rattle.rules.specs.Numbers.{taskNumberOk, processorOk, mostMoves}
+use Rattle.rules.specs.declared.step.StepAnswer.{StepAnswer}
+use Rattle.rules.specs.declared.step.StepAnswer.the-variants.{Accepted, NoTask, NotReady, NetworkFull, NoProcessor, AlreadyThere, MoveWithChildren, MovesSpent}
+use Rattle.rules.specs.Numbers.{taskNumberOk, processorOk, mostMoves, mailSize}
 use Rattle.rules.specs.Tasks.{isIn, isAt, isChildless, departed, noTask}
 use Rattle.rules.specs.Cells.{hint}
-use Rattle.tables.specs.declared.sweep.Sweep.the-variants.{Departure}
+use Rattle.rules.specs.Networks.{lettersOf}
+use Rattle.judge.specs.declared.sweep.Sweep.the-variants.{Departure}
 use Rattle.judge.specs.declared.change.Change.{Change}
 use Rattle.judge.specs.declared.change.Verdict.{Verdict}
-use Rattle.judge.specs.declared.change.Verdict.the-variants.{Refused}
 use Rattle.judge.specs.Fetches.{taskIn, noCell}
 use Rattle.judge.specs.Scopes.{alone}
-use Rattle.judge.specs.RunVerdicts.{change, fittingIn}
+use Rattle.judge.specs.Answers.{verdictOf}
+use Rattle.judge.specs.RunVerdicts.{change}
 
 -- task t, with record x, leaves for desk e
 abbrev pub moveChange : TaskId → Task → ProcessorId → Change
@@ -35,13 +38,18 @@ moveChange t x e =
 abbrev pub readyCounts : ℕ → List Task → TaskId → Type 0
 readyCounts m ts t = within 1 m (t .0) ≡ true → isIn Ready (taskIn ts t) ≡ true → taskIn ts t .moves ≤ mostMoves
 
-unfoldable pub judgedMove : ℕ → ℕ → List Task → ℕ → TaskId → ProcessorId → Verdict
-judgedMove m n ts used t e =
+-- the tests of a move in their order, of so many tasks, desks and letters
+unfoldable pub moveRefusal : ℕ → ℕ → List Task → ℕ → TaskId → ProcessorId → StepAnswer
+moveRefusal m n ts used t e =
     let x = taskIn ts t in
-    unless (taskNumberOk m t) (Refused NoTask)
-    (unless (processorOk n e) (Refused NoProcessor)
-    (unless (isIn Ready x) (Refused NotReady)
-    (unless (not (isAt e x)) (Refused AlreadyThere)
-    (unless (isChildless x) (Refused MoveWithChildren)
-    (unless (not (eqb (x .moves) mostMoves)) (Refused MovesSpent)
-    (fittingIn n used (moveChange t x e)))))))
+    unless (taskNumberOk m t) NoTask
+    (unless (processorOk n e) NoProcessor
+    (unless (isIn Ready x) NotReady
+    (unless (not (isAt e x)) AlreadyThere
+    (unless (isChildless x) MoveWithChildren
+    (unless (not (eqb (x .moves) mostMoves)) MovesSpent
+    (unless (leb (used + length (lettersOf n (Letter (Migration e t)))) mailSize) NetworkFull Accepted))))))
+
+-- the departure, where they refuse nothing
+unfoldable pub judgedMove : ℕ → ℕ → List Task → ℕ → TaskId → ProcessorId → Verdict
+judgedMove m n ts used t e = verdictOf (moveChange t (taskIn ts t) e) (moveRefusal m n ts used t e)

@@ -14,8 +14,8 @@ use Rattle.rules.specs.Offers.{offerRule, advertRule}
 use Rattle.rules.specs.Calls.{callRule, dataRule}
 use Rattle.rules.specs.Arrivals.{terminatedRule}
 use Rattle.letters.specs.Letters.{childOf}
-use Rattle.tables.specs.declared.sweep.Sweep.the-variants.{Nothing, Arrival}
-use Rattle.tables.specs.declared.store.Store.{Store}
+use Rattle.judge.specs.declared.sweep.Sweep.the-variants.{Nothing, Arrival}
+use Rattle.judge.specs.declared.store.Store.{Store}
 use Rattle.judge.specs.declared.change.Scope.{Scope}
 use Rattle.judge.specs.declared.change.Change.{Change}
 use Rattle.judge.specs.Facts.{Facts}

@@ -1,11 +1,10 @@
 -- The verdict on a run.
-use mathlib.Core.Path.{_≡_}
-use mathlib.Core.Bool.{Bool, true, not, _&&_}
+use mathlib.Core.Bool.{not, _&&_}
 use mathlib.Core.List.{List}
-use Prim.Native.Nat.{ℕ, _+_, _-_, _<_, _≤_}
+use Prim.Native.Nat.{ℕ, _+_, _-_}
 use lib.Dec.{eqb, leb}
 use lib.ListN.{getD, length}
-use Rattle.base.specs.Choice.{pick, unless, within}
+use Rattle.base.specs.Choice.{pick, unless}
 use Rattle.plan.specs.declared.TaskId.{TaskId}
 use Rattle.plan.specs.declared.Instruction.{Instruction}
 use Rattle.plan.specs.Kinds.{opCreate, opSync, opFinish, opSend, opReceive, opSet, isFinish}
@@ -16,23 +15,25 @@ use Rattle.rules.specs.declared.rule.Outcome.{Outcome}
 use Rattle.rules.specs.declared.rule.Posting.{Posting}
 use Rattle.rules.specs.declared.rule.Posting.the-variants.{Nothing as NoPosting}
 use Rattle.rules.specs.declared.rule.Received.the-variants.{Nothing as NoWord}
-use Rattle.rules.specs.declared.step.StepAnswer.the-variants.{NoTask, NotReady, FinishWithChildren, NetworkFull}
+use Rattle.rules.specs.declared.step.StepAnswer.{StepAnswer}
+use Rattle.rules.specs.declared.step.StepAnswer.the-variants.{Accepted as Unrefused, NoTask, NotReady, FinishWithChildren, NetworkFull}
 use Rattle.rules.specs.Numbers.{taskId, channelId, taskNumberOk, mailSize}
 use Rattle.rules.specs.Tasks.{isIn, isChildless, born}
 use Rattle.rules.specs.Networks.{lettersOf}
 use Rattle.rules.specs.Local.{createRule, syncRule, finishRule, setRule, addRule}
 use Rattle.rules.specs.Send.{sendRule}
 use Rattle.rules.specs.Receive.{receiveRule}
-use Rattle.tables.specs.declared.sweep.Sweep.{Sweep}
-use Rattle.tables.specs.declared.sweep.Sweep.the-variants.{Nothing, Birth}
-use Rattle.tables.specs.declared.store.Store.{Store}
+use Rattle.judge.specs.declared.sweep.Sweep.{Sweep}
+use Rattle.judge.specs.declared.sweep.Sweep.the-variants.{Nothing, Birth}
+use Rattle.judge.specs.declared.store.Store.{Store}
 use Rattle.judge.specs.declared.change.Scope.{Scope}
 use Rattle.judge.specs.declared.change.Change.{Change}
 use Rattle.judge.specs.declared.change.Verdict.{Verdict}
 use Rattle.judge.specs.declared.change.Verdict.the-variants.{Refused, Accepted}
 use Rattle.judge.specs.Facts.{Facts}
 use Rattle.judge.specs.Fetches.{taskIn, instructionIn, slotAt, lastOf, siteIn}
-use Rattle.judge.specs.Scopes.{runScope, argumentOk}
+use Rattle.judge.specs.Scopes.{runScope}
+use Rattle.judge.specs.Answers.{unlessRefused}
 
 abbrev pub change : Scope → Outcome → Sweep → Change
 change k o s = record { scope = k; outcome = o; sweep = s }
@@ -56,19 +57,6 @@ finishChange k x t =
 -- another instruction changes its task alone
 abbrev pub taskChange : Scope → Site → Task → Change
 taskChange k x y = change k (tasksOnly x y (x .receiver) NoPosting) Nothing
-
--- what a run of task t supposes of a site: numbers that can go on
-pub record RunnableAt (t : TaskId) (i : Instruction) (x : Site) : Type 0 where
-  pub task : within 1 64 (t .0) ≡ true
-  pub argument : argumentOk i ≡ true
-  pub child : eqb (i .opcode) opCreate ≡ true → i .operand ≤ 64
-  pub sender-place : x .sender .pc < 255
-  pub receiver-place : x .receiver .pc < 255
-  pub called : x .cell .channel .granted < 255
-
--- a send is of the task at the site, which has a place
-abbrev pub sendsFrom : Instruction → Site → Bool
-sendsFrom i x = pick (eqb (i .opcode) opSend) (within 1 64 (x .sender .pc)) true
 
 -- instruction i of task t at a site; w is the number of the send
 unfoldable pub runChange : Scope → TaskId → Instruction → ℕ → Site → Change
@@ -99,11 +87,17 @@ ranIn f ts s t i =
     let x = siteIn (f .operands) ts s k in
     runChange k t i (sendIn (f .numbers) t i k x) x
 
+-- 10, no such task; 11, not ready; 12, a finish with living children
+unfoldable pub runRefusal : List ℕ → List ℕ → ℕ → List Task → TaskId → StepAnswer
+runRefusal opcodes operands count ts t =
+    let x = taskIn ts t in
+    unless (taskNumberOk count t) NoTask
+    (unless (isIn Ready x) NotReady
+    (unless (not (isFinish (instructionIn opcodes operands t (x .pc)) && not (isChildless x))) FinishWithChildren
+    Unrefused))
+
+-- what the instruction does, where they refuse nothing and its letters fit
 unfoldable pub judgedRun : Facts → ℕ → List Task → Store → ℕ → TaskId → Verdict
 judgedRun f n ts s used t =
-    let x = taskIn ts t in
-    let i = instructionIn (f .opcodes) (f .operands) t (x .pc) in
-    unless (taskNumberOk (f .tasks) t) (Refused NoTask)
-    (unless (isIn Ready x) (Refused NotReady)
-    (unless (not (isFinish i && not (isChildless x))) (Refused FinishWithChildren)
-    (fittingIn n used (ranIn f ts s t i))))
+    unlessRefused (runRefusal (f .opcodes) (f .operands) (f .tasks) ts t)
+    (fittingIn n used (ranIn f ts s t (instructionIn (f .opcodes) (f .operands) t (taskIn ts t .pc))))

@@ -1,10 +1,10 @@
 // What a step changes, and the verdict on a step.
+use crate::sweep::Sweep;
 use plan::ChannelId;
 use plan::ProcessorId;
 use plan::TaskId;
 use rules::rule::Outcome;
 use rules::step::StepAnswer;
-use tables::sweep::Sweep;
 
 // What a step may touch: up to two tasks, and one channel at one desk; 0 is none. Where a step is about
 // a channel, the tasks are its ends.

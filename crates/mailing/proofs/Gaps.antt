@@ -1,13 +1,13 @@
 -- The gap of a letter closed in place: the mail without it.
-use mathlib.Core.Path.{_≡_, refl, _∙_, ap}
-use mathlib.Core.List.{List, _∷_, _++_}
-use Prim.Native.Nat.{ℕ, _+_, _-_, _≤_, _<_}
+use mathlib.Core.Path.{_≡_, ap}
+use mathlib.Core.List.{List}
+use Prim.Native.Nat.{ℕ, _-_, _≤_}
 use native.Mathlib.Omega.{arith}
-use lib.ListN.{set, length, take, drop}
+use lib.ListN.{set, length}
 use Rattle.rules.specs.declared.message.Network.{Network}
 use Rattle.rules.specs.declared.message.Slot.{Slot}
 use Rattle.rules.specs.Networks.{noSlot, dequeued}
-use Rattle.network.proofs.Shift.{shifted, shift-closed}
+use Rattle.mailing.proofs.Shift.{shifted, shift-closed}
 
 abbrev pub holding : ℕ → List Slot → Network
 holding used l = record { slots = l; used = used }
@@ -23,7 +23,3 @@ module _ (k : Network) (full : length (k .slots) ≡ 256) (few : k .used ≤ 256
   unfolding dequeued
   gap-closed j h =
       ap (holding (k .used - 1)) (shift-closed (k .slots) (p - 1) noSlot j p (k .used) (omega arith) (omega arith) (omega arith))
-
-  -- the letters that move are within the mail
-  pub gap-within : (j : ℕ) → j < k .used - 1 - (p - 1) → p - 1 + j + 1 < k .used
-  gap-within j h = omega arith

@@ -2,7 +2,7 @@
 use mathlib.Core.Path.{_≡_, refl, sym, _∙_, ap}
 use mathlib.Core.Bool.{Bool, true, false}
 use mathlib.Core.List.{List, [], _∷_, _++_}
-use Prim.Native.Nat.{ℕ, zero, suc, _+_, _≤_, _<_}
+use Prim.Native.Nat.{ℕ, suc, _+_, _≤_, _<_}
 use native.Mathlib.Numerals.{add-one}
 use native.Mathlib.Omega.{arith}
 use lib.ListN.{length}
@@ -16,8 +16,13 @@ use Rattle.rules.specs.declared.rule.Posting.{Posting}
 use Rattle.rules.specs.declared.rule.Posting.the-variants.{Nothing, Letter, Adverts}
 use Rattle.rules.specs.Networks.{enqueued, enqueuedAll, lettersOf}
 use Rattle.rules_laws.proofs.Letters.{enqueuedAll-used}
-use Rattle.network.proofs.Adverts.{enqueuedAll-append}
 use Rattle.mailing.specs.Mailing.{isLetter, roundsOf, skipsAt, letterOf, postedAt}
+
+-- letters that join after others
+enqueuedAll-append : (k : Network) (xs ys : List Message) → enqueuedAll k (xs ++ ys) ≡ enqueuedAll (enqueuedAll k xs) ys
+unfolding enqueuedAll
+enqueuedAll-append k [] ys = refl
+enqueuedAll-append k (x ∷ xs) ys = enqueuedAll-append (enqueued k x) xs ys
 
 -- all rounds post the letters
 pub rounds-all : (n : ℕ) (x : Posting) → joined (roundsOf n x) (postedAt x) ≡ lettersOf n x

@@ -1,2 +1,3 @@
--- The mail in place: a gap closed, letters posted round by round.
+-- The mail in place: which letter is delivered, what is posted round by round, and how many desks get an advert.
 pub mod Mailing
+pub mod Positions

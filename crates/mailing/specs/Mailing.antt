@@ -1,9 +1,10 @@
--- What is posted into the mail: a letter, or letters round by round.
+-- What is posted into the mail: a letter, or letters round by round, and to how many desks.
 use mathlib.Core.Bool.{Bool, true, false}
 use mathlib.Core.List.{List, [], _∷_}
-use Prim.Native.Nat.{ℕ, suc}
+use Prim.Native.Nat.{ℕ, suc, _-_}
 use lib.Dec.{eqb}
-use Rattle.base.specs.Choice.{pick}
+use Rattle.base.specs.Choice.{pick, within}
+use Rattle.plan.specs.declared.ProcessorId.{ProcessorId}
 use Rattle.rules.specs.declared.message.Message.{Message}
 use Rattle.rules.specs.declared.message.Message.the-variants.{Empty, Advert}
 use Rattle.rules.specs.declared.rule.Posting.{Posting}
@@ -36,3 +37,7 @@ letterOf (Adverts c d) j = Advert c (processorId (suc j)) d
 
 abbrev pub postedAt : Posting → ℕ → List Message
 postedAt x j = pick (skipsAt x j) [] (letterOf x j ∷ [])
+
+-- how many of n desks are other ones than d
+abbrev pub otherProcessors : ℕ → ProcessorId → ℕ
+otherProcessors n d = pick (within 1 n (d .0)) (n - 1) n

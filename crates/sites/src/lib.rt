@@ -1,2 +1,3 @@
 // What a step finds where it may look.
+pub mod cell;
 pub mod fetch;

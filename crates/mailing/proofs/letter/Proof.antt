@@ -4,8 +4,6 @@ use mathlib.Core.Path.{refl}
 use borrow.Author.Needs.{needs}
 use Rattle.mailing.proofs.letter.Statement.{statement}
 use Rattle.mailing.proofs.letter.Tie as tie
-use Rattle.mailing.proofs.letter.Reads as reads
-use Rattle.mailing.proofs.letter.Lts as lts
 
 enum-told : tie.Need-enum-told
 enum-told c = search needs

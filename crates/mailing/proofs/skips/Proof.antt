@@ -4,8 +4,6 @@ use mathlib.Core.Path.{refl}
 use borrow.Author.Needs.{needs}
 use Rattle.mailing.proofs.skips.Statement.{statement}
 use Rattle.mailing.proofs.skips.Tie as tie
-use Rattle.mailing.proofs.skips.Reads as reads
-use Rattle.mailing.proofs.skips.Lts as lts
 
 enum-told : tie.Need-enum-told
 enum-told c = search needs

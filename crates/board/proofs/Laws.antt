@@ -1,0 +1,75 @@
+-- A number stored on a board changes one entry of one part.
+use mathlib.Core.Path.{_≡_, refl, sym, ap, _∙_}
+use mathlib.Core.List.{List}
+use mathlib.Core.Logic.{_≢_}
+use Prim.Native.Nat.{ℕ, _+_, _*_, _<_, _≤_}
+use native.Mathlib.Omega.{arith}
+use lib.ListN.{getD, set, length, length-set}
+use lib.Seq.{getD-set-same, getD-set-other}
+use Rattle.base.specs.Lists.{table}
+use Rattle.base.proofs.Tables.{getD-table, table-same, set-table}
+use Rattle.packing.specs.Packed.{taskOf}
+use Rattle.rules.specs.declared.task.Task.{Task}
+use Rattle.rules.specs.Tasks.{noTask}
+use Rattle.board.specs.Lent.{channelColumn, tasksOn}
+
+module _ {A : Type 0} (f : ℕ → A) (board : List ℕ) where
+  pub getD-channel : (i : ℕ) (d : A) → i < 128 → getD (channelColumn f board) i d ≡ f (getD board i 0)
+  unfolding channelColumn
+  getD-channel i d h = getD-table 128 (λ j. f (getD board (j) 0)) i d h
+
+  pub set-channel : (i w : ℕ) (v d : A) → i < 128 → i < length board → f w ≡ v → channelColumn f (set board (i) w) ≡ set (channelColumn f board) i v
+  unfolding channelColumn
+  set-channel i w v d h l e =
+      sym
+      (ap (λ (x : A). set (table 128 (λ j. f (getD board (j) 0))) i x) (sym e ∙ ap f (sym (getD-set-same board (i) w 0 l)))
+      ∙ set-table 128 (λ j. f (getD board (j) 0)) (λ j. f (getD (set board (i) w) (j) 0)) i d h
+      (λ j b ne. ap f (sym (getD-set-other board (i) (j) w 0 ne))))
+
+  keep : (i w : ℕ) → ((j : ℕ) → j < 128 → j ≢ i) → channelColumn f (set board i w) ≡ channelColumn f board
+  unfolding channelColumn
+  keep i w other =
+      table-same 128 (λ j. f (getD (set board i w) (j) 0)) (λ j. f (getD board (j) 0)) (λ j b. ap f (getD-set-other board i (j) w 0 (other j b)))
+
+  pub keep-channel-above : (i w : ℕ) → 128 ≤ i → channelColumn f (set board i w) ≡ channelColumn f board
+  keep-channel-above i w h = keep i w (λ j b (e : j ≡ i). omega arith)
+
+module _ (board : List ℕ) where
+  pub getD-task : (k : ℕ) (d : Task) → k < 64 → getD (tasksOn board) k d ≡ taskOf (getD board (128 + 2 * k) 0) (getD board (129 + 2 * k) 0)
+  unfolding tasksOn
+  getD-task k d h = getD-table 64 (λ j. taskOf (getD board (128 + 2 * j) 0) (getD board (129 + 2 * j) 0)) k d h
+
+  pub keep-tasks : (i w : ℕ) → i < 128 → tasksOn (set board i w) ≡ tasksOn board
+  unfolding tasksOn
+  keep-tasks i w h =
+      table-same 64 (λ j. taskOf (getD (set board i w) (128 + 2 * j) 0) (getD (set board i w) (129 + 2 * j) 0)) (λ j. taskOf (getD board (128 + 2 * j) 0) (getD board (129 + 2 * j) 0))
+      (λ j b. rw (getD-set-other board i (128 + 2 * j) w 0 (λ (e : 128 + 2 * j ≡ i). omega arith), getD-set-other board i (129 + 2 * j) w 0 (λ (e : 129 + 2 * j ≡ i). omega arith)) refl)
+
+  -- the two numbers of a task are stored
+  pub set-task : (k w n : ℕ) (x : Task) → k < 64 → 129 + 2 * k < length board → taskOf w n ≡ x → tasksOn (set (set board (128 + 2 * k) w) (129 + 2 * k) n) ≡ set (tasksOn board) k x
+  unfolding tasksOn
+  set-task k w n x h l e =
+      sym
+      (ap (λ (y : Task). set (table 64 before) k y) (sym e ∙ sym here) ∙ set-table 64 before after k noTask h other)
+    where
+      before : ℕ → Task
+      before j = taskOf (getD board (128 + 2 * j) 0) (getD board (129 + 2 * j) 0)
+
+      one : List ℕ
+      one = set board (128 + 2 * k) w
+
+      after : ℕ → Task
+      after j = taskOf (getD (set one (129 + 2 * k) n) (128 + 2 * j) 0) (getD (set one (129 + 2 * k) n) (129 + 2 * j) 0)
+
+      here : after k ≡ taskOf w n
+      here =
+          rw
+          (getD-set-other one (129 + 2 * k) (128 + 2 * k) n 0 (λ (q : 128 + 2 * k ≡ 129 + 2 * k). omega arith), getD-set-same board (128 + 2 * k) w 0 (omega arith), getD-set-same one (129 + 2 * k) n 0 (rw (length-set board (128 + 2 * k) w) l))
+          refl
+
+      other : (j : ℕ) → j < 64 → j ≢ k → before j ≡ after j
+      other j b ne =
+          sym
+          (rw
+          (getD-set-other one (129 + 2 * k) (128 + 2 * j) n 0 (λ (q : 128 + 2 * j ≡ 129 + 2 * k). omega arith), getD-set-other board (128 + 2 * k) (128 + 2 * j) w 0 (λ (q : 128 + 2 * j ≡ 128 + 2 * k). ne (omega arith)), getD-set-other one (129 + 2 * k) (129 + 2 * j) n 0 (λ (q : 129 + 2 * j ≡ 129 + 2 * k). ne (omega arith)), getD-set-other board (128 + 2 * k) (129 + 2 * j) w 0 (λ (q : 129 + 2 * j ≡ 128 + 2 * k). omega arith))
+          refl)

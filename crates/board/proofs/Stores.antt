@@ -1,0 +1,178 @@
+-- What is read from a board and stored on it, and a cell stored column by column.
+use mathlib.Core.Path.{_≡_, refl, sym, ap, _∙_}
+use mathlib.Core.Bool.{Bool, true, false}
+use mathlib.Core.List.{List}
+use Prim.Native.Nat.{ℕ, _+_, _*_, _/_, _%_, _-_, _<_, _≤_}
+use native.Mathlib.Omega.{arith}
+use lib.ListN.{getD, set, length}
+use lib.Seq.{set-getD}
+use Rattle.plan.specs.declared.ProcessorId.{ProcessorId}
+use Rattle.plan.specs.declared.ChannelId.{ChannelId}
+use Rattle.rules.specs.declared.channel.Channel.{Channel}
+use Rattle.rules.specs.declared.channel.Cell.{Cell}
+use Rattle.rules.specs.declared.system.Channels.{Channels}
+use Rattle.rules.specs.declared.task.Task.{Task}
+use Rattle.rules.specs.declared.task.TaskState.{TaskState}
+use Rattle.rules.specs.declared.task.TaskState.the-variants.{Unborn, Ready, Waiting, Sending, Receiving, Moving, Done}
+use Rattle.rules.specs.declared.channel.Hint.{Hint}
+use Rattle.rules.specs.Cells.{withNoted}
+use Rattle.rules.specs.Tasks.{noTask}
+use Rattle.rules.specs.Systems.{entryIndex, readChannel, writeChannel}
+use Rattle.judge.specs.Store.{store, cellStored}
+use Rattle.packing.specs.Packed.{taskOf, taskWord, stateOf, stateNumber, channelOf, channelWord, low16, byte2, byte3, byte4, byte5, mark6, bit}
+use Rattle.board.specs.Lent.{lent, channelColumn, channelsOn, tasksOn, storeOf, hintIn, heldIn, noteIn}
+use Rattle.board.proofs.Laws.{getD-channel, set-channel, keep-channel-above, getD-task, set-task, keep-tasks}
+
+pub task-read : (board : List ℕ) (n : ℕ) {m : ℕ} → m ≡ n → 1 ≤ n → n ≤ 64 → taskOf (getD board (126 + 2 * m) 0) (getD board (126 + 2 * m + 1) 0) ≡ getD (tasksOn board) (n - 1) noTask
+task-read board n {m} e one most =
+    let a : 126 + 2 * m ≡ 128 + 2 * (n - 1) = omega arith in
+    let b : 126 + 2 * m + 1 ≡ 129 + 2 * (n - 1) = omega arith in
+    rw b (rw a (sym (getD-task board (n - 1) noTask (omega arith))))
+
+state-below : (s : TaskState) → stateNumber s < 256
+state-below Unborn = omega arith
+state-below Ready = omega arith
+state-below Waiting = omega arith
+state-below Sending = omega arith
+state-below Receiving = omega arith
+state-below Moving = omega arith
+state-below Done = omega arith
+
+state-of-number : (s : TaskState) → stateOf (stateNumber s) ≡ s
+state-of-number Unborn = refl
+state-of-number Ready = refl
+state-of-number Waiting = refl
+state-of-number Sending = refl
+state-of-number Receiving = refl
+state-of-number Moving = refl
+state-of-number Done = refl
+
+abbrev pub NarrowTask : Task → Type 0
+NarrowTask x = (x .processor .0 < 256) × (x .pc < 256) × (x .home .0 < 256) × (x .word .0 < 65536) × (x .moves < 65536)
+
+same-task : (x : Task) → NarrowTask x → taskOf (taskWord x) (x .children) ≡ x
+unfolding taskOf
+same-task x n =
+    rw (at s a b d e f (state-below (x .state)), state-of-number (x .state), p1, p2, p3, p4, p5) refl
+  where
+    s : ℕ
+    s = stateNumber (x .state)
+
+    a : ℕ
+    a = x .processor .0
+
+    b : ℕ
+    b = x .pc
+
+    d : ℕ
+    d = x .home .0
+
+    e : ℕ
+    e = x .word .0
+
+    f : ℕ
+    f = x .moves
+
+    at : (s a b d e f : ℕ) → s < 256 → (s + 256 * a + 65536 * b + 16777216 * d + 4294967296 * e + 281474976710656 * f) % 256 ≡ s
+    at s a b d e f h = omega arith
+
+    p1 : taskWord x / 256 % 256 ≡ a
+    p1 = omega (arith, state-below (x .state), n)
+
+    p2 : taskWord x / 65536 % 256 ≡ b
+    p2 = omega (arith, state-below (x .state), n)
+
+    p3 : taskWord x / 16777216 % 256 ≡ d
+    p3 = omega (arith, state-below (x .state), n)
+
+    p4 : taskWord x / 4294967296 % 65536 ≡ e
+    p4 = omega (arith, state-below (x .state), n)
+
+    p5 : taskWord x / 281474976710656 % 65536 ≡ f
+    p5 = omega (arith, state-below (x .state), n)
+
+module _ (board : List ℕ) (n : ℕ) (x : Task) {m w : ℕ} (e : m ≡ n) (one : 1 ≤ n) (most : n ≤ 64) (long : length board ≡ 256) (we : w ≡ taskWord x) (small : NarrowTask x) where
+  abbrev after : List ℕ
+  after = set (set board (126 + 2 * m) w) (126 + 2 * m + 1) (x .children)
+
+  pub task-written : tasksOn after ≡ set (tasksOn board) (n - 1) x
+  task-written =
+      let a : 126 + 2 * m ≡ 128 + 2 * (n - 1) = omega arith in
+      let b : 126 + 2 * m + 1 ≡ 129 + 2 * (n - 1) = omega arith in
+      rw b (rw a (set-task board (n - 1) w (x .children) x (omega arith) (omega arith) (ap (λ (v : ℕ). taskOf v (x .children)) we ∙ same-task x small)))
+
+  kept : {A : Type 0} (f : ℕ → A) → channelColumn f after ≡ channelColumn f board
+  kept f = keep-channel-above f (set board (126 + 2 * m) w) (126 + 2 * m + 1) (x .children) (omega arith) ∙ keep-channel-above f board (126 + 2 * m) w (omega arith)
+
+  pub channels-kept : channelsOn after ≡ channelsOn board
+  unfolding channelsOn
+  channels-kept = rw (kept byte5, kept mark6, kept byte3, kept byte4, kept byte2, kept low16) refl
+
+pub channel-read : (board : List ℕ) (c : ℕ) {m : ℕ} → m ≡ c → 1 ≤ c → c ≤ 128 → channelOf (getD board (m - 1) 0) ≡ readChannel (channelsOn board) (c - 1)
+unfolding channelsOn channelOf
+channel-read board c {m} e one most =
+    rw
+    (e, getD-channel byte5 board (c - 1) 0 (omega arith), getD-channel mark6 board (c - 1) false (omega arith), getD-channel byte3 board (c - 1) 0 (omega arith), getD-channel byte4 board (c - 1) 0 (omega arith), getD-channel byte2 board (c - 1) 0 (omega arith), getD-channel low16 board (c - 1) 0 (omega arith))
+    refl
+
+abbrev pub NarrowChannel : Channel → Type 0
+NarrowChannel y = (y .travelling .moves < 65536) × (y .travelling .processor .0 < 256) × (y .carried .processor .0 < 256) × (y .carried .number < 256) × (y .granted < 256)
+
+mark-of : (a : ℕ) (b : Bool) → a < 281474976710656 → mark6 (a + 281474976710656 * bit b) ≡ b
+mark-of a true h = let e : (a + 281474976710656 * 1) / 281474976710656 % 2 ≡ 1 = omega arith in rw e refl
+mark-of a false h = let e : (a + 281474976710656 * 0) / 281474976710656 % 2 ≡ 0 = omega arith in rw e refl
+
+module _ (board : List ℕ) (c : ℕ) (y : Channel) {m w : ℕ} (e : m ≡ c) (one : 1 ≤ c) (most : c ≤ 128) (long : length board ≡ 256) (we : w ≡ channelWord y) (small : NarrowChannel y) where
+  column : {A : Type 0} (f : ℕ → A) (v def : A) → f (channelWord y) ≡ v → channelColumn f (set board (m - 1) w) ≡ set (channelColumn f board) (c - 1) v
+  column f v def q =
+      let a : m - 1 ≡ c - 1 = omega arith in
+      ap (λ (i : ℕ). channelColumn f (set board i w)) a ∙ set-channel f board (c - 1) w v def (omega arith) (omega arith) (ap f we ∙ q)
+
+  granted-of : (b : Bool) → byte5 (y .travelling .moves + 65536 * (y .travelling .processor .0) + 16777216 * (y .carried .processor .0) + 4294967296 * (y .carried .number) + 1099511627776 * (y .granted) + 281474976710656 * bit b) ≡ y .granted
+  granted-of true = omega arith
+  granted-of false = omega arith
+
+  pub channel-written : channelsOn (set board (m - 1) w) ≡ writeChannel (channelsOn board) (c - 1) y
+  unfolding channelsOn
+  channel-written =
+      rw
+      (column byte5 (y .granted) 0 (granted-of (y .awaiting)), column mark6 (y .awaiting) false (mark-of _ (y .awaiting) (omega arith)), column byte3 (y .carried .processor .0) 0 (omega arith), column byte4 (y .carried .number) 0 (omega arith), column byte2 (y .travelling .processor .0) 0 (omega arith), column low16 (y .travelling .moves) 0 (omega arith))
+      refl
+
+  pub tasks-kept : tasksOn (set board (m - 1) w) ≡ tasksOn board
+  tasks-kept = keep-tasks board (m - 1) w (omega arith)
+
+-- a cell is stored where each column has what it leaves there: a column that it leaves as it was need not be written (`set-getD`)
+module _ (hp hm op on notes : List ℕ) (k : Channels) (d : ProcessorId) (c : ChannelId) (x : Cell) {hp' hm' op' on' notes' : List ℕ} {k' : Channels} where
+  pub columns-stored : set hp (entryIndex d c) (x .entry .hint .processor .0) ≡ hp' → set hm (entryIndex d c) (x .entry .hint .moves) ≡ hm'
+      → set op (entryIndex d c) (x .entry .held .processor .0) ≡ op' → set on (entryIndex d c) (x .entry .held .number) ≡ on'
+      → set notes (entryIndex d c) (x .entry .noted .0) ≡ notes' → writeChannel k (c .0 - 1) (x .channel) ≡ k'
+      → store (record { hintprocessors = hp'; hintmoves = hm'; heldprocessors = op'; heldnumbers = on'; notes = notes' }) k'
+      ≡ cellStored (store (record { hintprocessors = hp; hintmoves = hm; heldprocessors = op; heldnumbers = on; notes = notes }) k) d c x
+  columns-stored e f g h i j = rw (e, f, g, h, i, j) refl
+
+-- a send and an offer: the pointer and the note stay
+pub held-stored : (hp hm op on notes board two board' : List ℕ) (d : ProcessorId) (c : ChannelId) (x : Cell) {op' on' : List ℕ} → x .entry .hint ≡ hintIn hp hm d c
+    → (op' ≡ set op (entryIndex d c) (x .entry .held .processor .0)) × (on' ≡ set on (entryIndex d c) (x .entry .held .number))
+    → channelsOn two ≡ channelsOn board → channelsOn board' ≡ writeChannel (channelsOn two) (c .0 - 1) (x .channel)
+    → storeOf (lent hp hm op' on' notes board') ≡ cellStored (storeOf (lent hp hm op on notes board)) d c (withNoted x (noteIn notes d c))
+held-stored hp hm op on notes board two board' d c x eh es ek ew =
+    let i = entryIndex d c in
+    columns-stored hp hm op on notes (channelsOn board) d c (withNoted x (noteIn notes d c))
+    (ap (λ (z : Hint). set hp i (z .processor .0)) eh ∙ set-getD hp i 0)
+    (ap (λ (z : Hint). set hm i (z .moves)) eh ∙ set-getD hm i 0)
+    (sym (es .0))
+    (sym (es .1))
+    (set-getD notes i 0)
+    (ap (λ (k : Channels). writeChannel k (c .0 - 1) (x .channel)) (sym ek) ∙ sym ew)
+
+-- a receive and an advert: the note and the channel are stored, pointer and held offer stay
+pub note-stored : (hp hm op on notes board : List ℕ) (d : ProcessorId) (c : ChannelId) (n : ProcessorId) (y : Channel) {notes' : List ℕ} (board' : List ℕ)
+    → notes' ≡ set notes (entryIndex d c) (n .0)
+    → channelsOn board' ≡ writeChannel (channelsOn board) (c .0 - 1) y
+    → storeOf (lent hp hm op on notes' board')
+    ≡ cellStored (storeOf (lent hp hm op on notes board)) d c (record { entry = record { hint = hintIn hp hm d c; held = heldIn op on d c; noted = n }; channel = y })
+note-stored hp hm op on notes board d c n y board' en ey =
+    let i = entryIndex d c in
+    columns-stored hp hm op on notes (channelsOn board) d c (record { entry = record { hint = hintIn hp hm d c; held = heldIn op on d c; noted = n }; channel = y })
+    (set-getD hp i 0) (set-getD hm i 0) (set-getD op i 0) (set-getD on i 0) (sym en) (sym ey)

@@ -1,0 +1,68 @@
+-- `put_task`: task t becomes x, where there is such a task.
+use mathlib.Core.Path.{_≡_, refl}
+use native.Mathlib.Omega.{arith}
+use lib.ListN.{length-set}
+use borrow.Author.Needs.{needs}
+use borrow.Author.Tests.{ne-eqb}
+use Rattle.judge.specs.Fetches.{taskStored}
+use Rattle.board.proofs.Stores.{task-written, channels-kept}
+use Rattle.board.proofs.put_task.Statement.{statement}
+use Rattle.board.proofs.put_task.Tie as tie
+
+wide8-requires : tie.Need-wide8-requires
+wide8-requires c κs = search needs
+
+mul-at : tie.Need-mul-at
+mul-at c = search needs
+
+add-at : tie.Need-add-at
+add-at c = search needs
+
+task-word-requires : tie.Need-task-word-requires
+task-word-requires c κs = search needs
+
+mul-board : tie.Need-mul-board
+mul-board c = search needs
+
+element-write-board : tie.Need-element-write-board
+element-write-board c = search needs
+
+add-board : tie.Need-add-board
+add-board c = search needs
+
+mul-board-2 : tie.Need-mul-board-2
+mul-board-2 c = search needs
+
+element-write-board-2 : tie.Need-element-write-board-2
+element-write-board-2 c = search needs
+
+returns : tie.Need-returns
+unfolding taskStored
+returns c =
+    let s = c .before .before .before .before in
+    let n = s .args .t .0 in
+    let w = c .before .wide8 .ensures in
+    let long = s .pre .1 in
+    (simp (length-set, long), rw (ne-eqb n 0 (λ q. omega arith)) (task-written (s .args .board .now) n (s .args .x) w (omega arith) (omega arith) long (c .task-word .ensures) (search needs)), channels-kept (s .args .board .now) n (s .args .x) w (omega arith) (omega arith) long (c .task-word .ensures) (search needs))
+
+returns-2 : tie.Need-returns-2
+unfolding taskStored
+returns-2 c =
+    let e : c .before .before .args .t .0 ≡ 0 = omega arith in
+    (c .before .before .pre .1, rw e refl, refl)
+
+pub put-task-spec : {M : Type 1} → statement M
+put-task-spec =
+    tie.close
+    (tie.spec
+    wide8-requires
+    mul-at
+    add-at
+    task-word-requires
+    mul-board
+    element-write-board
+    add-board
+    mul-board-2
+    element-write-board-2
+    returns
+    returns-2)

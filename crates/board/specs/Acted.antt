@@ -1,0 +1,58 @@
+-- A verdict carried out on what is lent.
+use mathlib.Core.Path.{_≡_}
+use mathlib.Core.List.{List}
+use Prim.Native.Nat.{ℕ}
+use Rattle.rules.specs.declared.task.Task.{Task}
+use Rattle.rules.specs.declared.rule.Outcome.{Outcome}
+use Rattle.rules.specs.declared.rule.Posting.{Posting}
+use Rattle.rules.specs.declared.rule.Posting.the-variants.{Nothing as NoPosting}
+use Rattle.rules.specs.declared.rule.Received.the-variants.{Nothing as NoWord}
+use Rattle.rules.specs.declared.step.StepAnswer.{StepAnswer}
+use Rattle.rules.specs.declared.step.StepAnswer.the-variants.{Accepted}
+use Rattle.judge.specs.declared.store.Store.{Store}
+use Rattle.judge.specs.Store.{swept}
+use Rattle.judge.specs.declared.change.Verdict.{Verdict}
+use Rattle.judge.specs.declared.change.Verdict.the-variants.{Refused, Accepted as Allowed}
+use Rattle.judge.specs.Fetches.{taskStored, cellPut}
+use Rattle.board.specs.declared.act.Act.{Act}
+use Rattle.board.specs.Lent.{Lent, Whole, tasksOf, storeOf}
+
+abbrev pub refusedAct : StepAnswer → Act
+refusedAct q = record { answer = q; received = NoWord; posting = NoPosting }
+
+abbrev pub acceptedAct : Outcome → Act
+acceptedAct o = record { answer = Accepted; received = o .received; posting = o .posting }
+
+-- accepted, no word is received, and this is posted
+abbrev pub postedAct : Posting → Act
+postedAct p = record { answer = Accepted; received = NoWord; posting = p }
+
+abbrev pub plainAct : Act
+plainAct = postedAct NoPosting
+
+-- what is said and posted
+abbrev pub actOf : Verdict → Act
+actOf (Refused q) = refusedAct q
+actOf (Allowed k) = acceptedAct (k .outcome)
+
+-- the tasks, and what is kept for channels, then
+abbrev pub tasksAfter : Verdict → List Task → List Task
+tasksAfter (Refused q) ts = ts
+tasksAfter (Allowed k) ts = taskStored (taskStored ts (k .scope .sender) (k .outcome .sender)) (k .scope .receiver) (k .outcome .receiver)
+
+abbrev pub storeAfter : List ℕ → List ℕ → Verdict → Store → Store
+storeAfter senders receivers (Refused q) s = s
+storeAfter senders receivers (Allowed k) s = swept senders receivers (k .sweep) (cellPut (k .scope) (k .outcome .cell) s)
+
+-- the verdict v was carried out: r is said, and what is lent is `after`
+pub record Acted (senders receivers : List ℕ) (v : Verdict) (before : Lent) (r : Act) (after : Lent) : Type 0 where
+  pub whole : Whole (after .board)
+  pub act : r ≡ actOf v
+  pub tasks : tasksOf after ≡ tasksAfter v (tasksOf before)
+  pub store : storeOf after ≡ storeAfter senders receivers v (storeOf before)
+
+-- f was done to what is kept for channels, and the tasks stayed
+pub record StoredBy (f : Store → Store) (before after : Lent) : Type 0 where
+  pub whole : Whole (after .board)
+  pub tasks : tasksOf after ≡ tasksOf before
+  pub store : storeOf after ≡ f (storeOf before)

@@ -1,0 +1,77 @@
+-- What a run lends: five tables of 768 entries, as the rig struct has them, and a board of 256 numbers: channel c's own entry at c - 1,
+-- task t at 126 + 2 t and behind it its children.
+use mathlib.Core.List.{List}
+use mathlib.Core.Path.{_≡_}
+use Prim.Native.Nat.{ℕ, _+_, _*_, _≤_}
+use lib.ListN.{getD, length}
+use Rattle.base.specs.Lists.{table}
+use Rattle.plan.specs.declared.ProcessorId.{ProcessorId}
+use Rattle.plan.specs.declared.ChannelId.{ChannelId}
+use Rattle.rules.specs.declared.channel.Hint.{Hint}
+use Rattle.rules.specs.declared.channel.Offer.{Offer}
+use Rattle.rules.specs.declared.task.Task.{Task}
+use Rattle.rules.specs.declared.system.Channels.{Channels}
+use Rattle.rules.specs.Numbers.{processorId}
+use Rattle.rules.specs.Cells.{hint, offer}
+use Rattle.rules.specs.Systems.{entryIndex}
+use Rattle.judge.specs.declared.store.Store.{Store}
+use Rattle.judge.specs.Store.{store}
+use Rattle.packing.specs.Packed.{low16, byte2, byte3, byte4, byte5, mark6, taskOf}
+
+-- all that is lent to be written, in the order of the parameters
+pub record Lent : Type 0 where
+  pub hintprocessors : List ℕ
+  pub hintmoves : List ℕ
+  pub heldprocessors : List ℕ
+  pub heldnumbers : List ℕ
+  pub notes : List ℕ
+  pub board : List ℕ
+
+abbrev pub lent : List ℕ → List ℕ → List ℕ → List ℕ → List ℕ → List ℕ → Lent
+lent hintprocessors hintmoves heldprocessors heldnumbers notes board =
+    record { hintprocessors = hintprocessors; hintmoves = hintmoves; heldprocessors = heldprocessors; heldnumbers = heldnumbers; notes = notes; board = board }
+
+-- the board has all its numbers; of the tables no length is needed: they are columns as they are
+abbrev pub Whole : List ℕ → Type 0
+Whole board = length board ≡ 256
+
+unfoldable pub channelColumn : {A : Type 0} → (ℕ → A) → List ℕ → List A
+channelColumn f board = table 128 (λ k. f (getD board k 0))
+
+unfoldable pub channelsOn : List ℕ → Channels
+channelsOn board =
+    record {
+      granted = channelColumn byte5 board;
+      awaiting = channelColumn mark6 board;
+      carriedprocessors = channelColumn byte3 board;
+      carriednumbers = channelColumn byte4 board;
+      travellingprocessors = channelColumn byte2 board;
+      travellingmoves = channelColumn low16 board;
+    }
+
+unfoldable pub tasksOn : List ℕ → List Task
+tasksOn board = table 64 (λ k. taskOf (getD board (128 + 2 * k) 0) (getD board (129 + 2 * k) 0))
+
+abbrev pub tasksOf : Lent → List Task
+tasksOf l = tasksOn (l .board)
+
+abbrev pub storeOf : Lent → Store
+storeOf l =
+    store (record { hintprocessors = l .hintprocessors; hintmoves = l .hintmoves; heldprocessors = l .heldprocessors; heldnumbers = l .heldnumbers; notes = l .notes }) (channelsOn (l .board))
+
+-- desk d is one of six, and channel c one of 128
+pub record AtCell (d : ProcessorId) (c : ChannelId) : Type 0 where
+  pub desk-low : 1 ≤ d .0
+  pub desk : d .0 ≤ 6
+  pub channel-low : 1 ≤ c .0
+  pub channel : c .0 ≤ 128
+
+-- what desk d keeps for channel c
+abbrev pub hintIn : List ℕ → List ℕ → ProcessorId → ChannelId → Hint
+hintIn hintprocessors hintmoves d c = hint (processorId (getD hintprocessors (entryIndex d c) 0)) (getD hintmoves (entryIndex d c) 0)
+
+abbrev pub heldIn : List ℕ → List ℕ → ProcessorId → ChannelId → Offer
+heldIn heldprocessors heldnumbers d c = offer (processorId (getD heldprocessors (entryIndex d c) 0)) (getD heldnumbers (entryIndex d c) 0)
+
+abbrev pub noteIn : List ℕ → ProcessorId → ChannelId → ProcessorId
+noteIn notes d c = processorId (getD notes (entryIndex d c) 0)

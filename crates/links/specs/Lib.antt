@@ -1,2 +1,0 @@
--- The channels of each task, linked.
-pub mod Links

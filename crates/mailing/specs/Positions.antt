@@ -1,0 +1,10 @@
+-- Which letter a step delivers.
+use Prim.Native.Nat.{ℕ}
+use lib.Dec.{eqb}
+use Rattle.base.specs.Choice.{pick, within}
+use Rattle.rules.specs.declared.step.Step.{Step}
+use Rattle.rules.specs.Steps.{isDeliver}
+
+-- the position of the letter that a step delivers, of so many letters; 0 if it delivers none
+unfoldable pub positionOf : ℕ → Step → ℕ
+positionOf used s = pick (isDeliver s) (pick (eqb (s .task) 0) (pick (within 1 used (s .number)) (s .number) 0) 0) 0

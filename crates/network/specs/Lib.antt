@@ -1,2 +1,0 @@
--- What the parts of `letters_needed` and `post` compute.
-pub mod Adverts

@@ -1,0 +1,2 @@
+-- Records as numbers.
+pub mod Packed

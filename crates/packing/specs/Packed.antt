@@ -1,0 +1,78 @@
+-- A channel's own entry and a task, as numbers of 64 bits.
+use mathlib.Core.Bool.{Bool}
+use Prim.Native.Nat.{ℕ, _+_, _*_, _/_, _%_}
+use lib.Dec.{eqb}
+use Rattle.base.specs.Choice.{pick}
+use Rattle.rules.specs.declared.task.Task.{Task}
+use Rattle.rules.specs.declared.task.TaskState.{TaskState}
+use Rattle.rules.specs.declared.task.TaskState.the-variants.{Unborn, Ready, Waiting, Sending, Receiving, Moving, Done}
+use Rattle.rules.specs.declared.channel.Channel.{Channel}
+use Rattle.rules.specs.Numbers.{processorId}
+use Rattle.rules.specs.Cells.{hint, offer}
+
+-- the fields of a number: the lowest 16 bits, and the bytes behind them
+abbrev pub low16 : ℕ → ℕ
+low16 v = v % 65536
+
+abbrev pub byte2 : ℕ → ℕ
+byte2 v = v / 65536 % 256
+
+abbrev pub byte3 : ℕ → ℕ
+byte3 v = v / 16777216 % 256
+
+abbrev pub byte4 : ℕ → ℕ
+byte4 v = v / 4294967296 % 256
+
+abbrev pub byte5 : ℕ → ℕ
+byte5 v = v / 1099511627776 % 256
+
+abbrev pub mark6 : ℕ → Bool
+mark6 v = eqb (v / 281474976710656 % 2) 1
+
+abbrev pub bit : Bool → ℕ
+bit b = pick b 1 0
+
+-- a channel's own entry
+unfoldable pub channelOf : ℕ → Channel
+channelOf v =
+    record { granted = byte5 v; awaiting = mark6 v; carried = offer (processorId (byte3 v)) (byte4 v); travelling = hint (processorId (byte2 v)) (low16 v) }
+
+abbrev pub channelWord : Channel → ℕ
+channelWord y =
+    y .travelling .moves + 65536 * (y .travelling .processor .0) + 16777216 * (y .carried .processor .0) + 4294967296 * (y .carried .number) + 1099511627776 * (y .granted) + 281474976710656 * bit (y .awaiting)
+
+-- a task's state
+abbrev pub stateOf : ℕ → TaskState
+stateOf n =
+    pick (eqb n 0) Unborn
+    (pick (eqb n 1) Ready
+    (pick (eqb n 2) Waiting
+    (pick (eqb n 3) Sending
+    (pick (eqb n 4) Receiving
+    (pick (eqb n 5) Moving Done)))))
+
+abbrev pub stateNumber : TaskState → ℕ
+stateNumber Unborn = 0
+stateNumber Ready = 1
+stateNumber Waiting = 2
+stateNumber Sending = 3
+stateNumber Receiving = 4
+stateNumber Moving = 5
+stateNumber Done = 6
+
+-- a task is two numbers, the second its children
+unfoldable pub taskOf : ℕ → ℕ → Task
+taskOf v children =
+    record {
+      state = stateOf (v % 256);
+      processor = processorId (v / 256 % 256);
+      pc = byte2 v;
+      home = processorId (byte3 v);
+      word = record { 0 = v / 4294967296 % 65536 };
+      moves = v / 281474976710656 % 65536;
+      children = children;
+    }
+
+abbrev pub taskWord : Task → ℕ
+taskWord x =
+    stateNumber (x .state) + 256 * (x .processor .0) + 65536 * (x .pc) + 16777216 * (x .home .0) + 4294967296 * (x .word .0) + 281474976710656 * (x .moves)
