@@ -1,3 +1,0 @@
--- Laws of what a step leaves.
-pub mod Numbers
-pub mod Cells

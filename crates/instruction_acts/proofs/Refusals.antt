@@ -1,0 +1,18 @@
+-- What the first tests of a run suppose holds in the parts of a rig.
+use mathlib.Core.List.{List}
+use Prim.Native.Nat.{ℕ}
+use Rattle.base.proofs.Tests.{within-both}
+use Rattle.rules.specs.declared.task.Task.{Task}
+use Rattle.judge.specs.declared.store.Store.{Store}
+use Rattle.judge.specs.Facts.{Facts, PartsOf}
+use Rattle.judge.specs.Fetches.{taskIn}
+use Rattle.judge.proofs.BoundsParts.{count-few}
+use Rattle.judge.proofs.BoundsReady.{place-some, place-last}
+use Rattle.instruction_acts.specs.Refusals.{Placed}
+
+pub placed : {f : Facts} {n : ℕ} {ts : List Task} {s : Store} {used : ℕ} → PartsOf f n ts s used → Placed (f .tasks) ts
+placed {ts = ts} p =
+    record {
+      few = count-few p;
+      place = λ t w ready. within-both 1 64 (taskIn ts t .pc) (place-some p t w ready) (place-last p t w ready);
+    }

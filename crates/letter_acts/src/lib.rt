@@ -1,0 +1,114 @@
+// A letter: what it does where it goes to, done or decided.
+pub mod advert;
+pub mod call;
+pub mod ended;
+pub mod mover;
+pub mod offer;
+mod site;
+pub mod word;
+
+ghost use Rattle.board.specs.Lent.{lent};
+ghost use Rattle.board.specs.Rigs.{Opens, Opened, Opening};
+use board::act::Act;
+use board::act::posted;
+use rules::message::Message;
+use rules::rule::Posting;
+
+// The letter m is opened.
+pub fn deliver<'a>(
+    operands: &'a [u16; 4096],
+    users: &'a [u8; 1024],
+    hintprocessors: &'a mut [u8; 768],
+    hintmoves: &'a mut [u16; 768],
+    heldprocessors: &'a mut [u8; 768],
+    heldnumbers: &'a mut [u8; 768],
+    notes: &'a mut [u8; 768],
+    board: &'a mut [u64; 256],
+    m: Message,
+) -> Act
+    requires { ⌜ Opens (now operands) (now users)
+        (lent (now hintprocessors) (now hintmoves) (now heldprocessors) (now heldnumbers) (now notes) (now board))
+        m ⌝ }
+    ensures { λ r. ⌜ Opened (now (operands .entry)) (now (users .entry)) m
+        (lent (now (hintprocessors .entry)) (now (hintmoves .entry)) (now (heldprocessors .entry)) (now (heldnumbers .entry)) (now (notes .entry)) (now (board .entry)))
+        r
+        (lent (now (hintprocessors .exit)) (now (hintmoves .exit)) (now (heldprocessors .exit)) (now (heldnumbers .exit)) (now (notes .exit)) (now (board .exit))) ⌝ }
+{
+    match m {
+        Message::Empty => posted(Posting::Nothing),
+        Message::Offered(_, _, _) => offer::offer(
+            operands,
+            users,
+            hintprocessors,
+            hintmoves,
+            heldprocessors,
+            heldnumbers,
+            board,
+            m,
+        ),
+        Message::Advert(_, _, _) => advert::advert(operands, users, notes, board, m),
+        Message::ReadyToReceive(_, _, _) => call::call(
+            operands,
+            users,
+            hintprocessors,
+            hintmoves,
+            board,
+            m,
+        ),
+        Message::Data(_, _, _) => word::word(operands, users, board, m),
+        Message::Terminated(_, _) => ended::ended(users, board, m),
+        Message::Migration(_, _) => mover::mover(
+            users,
+            hintprocessors,
+            hintmoves,
+            heldprocessors,
+            heldnumbers,
+            board,
+            m,
+        ),
+    }
+}
+
+// What opening the letter m would say and post.
+pub fn letter_decided<'a>(
+    operands: &'a [u16; 4096],
+    users: &'a [u8; 1024],
+    hintprocessors: &'a [u8; 768],
+    hintmoves: &'a [u16; 768],
+    heldprocessors: &'a [u8; 768],
+    heldnumbers: &'a [u8; 768],
+    notes: &'a [u8; 768],
+    board: &'a [u64; 256],
+    m: Message,
+) -> Act
+    requires { ⌜ Opens (now operands) (now users)
+        (lent (now hintprocessors) (now hintmoves) (now heldprocessors) (now heldnumbers) (now notes) (now board))
+        m ⌝ }
+    ensures { λ r. ⌜ Opening (now (operands .entry)) (now (users .entry)) m
+        (lent (now (hintprocessors .entry)) (now (hintmoves .entry)) (now (heldprocessors .entry)) (now (heldnumbers .entry)) (now (notes .entry)) (now (board .entry)))
+        r ⌝ }
+{
+    match m {
+        Message::Offered(_, _, _) => offer::offer_decided(
+            operands,
+            users,
+            hintprocessors,
+            hintmoves,
+            heldprocessors,
+            heldnumbers,
+            board,
+            m,
+        ),
+        Message::Advert(_, _, _) => advert::advert_decided(operands, users, notes, board, m),
+        Message::ReadyToReceive(_, _, _) => call::call_decided(
+            operands,
+            users,
+            hintprocessors,
+            hintmoves,
+            board,
+            m,
+        ),
+        Message::Data(_, _, _) => word::word_decided(operands, users, board, m),
+        _ => posted(Posting::Nothing),
+    }
+}

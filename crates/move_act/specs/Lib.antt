@@ -1,2 +1,0 @@
--- A move on the records that it may touch.
-pub mod MoveActs

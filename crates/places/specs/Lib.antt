@@ -1,3 +1,0 @@
--- Where a step looks, and what it finds there.
-pub mod Places
-pub mod Words

@@ -1,2 +1,0 @@
--- A run on the records that it may touch.
-pub mod RunActs

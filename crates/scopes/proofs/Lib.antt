@@ -1,2 +1,0 @@
--- What a step may touch.
-mod Arguments

@@ -1,2 +1,0 @@
--- One step on the records that it may touch.
-pub mod StepActs
