@@ -1,7 +1,8 @@
 -- The rig at the start is made of its parts.
 use mathlib.Core.Path.{_≡_, sym, _∙_, ap}
+use mathlib.Core.List.{List}
 use Prim.Native.Nat.{ℕ}
-use lib.ListN.{set}
+use lib.ListN.{set, replicate}
 use Rattle.plan.specs.declared.Plan.{Plan}
 use Rattle.rules.specs.declared.system.System.{System}
 use Rattle.rules.specs.Numbers.{taskId, processorId}
@@ -9,24 +10,31 @@ use Rattle.rules.specs.Tasks.{born}
 use Rattle.rules.specs.Systems.{withTasks, withTask}
 use Rattle.rules.specs.Starts.{birth, blank, started}
 use Rattle.ends.specs.Derived.{endsOf}
-use Rattle.tables.specs.Store.{storeIn}
+use Rattle.judge.specs.declared.store.Store.{Store}
+use Rattle.judge.specs.Store.{store, storeIn, forEnds}
 use Rattle.judge.proofs.Sweeps.{sweptIn, birth-swept}
-use Rattle.tables.specs.declared.sweep.Sweep.the-variants.{Birth}
-use Rattle.starts.specs.Parts.{startTasks, noLetters, startStore}
+use Rattle.judge.specs.declared.sweep.Sweep.the-variants.{Birth}
+use Rattle.judge.specs.declared.sweep.CellRule.the-variants.{Locate}
+use Rattle.board.specs.Lent.{lent}
+use Rattle.board.specs.Acted.{StoredBy}
+use Rattle.starts.specs.Parts.{startTasks, noLetters, noChannels, startStore}
+use Rattle.starts.proofs.Boards.{zeros, unborn-none, unborn-channels}
 
 -- task 1 is stored, and then the pointers for the channels that it receives on
 first-birth : (r : System) → birth r (taskId 1) (processorId 1) ≡ sweptIn (withTasks r (set (r .tasks) 0 (born (processorId 1)))) (Birth (taskId 1) (processorId 1))
 unfolding birth withTask
 first-birth r = birth-swept (withTasks r (set (r .tasks) 0 (born (processorId 1)))) (taskId 1) (processorId 1)
 
-module _ (n : ℕ) (p : Plan) where
-  -- the rig of these parts
-  abbrev startedOf : System
-  startedOf =
-      let s = startStore (endsOf p .receivers) in
-      record { processors = n; plan = p; tasks = startTasks; tables = s .tables; channels = s .channels; network = noLetters }
+-- an empty table
+abbrev pub none : List ℕ
+none = replicate 768 0
 
-  pub started-is : startedOf ≡ started n p
+module _ (n : ℕ) (p : Plan) where
+  -- the rig with this for the channels
+  abbrev made : Store → System
+  made s = record { processors = n; plan = p; tasks = startTasks; tables = s .tables; channels = s .channels; network = noLetters }
+
+  started-is : made (startStore (endsOf p .receivers)) ≡ started n p
   unfolding started blank
   started-is = sym (first-birth (blank n p))
 
@@ -38,3 +46,9 @@ module _ (n : ℕ) (p : Plan) where
 
   pub started-store : storeIn (started n p) ≡ startStore (endsOf p .receivers)
   started-store = ap storeIn (sym started-is)
+
+  -- the pointers are set in empty tables
+  pub started-located : (hintprocessors hintmoves : List ℕ)
+      → StoredBy (forEnds (endsOf p .receivers) (taskId 1) (processorId 1) (Locate (processorId 1) 1)) (lent none none none none none zeros) (lent hintprocessors hintmoves none none none zeros)
+      → made (store (record { hintprocessors = hintprocessors; hintmoves = hintmoves; heldprocessors = none; heldnumbers = none; notes = none }) noChannels) ≡ started n p
+  started-located hintprocessors hintmoves q = ap made (rw (unborn-channels 0 zeros unborn-none) at (q .store)) ∙ started-is

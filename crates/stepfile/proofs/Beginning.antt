@@ -1,44 +1,68 @@
 -- The parts that a run makes are those of the rig at the start.
-use mathlib.Core.Path.{_≡_, sym, _∙_, ap}
+use mathlib.Core.Path.{_≡_, refl, sym, _∙_, ap}
 use mathlib.Core.List.{List}
 use Prim.Native.Nat.{ℕ}
 use Rattle.plan.specs.declared.Plan.{Plan}
-use Rattle.rules.specs.declared.task.Task.{Task}
 use Rattle.rules.specs.declared.message.Network.{Network}
+use Rattle.rules.specs.declared.system.Tables.{Tables}
+use Rattle.rules.specs.declared.system.Channels.{Channels}
 use Rattle.rules.specs.Numbers.{taskId, processorId}
 use Rattle.rules.specs.Starts.{started}
 use Rattle.rules_laws.proofs.Shapes.{started-shaped, started-plan, started-processors}
 use Rattle.rules_sound.proofs.Starts.{started-ok}
-use Rattle.tables.specs.declared.store.Store.{Store}
-use Rattle.tables.specs.declared.sweep.CellRule.the-variants.{Locate}
-use Rattle.tables.specs.Store.{forEnds}
-use Rattle.columns.specs.Columns.{storeFrom, HintsBy}
-use Rattle.judge.specs.Facts.{Facts, factsOf}
+use Rattle.judge.specs.declared.store.Store.{Store}
+use Rattle.judge.specs.declared.sweep.CellRule.the-variants.{Locate}
+use Rattle.judge.specs.Store.{store, forEnds}
+use Rattle.judge.specs.Facts.{Facts, facts, factsOf}
 use Rattle.core.specs.Turns.{Rig}
-use Rattle.starts.specs.Parts.{startTasks, noLetters, noStore, startStore}
+use Rattle.user_table.specs.Users.{receiversOf}
+use Rattle.user_table.specs.Built.{Few, Built}
+use Rattle.board.specs.Lent.{lent, tasksOn, storeOf}
+use Rattle.board.specs.Acted.{StoredBy}
+use Rattle.board.specs.Rigs.{factsIn}
+use Rattle.starts.specs.Parts.{noLetters, noTables, noChannels, startStore, StartsOn}
 use Rattle.starts.proofs.Starting.{started-tasks, started-network, started-store}
+use Rattle.starts.proofs.Tables.{few-ends}
 use Rattle.stepfile.specs.Begins.{Begins}
 
--- pointers are set for the channels that task 1 receives on, and the other columns have nothing
-abbrev pub begun : {n : ℕ} {p : Plan} {f : Facts} {ts : List Task} {k : Network} {z : Store} {hp hm : List ℕ}
-    → Begins n p f
-    → ts ≡ startTasks
-    → k ≡ noLetters
-    → z ≡ noStore
-    → HintsBy (forEnds (f .receivers) (taskId 1) (processorId 1) (Locate (processorId 1) 1)) (z .tables .hintprocessors) (z .tables .hintmoves) hp hm
-    → Rig f n ts k (storeFrom hp hm (z .tables .heldprocessors) (z .tables .heldnumbers) (z .tables .notes) (z .channels .granted) (z .channels .awaiting) (z .channels .carriedprocessors) (z .channels .carriednumbers) (z .channels .travellingprocessors) (z .channels .travellingmoves))
-begun {n} {p} {f} {ts} {k} {z} {hp} {hm} b tasks network empty hints =
-    record {
-      system = started n p;
-      shaped = started-shaped n p;
-      sound = started-ok n p (b .some) (b .most) (b .accepted);
-      facts-of = b .derived ∙ ap factsOf (sym (started-plan n p));
-      processors = sym (started-processors n p);
-      tasks = tasks ∙ sym (started-tasks n p);
-      network = network ∙ sym (started-network n p);
-      store =
-          hints (z .tables .heldprocessors) (z .tables .heldnumbers) (z .tables .notes) (z .channels .granted) (z .channels .awaiting) (z .channels .carriedprocessors) (z .channels .carriednumbers) (z .channels .travellingprocessors) (z .channels .travellingmoves)
-          ∙ ap (forEnds (f .receivers) (taskId 1) (processorId 1) (Locate (processorId 1) 1)) empty
-          ∙ ap (λ (x : Facts). startStore (x .receivers)) (b .derived)
-          ∙ sym (started-store n p);
-    }
+-- who uses what of an accepted plan goes into the table
+pub few-users : {n : ℕ} {p : Plan} {f : Facts} → Begins n p f → Few (f .senders) (f .receivers) (f .parents)
+few-users {n} {p} b = rw (b .derived) (few-ends p (b .accepted))
+
+-- what is derived of the plan, with who uses what in one table
+module _ (count : ℕ) (opcodes operands numbers : List ℕ) {senders receivers parents users : List ℕ} (t : Built senders receivers parents users) where
+  pub facts-in : factsIn count opcodes operands numbers users ≡ facts count opcodes operands numbers senders receivers parents
+  facts-in = rw (t .senders-of, t .receivers-of, t .parents-of) refl
+
+  -- pointers are set for the channels that task 1 receives on; there is nothing else in the tables, and the start on the board
+  abbrev pub begun : {n : ℕ} {p : Plan} {k : Network} {z : Tables} {hp hm board : List ℕ}
+      → Begins n p (facts count opcodes operands numbers senders receivers parents)
+      → k ≡ noLetters
+      → z ≡ noTables
+      → StartsOn board
+      → StoredBy (forEnds (receiversOf users) (taskId 1) (processorId 1) (Locate (processorId 1) 1))
+      (lent (z .hintprocessors) (z .hintmoves) (z .heldprocessors) (z .heldnumbers) (z .notes) board)
+      (lent hp hm (z .heldprocessors) (z .heldnumbers) (z .notes) board)
+      → Rig (factsIn count opcodes operands numbers users) n (tasksOn board) k (storeOf (lent hp hm (z .heldprocessors) (z .heldnumbers) (z .notes) board))
+  begun {n} {p} {k} {z} {hp} {hm} {board} b mail empty on located =
+      let e = facts-in ∙ b .derived in
+      let sweep : List ℕ → Store → Store = λ receivers. forEnds receivers (taskId 1) (processorId 1) (Locate (processorId 1) 1) in
+      record {
+        parts =
+            record {
+              system = started n p;
+              shaped = started-shaped n p;
+              sound = started-ok n p (b .some) (b .most) (b .accepted);
+              facts-of = e ∙ ap factsOf (sym (started-plan n p));
+              processors = sym (started-processors n p);
+              tasks = on .tasks ∙ sym (started-tasks n p);
+              store =
+                  located .store
+                  ∙ ap (λ (y : Channels). sweep (receiversOf users) (store z y)) (on .channels)
+                  ∙ ap (λ (x : Tables). sweep (receiversOf users) (store x noChannels)) empty
+                  ∙ ap (λ (x : Facts). startStore (x .receivers)) e
+                  ∙ sym (started-store n p);
+              letters = ap (λ (q : Network). q .used) (mail ∙ sym (started-network n p));
+            };
+        network = mail ∙ sym (started-network n p);
+      }

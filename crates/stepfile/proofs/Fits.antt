@@ -1,22 +1,19 @@
 -- Lines that all fit and lines that do not, one line more and more lines behind them; the lines of one list of reports behind those of another.
-use mathlib.Core.Path.{_≡_, refl, sym}
-use mathlib.Core.Bool.{true, false}
+use mathlib.Core.Path.{refl}
+use mathlib.Core.Bool.{true}
 use mathlib.Core.List.{List, [], _∷_, _++_}
-use Prim.Native.Nat.{ℕ, suc, _+_, _-_, _≤_, _<_}
-use native.Mathlib.Nat.{add-zero, add-suc, suc-add}
+use Prim.Native.Nat.{ℕ, _+_, _≤_, _<_}
 use native.Mathlib.Omega.{arith}
 use mathlib.Core.Logic.{by-cases}
 use native.Mathlib.Decide.{decLe}
 use lib.Dec.{leb}
-use lib.ListN.{length, length-append}
-use borrow.Author.Tests.{leb-true, leb-false, le-leb, lt-leb}
+use lib.ListN.{length}
+use borrow.Author.Tests.{le-leb, lt-leb}
 use Rattle.base.specs.Choice.{pick}
-use Rattle.rules.specs.declared.step.Report.{Report}
-use Rattle.rules.specs.Trace.{stepLines}
-use Rattle.rules.specs.StepFiles.{text, fitting}
+use Rattle.rules.specs.StepFiles.{text}
 use Rattle.trace.specs.Output.{Emitted, Filled}
 use Rattle.trace.proofs.Filling.{filled-length, filled-more, filled-same}
-use Rattle.trace_laws.proofs.Texts.{text-append, text-more, fitting-stops, text-too-long}
+use Rattle.trace_laws.proofs.Texts.{text-more}
 use Rattle.stepfile.specs.declared.drive.Driven.{Driven}
 use Rattle.steploop.specs.Writes.{Written}
 use Rattle.steploop.proofs.Fits.{written-filled, filled-written, filled-stopped}

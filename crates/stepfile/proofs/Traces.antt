@@ -15,7 +15,7 @@ use Rattle.rules.specs.Trace.{stepLines}
 use Rattle.rules.specs.StepFiles.{traceLines}
 use Rattle.rules_sound.proofs.Sound.{sound}
 use Rattle.rules_sound.proofs.Kept.{ruled-steps}
-use Rattle.tables.specs.declared.store.Store.{Store}
+use Rattle.judge.specs.declared.store.Store.{Store}
 use Rattle.judge.specs.Facts.{Facts}
 use Rattle.judge.specs.Rests.{restIn}
 use Rattle.core.specs.Turns.{Rig}
@@ -24,7 +24,6 @@ use Rattle.trace.specs.Lines.{endText}
 use Rattle.trace.proofs.Lines.{end-of}
 use Rattle.trace.proofs.Filling.{filled-length}
 use Rattle.stepfile.specs.declared.drive.Driven.{Driven}
-use Rattle.steploop.specs.declared.Ran.{Ran}
 use Rattle.steploop.specs.Writes.{Written, Turns, turnsOf, RanTo, filledBy}
 use Rattle.steploop.proofs.Fits.{written-filled, written-over}
 use Rattle.stepfile.specs.Writes.{Ended}
@@ -33,11 +32,11 @@ use Rattle.stepfile.proofs.Fits.{written-end}
 -- the parts then are those of a rig, which is what the steps leave, and these are their reports
 pub record Stood (f : Facts) (n : ℕ) (h : Turns) (w : History) : Type 0 where
   pub rig : Rig f n (h .tasks) (h .network) (h .store)
-  pub system : rig .system ≡ w .system
+  pub system : rig .parts .system ≡ w .system
   pub reports : h .reports ≡ w .reports
 
 stood : (f : Facts) (n : ℕ) {ts : List Task} {k : Network} {s : Store} (g : Rig f n ts k s) (xs : List Step)
-    → Stood f n (turnsOf f n ts k s xs) (ruledSteps (g .system) xs)
+    → Stood f n (turnsOf f n ts k s xs) (ruledSteps (g .parts .system) xs)
 unfolding turnsOf stepsBy
 stood f n g [] = record { rig = g; system = refl; reports = refl }
 stood f n g (x ∷ xs) =
@@ -47,32 +46,32 @@ stood f n g (x ∷ xs) =
 
 -- the mail is never over-full
 pub rig-letters : {f : Facts} {n : ℕ} {ts : List Task} {k : Network} {s : Store} → Rig f n ts k s → k .used ≤ 256
-rig-letters g = rw (g .network) (sound (g .system) (g .shaped) (g .sound) .mail .used)
+rig-letters g = rw (g .network) (sound (g .parts .system) (g .parts .shaped) (g .parts .sound) .mail .used)
 
 -- the trace of a rig, by its parts
 module _ {f : Facts} {n : ℕ} {ts : List Task} {k : Network} {s : Store} (g : Rig f n ts k s) (xs : List Step) where
   abbrev ranIn : Turns
   ranIn = turnsOf f n ts k s xs
 
-  stood-in : Stood f n ranIn (steps (g .system) xs)
-  stood-in = rw (ruled-steps (g .system) xs (g .shaped) (g .sound)) at (stood f n g xs)
+  stood-in : Stood f n ranIn (steps (g .parts .system) xs)
+  stood-in = rw (ruled-steps (g .parts .system) xs (g .parts .shaped) (g .parts .sound)) at (stood f n g xs)
 
   trace-lines : (b : Bool) → b ≡ restIn f n (ranIn .tasks) (ranIn .store) (ranIn .network .used)
-      → traceLines (g .system) xs ≡ stepLines 0 (ranIn .reports) ++ (endText b (ranIn .network .used) ∷ [])
+      → traceLines (g .parts .system) xs ≡ stepLines 0 (ranIn .reports) ++ (endText b (ranIn .network .used) ∷ [])
   unfolding traceLines
   trace-lines b e =
       let w = stood-in in
-      let rest : b ≡ quiescent (steps (g .system) xs .system) = e ∙ rig-rest (w .rig) ∙ ap quiescent (w .system) in
-      let used : ranIn .network .used ≡ steps (g .system) xs .system .network .used =
+      let rest : b ≡ quiescent (steps (g .parts .system) xs .system) = e ∙ rig-rest (w .rig) ∙ ap quiescent (w .system) in
+      let used : ranIn .network .used ≡ steps (g .parts .system) xs .system .network .used =
       ap (λ (q : Network). q .used) (w .rig .network) ∙ ap (λ (p : System). p .network .used) (w .system) in
-      rw (rest, used, w .reports, end-of (steps (g .system) xs .system)) refl
+      rw (rest, used, w .reports, end-of (steps (g .parts .system) xs .system)) refl
 
-  module _ {before : List ℕ} {ran : Ran} {kept : Store} {progress mid : List ℕ} (h : RanTo ranIn before ran kept progress mid) where
-    pub ran-rig : Rig f n (ran .tasks) (ran .network) kept
+  module _ {before : List ℕ} {all : List Task} {mail : Network} {kept : Store} {progress mid : List ℕ} (h : RanTo ranIn before all mail kept progress mid) where
+    pub ran-rig : Rig f n (all) (mail) kept
     ran-rig = rw (h .tasks, h .network, h .store) (stood-in .rig)
 
     -- a line of a step does not fit
-    pub driven-short : (getD progress 1 0 ≡ 0 → ⊥) → Written (traceLines (g .system) xs) before (filledBy progress) false mid
+    pub driven-short : (getD progress 1 0 ≡ 0 → ⊥) → Written (traceLines (g .parts .system) xs) before (filledBy progress) false mid
     driven-short w = rw (trace-lines _ refl) (written-over _ (rw (ne-eqb (getD progress 1 0) 0 w) at (h .lines)))
 
     -- they all fit
@@ -83,7 +82,7 @@ module _ {f : Facts} {n : ℕ} {ts : List Task} {k : Network} {s : Store} (g : R
       pub ran-room : filledBy progress ≤ length mid
       ran-room = let l = written-filled all-fit in omega (arith, l .end, l .room, filled-length l)
 
-      pub driven-end : {d : Driven} {after : List ℕ} (b : Bool) → b ≡ restIn f n (ran .tasks) kept (ran .network .used)
-          → Ended (endText b (ran .network .used)) mid (filledBy progress) d after
-          → Written (traceLines (g .system) xs) before (d .filled) (d .whole) after
+      pub driven-end : {d : Driven} {after : List ℕ} (b : Bool) → b ≡ restIn f n (all) kept (mail .used)
+          → Ended (endText b (mail .used)) mid (filledBy progress) d after
+          → Written (traceLines (g .parts .system) xs) before (d .filled) (d .whole) after
       driven-end b e t = rw (trace-lines b (rw (h .tasks, h .network, h .store) at e)) (written-end all-fit (rw (h .network) at t))

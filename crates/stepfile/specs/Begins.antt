@@ -13,3 +13,8 @@ pub record Begins (n : ℕ) (p : Plan) (f : Facts) : Type 0 where
   pub most : n ≤ 6
   pub accepted : planAnswer (programs p) ≡ Accepted
   pub derived : f ≡ factsOf p
+
+-- the same of some plan
+pub record Begun (n : ℕ) (f : Facts) : Type 0 where
+  pub plan : Plan
+  pub begins : Begins n plan f

@@ -56,7 +56,6 @@ pub fn run_file<'a>(desks: u32, plan: &'a [u8], steps: &'a [u8], out: &'a mut [u
             );
             let d = drive(
                 read.plan.tasks,
-                &read.plan.lengths,
                 &read.plan.opcodes,
                 &read.plan.operands,
                 &numbers,

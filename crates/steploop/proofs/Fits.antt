@@ -7,16 +7,13 @@ use native.Mathlib.Nat.{add-zero, add-suc, suc-add}
 use native.Mathlib.Omega.{arith}
 use mathlib.Core.Logic.{by-cases}
 use native.Mathlib.Decide.{decLe}
-use lib.Dec.{leb}
 use lib.ListN.{length, length-append}
 use borrow.Author.Tests.{leb-true, leb-false, le-leb, lt-leb}
-use Rattle.base.specs.Choice.{pick}
 use Rattle.rules.specs.declared.step.Report.{Report}
 use Rattle.rules.specs.Trace.{stepLines}
 use Rattle.rules.specs.StepFiles.{text, fitting}
-use Rattle.trace.specs.Output.{Emitted, Filled}
-use Rattle.trace.proofs.Filling.{filled-length, filled-more, filled-same}
-use Rattle.trace_laws.proofs.Texts.{text-append, text-more, fitting-stops, text-too-long}
+use Rattle.trace.specs.Output.{Filled}
+use Rattle.trace_laws.proofs.Texts.{text-append, fitting-stops, text-too-long}
 use Rattle.steploop.specs.Writes.{Written}
 
 pub fitting-all : (room : ℕ) (ls : List (List ℕ)) → length (text ls) ≤ room → fitting room ls ≡ text ls

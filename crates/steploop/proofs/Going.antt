@@ -13,7 +13,7 @@ use Rattle.rules.specs.declared.message.Network.{Network}
 use Rattle.rules.specs.declared.step.Step.{Step}
 use Rattle.rules.specs.Trace.{stepLine, stepLines}
 use Rattle.rules.specs.StepFiles.{text, fitting}
-use Rattle.tables.specs.declared.store.Store.{Store}
+use Rattle.judge.specs.declared.store.Store.{Store}
 use Rattle.judge.specs.Facts.{Facts}
 use Rattle.core.specs.declared.turn.Turn.{Turn}
 use Rattle.core.specs.Turns.{turnOf, Rig}
@@ -57,7 +57,7 @@ module _ (f : Facts) (n : ℕ) (ts : List Task) (k : Network) (s : Store) (at : 
         let l = fitting (length o) (firstLines j) in
         rw (g .lines .bytes) (omega (arith, length-append l (drop (length l) o), length-drop (length l) o, fitting-room (length o) (firstLines j)))
 
-    pub going-done : RanTo (firstTurns j) o (record { tasks = all; network = mail }) kept progress out
+    pub going-done : RanTo (firstTurns j) o all mail kept progress out
     going-done = record { lines = g .lines; tasks = g .tasks; network = g .network; store = g .store }
 
     -- a step more

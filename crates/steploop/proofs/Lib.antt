@@ -4,5 +4,4 @@ mod Turns
 mod Progress
 mod Going
 mod Posts
-mod Storing
-mod Ways
+pub mod Acting

@@ -2,7 +2,7 @@
 use mathlib.Core.Path.{_≡_, refl}
 use mathlib.Core.Bool.{true, false}
 use mathlib.Core.List.{List, [], _∷_, _++_}
-use Prim.Native.Nat.{ℕ, _+_, _≤_, _<_}
+use Prim.Native.Nat.{ℕ, _+_, _≤_}
 use native.Mathlib.Omega.{arith}
 use lib.ListN.{length, getD, set, length-set, length-append}
 use lib.Seq.{getD-set-same, getD-set-other}
@@ -10,11 +10,10 @@ use borrow.Author.Tests.{eq-eqb, ne-eqb}
 use Rattle.rules.specs.declared.step.Report.{Report}
 use Rattle.rules.specs.Answers.{stepNumber}
 use Rattle.rules.specs.Trace.{decimal, fields, receivedFields, stepLine}
-use Rattle.trace.specs.Output.{Emitted, Filled}
+use Rattle.trace.specs.Output.{Emitted}
 use Rattle.trace.proofs.Filling.{filled-more, filled-same, filled-fitted, filled-short}
 use Rattle.trace_laws.proofs.Texts.{text-more}
-use Rattle.rules.specs.StepFiles.{text}
-use Rattle.steploop.specs.Writes.{Written, WrittenBy, LineNext, filledBy, wholeBy}
+use Rattle.steploop.specs.Writes.{LineNext, filledBy, wholeBy}
 use Rattle.steploop.proofs.Fits.{filled-written, filled-stopped, written-filled, written-over}
 
 -- a line has a byte

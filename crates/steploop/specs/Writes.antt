@@ -10,11 +10,11 @@ use Rattle.rules.specs.declared.message.Network.{Network}
 use Rattle.rules.specs.declared.step.Step.{Step}
 use Rattle.rules.specs.declared.step.Report.{Report}
 use Rattle.rules.specs.Trace.{stepLines}
-use Rattle.rules.specs.StepFiles.{text, fitting}
-use Rattle.tables.specs.declared.store.Store.{Store}
+use Rattle.rules.specs.StepFiles.{text, fitting, fileSteps}
+use Rattle.judge.specs.declared.store.Store.{Store}
 use Rattle.judge.specs.Facts.{Facts}
 use Rattle.core.specs.Turns.{turnOf}
-use Rattle.steploop.specs.declared.Ran.{Ran}
+use Rattle.board.specs.Lent.{Lent, tasksOf, storeOf}
 
 -- as many whole lines as fit: how many bytes are filled, whether all fit, and the output then
 pub record Written (lines : List (List ℕ)) (before : List ℕ) (filled : ℕ) (whole : Bool) (after : List ℕ) : Type 0 where
@@ -52,8 +52,13 @@ pub record LineNext (line progress out progress' out' : List ℕ) : Type 0 where
   pub more : (lines : List (List ℕ)) (before : List ℕ) → WrittenBy lines before progress out → WrittenBy (lines ++ (line ∷ [])) before progress' out'
 
 -- the steps are carried out, and their lines written as far as they fit
-pub record RanTo (h : Turns) (before : List ℕ) (r : Ran) (s : Store) (progress after : List ℕ) : Type 0 where
+pub record RanTo (h : Turns) (before : List ℕ) (ts : List Task) (k : Network) (s : Store) (progress after : List ℕ) : Type 0 where
   pub lines : WrittenBy (stepLines 0 (h .reports)) before progress after
-  pub tasks : r .tasks ≡ h .tasks
-  pub network : r .network ≡ h .network
+  pub tasks : ts ≡ h .tasks
+  pub network : k ≡ h .network
   pub store : s ≡ h .store
+
+-- the same of the steps of a file, with what is lent before and after them
+abbrev pub RanOn : Facts → ℕ → Lent → Network → List ℕ → List ℕ → Lent → Network → List ℕ → List ℕ → Type 0
+RanOn f n l k steps before l' k' progress after =
+    RanTo (turnsOf f n (tasksOf l) k (storeOf l) (fileSteps steps)) before (tasksOf l') k' (storeOf l') progress after

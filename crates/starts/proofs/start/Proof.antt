@@ -1,30 +1,52 @@
 -- `start`.
+use mathlib.Core.Path.{refl}
 use borrow.Author.Needs.{needs}
-use Rattle.starts.proofs.Starting.{started-is}
+use Rattle.starts.proofs.Boards.{zeros, unborn-none}
+use Rattle.starts.proofs.Starting.{none, started-located}
+use Rattle.starts.proofs.Tables.{few-ends}
 use Rattle.starts.proofs.start.Statement.{statement}
 use Rattle.starts.proofs.start.Tie as tie
 
-no-store-requires : tie.Need-no-store-requires
-no-store-requires c κs = search needs
+build-requires : tie.Need-build-requires
+build-requires c κs =
+    let s = c .before .before .before .before .before .before .before in
+    (refl, rw (s .pre .0) (few-ends (s .args .p) (s .pre .1)))
 
-for-ends-requires : tie.Need-for-ends-requires
-for-ends-requires c κs = search needs
+no-tables-requires : tie.Need-no-tables-requires
+no-tables-requires c κs = search needs
+
+locate-requires : tie.Need-locate-requires
+locate-requires c κs = search needs
 
 start-tasks-requires : tie.Need-start-tasks-requires
 start-tasks-requires c κs = search needs
+
+no-channels-requires : tie.Need-no-channels-requires
+no-channels-requires c κs = search needs
 
 no-letters-requires : tie.Need-no-letters-requires
 no-letters-requires c κs = search needs
 
 returns : tie.Need-returns
 returns c =
-    let tasks = c .before .before .before in
-    let located = tasks .before in
-    let none = located .before .before .before in
-    let s = none .before in
-    rw (c .no-letters .ensures, tasks .start-tasks .ensures, located .for-ends .ensures, none .no-store .ensures, s .pre) (started-is (s .args .processors) (s .args .p))
+    let tasks = c .before .before in
+    let located = tasks .before .before .before .before in
+    let tables = located .before .before .before .before .before .before in
+    let built = tables .before in
+    let s = built .before .before .before .before .before .before .before .before in
+    let q = located .locate .ensures none none none zeros (unborn-none .whole) in
+    rw (c .no-letters .ensures, c .before .no-channels .ensures, tasks .start-tasks .ensures, tables .no-tables .ensures)
+    (started-located (s .args .processors) (s .args .p) (located .locate .last .1 .0) (located .locate .last .1 .1 .0)
+    (rw (tables .no-tables .ensures, built .build .ensures .receivers-of, s .pre .0) at q))
 
 pub start-spec : {M : Type 1} → statement M
 start-spec =
     tie.close
-    (tie.spec no-store-requires for-ends-requires start-tasks-requires no-letters-requires returns)
+    (tie.spec
+    build-requires
+    no-tables-requires
+    locate-requires
+    start-tasks-requires
+    no-channels-requires
+    no-letters-requires
+    returns)

@@ -7,14 +7,14 @@ use Rattle.starts.proofs.start_tasks.Tie as tie
 unborn-requires : tie.Need-unborn-requires
 unborn-requires c κs = search needs
 
-birth-requires : tie.Need-birth-requires
-birth-requires c κs = search needs
+first-task-requires : tie.Need-first-task-requires
+first-task-requires c κs = search needs
 
 array-set-from-tasks : tie.Need-array-set-from-tasks
 array-set-from-tasks c = search needs
 
 returns : tie.Need-returns
-returns c = rw (c .birth .ensures, c .before .unborn .ensures) refl
+returns c = rw (c .first-task .ensures, c .before .unborn .ensures) refl
 
 pub start-tasks-spec : {M : Type 1} → statement M
-start-tasks-spec = tie.close (tie.spec unborn-requires birth-requires array-set-from-tasks returns)
+start-tasks-spec = tie.close (tie.spec unborn-requires first-task-requires array-set-from-tasks returns)

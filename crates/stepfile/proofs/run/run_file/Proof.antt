@@ -12,6 +12,8 @@ use Rattle.plan.specs.Refusals.{planAnswer}
 use Rattle.plan.specs.Files.{filePrograms, fileAnswer}
 use Rattle.rules.specs.StepFiles.{stepsOk}
 use Rattle.ends.specs.Derived.{endsOf}
+use Rattle.judge.specs.Facts.{facts}
+use Rattle.stepfile.specs.Begins.{Begins}
 use Rattle.stepfile.proofs.Outcomes.{read-answer, read-plan-is, plan-ok, start-is, begins, steps-few, desks-refused, file-refused, steps-refused, traced, traced-short}
 use Rattle.stepfile.proofs.run.run_file.Statement.{statement}
 use Rattle.stepfile.proofs.run.run_file.Tie as tie
@@ -34,11 +36,23 @@ plan-passes : (c : tie.Else2) → planAnswer (programs (c .before .before .befor
 plan-passes c = rw (plan-is c) (plan-ok (c .before .before .before .before .before .before .before .before .before .before .args .plan .now) (file (c .before .before)))
 
 -- where the sends are numbered, and what is passed before
-abbrev numbered : tie.After-drive-arg6 → tie.After-send-numbers
-numbered c = c .before .before .before .before .before .before .before .before
+abbrev numbered : tie.After-drive-arg5 → tie.After-send-numbers
+numbered c = c .before .before .before .before .before .before .before
 
 abbrev passed : tie.After-send-numbers-arg3 → tie.Else2
 passed c = c .before .before .before .before
+
+-- a run of the plan begins
+began : (c : tie.After-send-numbers)
+    → let p = passed (c .before) in
+    let r = p .before .before .before .before .load .result in
+    Begins (p .before .before .before .before .before .before .before .before .before .before .args .desks) (r .plan)
+    (facts (r .plan .tasks) (r .plan .opcodes) (r .plan .operands) (c .send-numbers .result) (r .senders) (r .receivers) (r .parents))
+unfolding endsOf
+began c =
+    let p = passed (c .before) in
+    let users = p .before .before .before .before .load .ensures .firsts (p .before .before .enum-told .given .1) in
+    begins _ (desks (p .before .before .before .before .before)) _ (plan-passes p) (c .send-numbers .ensures) (users .senders) (users .receivers) (users .parents)
 
 is-within-requires : tie.Need-is-within-requires
 is-within-requires c κs = search needs
@@ -84,14 +98,7 @@ cast-drive c =
     omega (arith, within-high 1 6 (e .before .before .before .before .before .args .desks) (desks e))
 
 drive-requires : tie.Need-drive-requires
-unfolding endsOf
-drive-requires c κs =
-    let n = numbered (c .before) in
-    let p = passed (n .before) in
-    let users = p .before .before .before .before .load .ensures .firsts (p .before .before .enum-told .given .1) in (
-      begins _ (desks (p .before .before .before .before .before)) _ (plan-passes p) (n .send-numbers .ensures) (users .senders) (users .receivers) (users .parents),
-      steps-few _ (steps p),
-    )
+drive-requires c κs = let n = numbered (c .before) in (record { plan = _; begins = began n }, steps-few _ (steps (passed (n .before))))
 
 same-length : tie.Need-same-length
 same-length c = search needs
@@ -99,9 +106,10 @@ same-length c = search needs
 returns-3 : tie.Need-returns-3
 returns-3 c =
     let d = c .before .before .before in
-    let p = passed (numbered (d .before .before) .before) in
+    let n = numbered (d .before .before) in
+    let p = passed (n .before) in
     traced _ _ _ _ (desks (p .before .before .before .before .before)) (file (p .before .before)) (steps p)
-    (start-is _ _ _ (plan-is p)) (d .drive .ensures) (c .if3 .taken)
+    (start-is _ _ _ (plan-is p)) (d .drive .ensures _ (began n)) (c .if3 .taken)
 
 returns-4 : tie.Need-returns-4
 returns-4 c =
@@ -115,9 +123,10 @@ same-length-2 c = search needs
 returns-5 : tie.Need-returns-5
 returns-5 c =
     let d = c .before .before .before in
-    let p = passed (numbered (d .before .before) .before) in
+    let n = numbered (d .before .before) in
+    let p = passed (n .before) in
     traced-short _ _ _ _ (desks (p .before .before .before .before .before)) (file (p .before .before)) (steps p)
-    (start-is _ _ _ (plan-is p)) (d .drive .ensures) (c .if3 .left)
+    (start-is _ _ _ (plan-is p)) (d .drive .ensures _ (began n)) (c .if3 .left)
 
 pub run-file-spec : {M : Type 1} → statement M
 run-file-spec =

@@ -5,12 +5,10 @@ use Rattle.rules.specs.StepFiles.{stepsOk}
 use Rattle.stepfile.proofs.run.steps_ok.Statement.{statement}
 use Rattle.stepfile.proofs.run.steps_ok.Tie as tie
 
--- src/run.rt:32:9
 returns : tie.Need-returns
 unfolding stepsOk
 returns c = rw (ne-eqb _ 0 (c .if1 .taken)) refl
 
--- src/run.rt:28:1
 returns-2 : tie.Need-returns-2
 unfolding stepsOk
 returns-2 c = rw (eq-eqb _ 0 (c .if1 .left)) refl

@@ -1,8 +1,6 @@
 -- `emit_next`: the line behind the others, if all of these fitted.
-use mathlib.Core.Path.{refl}
 use native.Mathlib.Omega.{arith}
 use borrow.Author.Needs.{needs}
-use lib.ListN.{length}
 use Rattle.trace.proofs.Emitting.{fitted, count-fits}
 use Rattle.steploop.proofs.Progress.{step-line-some, next-stopped, next-short, next-fits}
 use Rattle.steploop.proofs.lines.emit_next.Statement.{statement}
