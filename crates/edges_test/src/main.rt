@@ -4,17 +4,9 @@ ghost use Rattle.io.specs.Counts.{Counts};
 use libc::STDOUT_FILENO;
 use plan::FINISH;
 use plan::Plan;
-use plan::ProcessorId;
-use plan::Word;
-use rules::message::Message;
-use rules::message::Network;
-use rules::message::Slot;
+use plan::PlanAnswer;
 use rules::step::Step;
-use rules::system::Channels;
 use rules::system::System;
-use rules::system::Tables;
-use rules::task::Task;
-use rules::task::TaskState;
 
 fn say(what: &[u8], right: bool) {
     io::write_all(STDOUT_FILENO, what);
@@ -85,82 +77,12 @@ fn single_finish() -> Plan {
     }
 }
 
-// Its task, ready at desk 1, where it was born, with this move count.
-fn moved(moves: u16) -> Task {
-    Task {
-        state: TaskState::Ready,
-        processor: ProcessorId(1),
-        pc: 1,
-        home: ProcessorId(1),
-        word: Word(0),
-        moves: moves,
-        children: 0,
-    }
-}
-
-fn unborn() -> Task {
-    Task {
-        state: TaskState::Unborn,
-        processor: ProcessorId(0),
-        pc: 1,
-        home: ProcessorId(0),
-        word: Word(0),
-        moves: 0,
-        children: 0,
-    }
-}
-
-// Nothing kept for any channel, at any desk.
-fn no_tables() -> Tables {
-    Tables {
-        hintprocessors: [0; 768],
-        hintmoves: [0; 768],
-        heldprocessors: [0; 768],
-        heldnumbers: [0; 768],
-        notes: [0; 768],
-    }
-}
-
-fn no_channels() -> Channels {
-    Channels {
-        granted: [0; 128],
-        awaiting: [false; 128],
-        carriedprocessors: [0; 128],
-        carriednumbers: [0; 128],
-        travellingprocessors: [0; 128],
-        travellingmoves: [0; 128],
-    }
-}
-
-fn empty_mail() -> Network {
-    let slot = Slot {
-        message: Message::Empty,
-    };
-    let slots = [slot; 256];
-    Network {
-        slots: slots,
-        used: 0,
-    }
-}
-
-// The rig of that plan on two desks, its task with this move count.
-fn rig_with(moves: u16) -> System {
-    let plan = single_finish();
-    let none = unborn();
-    let mut tasks = [none; 64];
-    let first = moved(moves);
-    tasks[0] = first;
-    let tables = no_tables();
-    let channels = no_channels();
-    let network = empty_mail();
-    System {
-        processors: 2,
-        plan: plan,
-        tasks: tasks,
-        tables: tables,
-        channels: channels,
-        network: network,
-    }
+// The rig with this move count of task 1.
+fn with_moves(mut r: System, moves: u16) -> System {
+    let mut first = r.tasks[0];
+    first.moves = moves;
+    r.tasks[0] = first;
+    r
 }
 
 // What a step was answered, the move count of task 1 then, and the rig then.
@@ -197,8 +119,15 @@ fn is_after(a: After, number: u8, moves: u16) -> bool {
 
 // A task with a count of 9,998 moves to desk 2 and arrives there; it then moves no more.
 fn last_move() {
-    let r = rig_with(9998);
-    let a = take_step(r, 3, 1, 2);
+    let plan = single_finish();
+    let answer = plan_rules::check(plan);
+    let PlanAnswer::Accepted = answer else {
+        say(b"a plan of one finish accepted", false);
+        return;
+    };
+    let e = ends::derive(plan);
+    let r = starts::start(2, plan, e);
+    let a = take_step(with_moves(r, 9998), 3, 1, 2);
     say(b"move count 9,998 moves", is_after(a, 0, 9999));
     let left = a.system;
     let b = take_step(left, 2, 0, 1);

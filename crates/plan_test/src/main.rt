@@ -1,11 +1,12 @@
-// Compares the plan check with the expected outputs of records of runs, and writes each accepted
-// plan back. A record: desks in 1 byte, the lengths of plan, steps and output in 2 bytes each, and
+// Compares the plan check with the expected outputs of records of runs, writes each accepted plan back,
+// and reads it again. A record: desks in 1 byte, the lengths of plan, steps and output in 2 bytes each, and
 // then plan, steps and output.
 ghost use Prim.Native.Nat.{_<_, _≤_};
 ghost use lib.ListN.{length};
 use fields::byte_at;
 use fields::word_at;
 use libc::STDOUT_FILENO;
+use plan::PlanAnswer;
 use plan::WriteAnswer;
 use std::num::wrapping_add_u64;
 
@@ -52,6 +53,19 @@ fn writes_back(file: &[u8], out: &mut [u8]) -> bool {
     check::same(&out[..n], file)
 }
 
+// The plan read from the file, written and read again, is accepted with as many tasks.
+fn comes_back(file: &[u8], out: &mut [u8]) -> bool {
+    let read = plan_read::read_plan(file);
+    let p = read.plan;
+    let again = round_trip::reread(p, out);
+    let answer = again.answer;
+    let PlanAnswer::Accepted = answer else {
+        return false;
+    };
+    let q = again.plan;
+    p.tasks == q.tasks
+}
+
 fn compare(desks: u8, file: &[u8], output: &[u8], out: &mut [u8]) -> Compared {
     let number = driver::mortarsedge_plan_check(desks as u32, file);
     let agrees = number == expected(output);
@@ -62,10 +76,12 @@ fn compare(desks: u8, file: &[u8], output: &[u8], out: &mut [u8]) -> Compared {
             same: false,
         };
     }
+    let written = writes_back(file, out);
+    let same = base::both(written, comes_back(file, out));
     Compared {
         agrees: agrees,
         accepted: true,
-        same: writes_back(file, out),
+        same: same,
     }
 }
 

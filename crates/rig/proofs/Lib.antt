@@ -1,2 +1,5 @@
--- The laws of one step.
+-- The laws of one step, and of a rig on a board.
 pub mod Parts
+mod Agreeing
+mod Boards
+mod Reports

@@ -7,7 +7,7 @@ use Rattle.rules.specs.declared.system.System.{System}
 use Rattle.rules.specs.Sound.{systemOk}
 use Rattle.rules.specs.Steps.{stepAnswer, refused, answered, step}
 use Rattle.rules_laws.specs.Shapes.{Shaped}
-use Rattle.tables.specs.Store.{storeIn}
+use Rattle.judge.specs.Store.{storeIn}
 use Rattle.ends.specs.declared.Ends.{Ends}
 use Rattle.ends.specs.Derived.{endsOf}
 use Rattle.judge.specs.Facts.{Facts, facts}

@@ -1,14 +1,17 @@
 // One step of any rig.
+mod pack;
+mod turn;
+
 ghost use mathlib.Core.Path.{_≡_};
 ghost use Rattle.rules.specs.Steps.{step, refused};
+use judge::store::Store;
 use rules::rule::Received;
 use rules::step::Report;
 use rules::step::Step;
 use rules::step::StepAnswer;
 use rules::step::Stepped;
 use rules::system::System;
-use tables::store::Store;
-use turns::turn;
+use turn::turn;
 
 // A refused step gives the rig back.
 fn refused(r: System, a: StepAnswer) -> Stepped

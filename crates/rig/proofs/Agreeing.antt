@@ -1,0 +1,132 @@
+-- A list that agrees with another on its first entries, one entry more, and all of them; the same of the six lists of channels.
+use mathlib.Core.Path.{_≡_, refl, sym, ap, _∙_}
+use mathlib.Core.Bool.{false}
+use mathlib.Core.List.{List}
+use mathlib.Core.Logic.{by-cases}
+use Prim.Native.Nat.{ℕ, _+_, _-_, _<_, _≤_}
+use native.Mathlib.Omega.{arith}
+use native.Mathlib.Decide.{ℕ-discrete}
+use lib.ListN.{length, getD, set, length-set}
+use lib.Seq.{ext-getD, getD-set-same, getD-set-other}
+use Rattle.base.proofs.Tables.{length-table}
+use Rattle.rules.specs.declared.channel.Channel.{Channel}
+use Rattle.rules.specs.declared.system.Channels.{Channels}
+use Rattle.rules.specs.declared.task.Task.{Task}
+use Rattle.rules.specs.Systems.{readChannel, writeChannel}
+use borrow.Author.Tests.{ne-eqb}
+use Rattle.rules.specs.Numbers.{taskId}
+use Rattle.rules.specs.Tasks.{noTask}
+use Rattle.judge.specs.Fetches.{taskIn, taskStored}
+use Rattle.board.specs.Lent.{channelColumn, channelsOn, tasksOn}
+
+-- xs and ys have n entries, and their first k agree
+pub record Agree {A : Type 0} (d : A) (n k : ℕ) (xs ys : List A) : Type 0 where
+  pub long : length xs ≡ n
+  pub as-long : length ys ≡ n
+  pub same : (i : ℕ) → i < k → getD xs i d ≡ getD ys i d
+
+module _ {A : Type 0} {d : A} {n : ℕ} {xs ys : List A} where
+  pub agree-none : length xs ≡ n → length ys ≡ n → Agree d n 0 xs ys
+  agree-none h g = record { long = h; as-long = g; same = λ i b. absurd (omega arith) }
+
+  pub agree-more : {k : ℕ} → Agree d n k xs ys → k < n → (v : A) → v ≡ getD ys k d → Agree d n (k + 1) (set xs k v) ys
+  agree-more {k} a h v e =
+      record {
+        long = length-set xs k v ∙ a .long;
+        as-long = a .as-long;
+        same =
+            λ i b.
+            by-cases
+            (ℕ-discrete i k)
+            (λ (q : i ≡ k). rw q (getD-set-same xs k v d (omega (arith, a .long)) ∙ e))
+            (λ q. getD-set-other xs k i v d q ∙ a .same i (omega (arith, q)));
+      }
+
+  pub agree-all : {k : ℕ} → n ≤ k → Agree d n k xs ys → xs ≡ ys
+  agree-all h a = ext-getD d xs ys (a .long ∙ sym (a .as-long)) (λ i b. a .same i (omega (arith, a .long)))
+
+-- the six lists of channels
+pub record AgreeOn (k : ℕ) (x y : Channels) : Type 0 where
+  pub granted : Agree 0 128 k (x .granted) (y .granted)
+  pub awaiting : Agree false 128 k (x .awaiting) (y .awaiting)
+  pub carriedprocessors : Agree 0 128 k (x .carriedprocessors) (y .carriedprocessors)
+  pub carriednumbers : Agree 0 128 k (x .carriednumbers) (y .carriednumbers)
+  pub travellingprocessors : Agree 0 128 k (x .travellingprocessors) (y .travellingprocessors)
+  pub travellingmoves : Agree 0 128 k (x .travellingmoves) (y .travellingmoves)
+
+module _ {k : ℕ} {x y : Channels} (a : AgreeOn k x y) where
+  pub channels-more : k < 128 → (v : Channel) → v ≡ readChannel y k → AgreeOn (k + 1) (writeChannel x k v) y
+  channels-more h v e =
+      record {
+        granted = agree-more (a .granted) h (v .granted) (ap (λ (z : Channel). z .granted) e);
+        awaiting = agree-more (a .awaiting) h (v .awaiting) (ap (λ (z : Channel). z .awaiting) e);
+        carriedprocessors = agree-more (a .carriedprocessors) h (v .carried .processor .0) (ap (λ (z : Channel). z .carried .processor .0) e);
+        carriednumbers = agree-more (a .carriednumbers) h (v .carried .number) (ap (λ (z : Channel). z .carried .number) e);
+        travellingprocessors = agree-more (a .travellingprocessors) h (v .travelling .processor .0) (ap (λ (z : Channel). z .travelling .processor .0) e);
+        travellingmoves = agree-more (a .travellingmoves) h (v .travelling .moves) (ap (λ (z : Channel). z .travelling .moves) e);
+      }
+
+  pub channels-all : 128 ≤ k → x ≡ y
+  channels-all h =
+      rw
+      (agree-all h (a .granted), agree-all h (a .awaiting), agree-all h (a .carriedprocessors), agree-all h (a .carriednumbers), agree-all h (a .travellingprocessors), agree-all h (a .travellingmoves))
+      refl
+
+-- how many there are on a board
+pub tasks-long : (board : List ℕ) → length (tasksOn board) ≡ 64
+unfolding tasksOn
+tasks-long board = length-table 64 _
+
+column-long : {A : Type 0} (f : ℕ → A) (board : List ℕ) → length (channelColumn f board) ≡ 128
+unfolding channelColumn
+column-long f board = length-table 128 _
+
+pub record Long (x : Channels) : Type 0 where
+  pub granted : length (x .granted) ≡ 128
+  pub awaiting : length (x .awaiting) ≡ 128
+  pub carriedprocessors : length (x .carriedprocessors) ≡ 128
+  pub carriednumbers : length (x .carriednumbers) ≡ 128
+  pub travellingprocessors : length (x .travellingprocessors) ≡ 128
+  pub travellingmoves : length (x .travellingmoves) ≡ 128
+
+pub channels-long : (board : List ℕ) → Long (channelsOn board)
+unfolding channelsOn
+channels-long board =
+    record {
+      granted = column-long _ board;
+      awaiting = column-long _ board;
+      carriedprocessors = column-long _ board;
+      carriednumbers = column-long _ board;
+      travellingprocessors = column-long _ board;
+      travellingmoves = column-long _ board;
+    }
+
+pub channels-none : {x y : Channels} → Long x → Long y → AgreeOn 0 x y
+channels-none p q =
+    record {
+      granted = agree-none (p .granted) (q .granted);
+      awaiting = agree-none (p .awaiting) (q .awaiting);
+      carriedprocessors = agree-none (p .carriedprocessors) (q .carriedprocessors);
+      carriednumbers = agree-none (p .carriednumbers) (q .carriednumbers);
+      travellingprocessors = agree-none (p .travellingprocessors) (q .travellingprocessors);
+      travellingmoves = agree-none (p .travellingmoves) (q .travellingmoves);
+    }
+
+-- the task after the first k
+module _ (ts : List Task) (k : ℕ) where
+  last : k + 1 - 1 ≡ k
+  last = omega arith
+
+  pub task-after : taskIn ts (taskId (k + 1)) ≡ getD ts k noTask
+  unfolding taskIn
+  task-after = rw (ne-eqb (k + 1) 0 (λ e. omega arith), last) refl
+
+  pub stored-after : (x : Task) → taskStored ts (taskId (k + 1)) x ≡ set ts k x
+  unfolding taskStored
+  stored-after x = rw (ne-eqb (k + 1) 0 (λ e. omega arith), last) refl
+
+pub channel-after : (x : Channels) (k : ℕ) → readChannel x (k + 1 - 1) ≡ readChannel x k
+channel-after x k = let e : k + 1 - 1 ≡ k = omega arith in rw e refl
+
+pub written-after : (x : Channels) (k : ℕ) (y : Channel) → writeChannel x (k + 1 - 1) y ≡ writeChannel x k y
+written-after x k y = let e : k + 1 - 1 ≡ k = omega arith in rw e refl

@@ -1,0 +1,119 @@
+// The tasks and the channels of a rig, put on a board and taken from it.
+ghost use mathlib.Core.Path.{_≡_};
+ghost use Prim.Native.Nat.{_<_};
+ghost use Rattle.rules.specs.Systems.{readChannel};
+ghost use Rattle.board.specs.Lent.{Whole, tasksOn, channelsOn};
+use board::channel_at;
+use board::put_channel;
+use board::put_task;
+use board::task_at;
+use plan::ChannelId;
+use plan::ProcessorId;
+use plan::TaskId;
+use rules::channel::Channel;
+use rules::channel::Hint;
+use rules::channel::Offer;
+use rules::system::Channels;
+use rules::task::Task;
+
+// The entry of the channel after the first k.
+fn channel_of(channels: Channels, k: usize) -> Channel
+    requires { ⌜ k < 128 ⌝ }
+    ensures { λ r. ⌜ r ≡ readChannel channels k ⌝ }
+{
+    let offering = ProcessorId(channels.carriedprocessors[k]);
+    let carried = Offer {
+        processor: offering,
+        number: channels.carriednumbers[k],
+    };
+    let toward = ProcessorId(channels.travellingprocessors[k]);
+    let travelling = Hint {
+        processor: toward,
+        moves: channels.travellingmoves[k],
+    };
+    Channel {
+        granted: channels.granted[k],
+        awaiting: channels.awaiting[k],
+        carried: carried,
+        travelling: travelling,
+    }
+}
+
+// The board's tasks become these.
+pub fn put_tasks(board: &mut [u64; 256], tasks: [Task; 64])
+    requires { ⌜ Whole (now board) ⌝ }
+    ensures { λ r. ⌜ (Whole (now (board .exit))) × (tasksOn (now (board .exit)) ≡ tasks) × (channelsOn (now (board .exit)) ≡ channelsOn (now (board .entry))) ⌝ }
+{
+    let mut k: u8 = 0;
+    while k < 64 {
+        let at = base::wide8(k);
+        let x = tasks[at];
+        put_task(board, TaskId(k + 1), x);
+        k += 1;
+    }
+}
+
+// The board's channels become these.
+pub fn put_channels(board: &mut [u64; 256], channels: Channels)
+    requires { ⌜ Whole (now board) ⌝ }
+    ensures { λ r. ⌜ (Whole (now (board .exit))) × (channelsOn (now (board .exit)) ≡ channels) × (tasksOn (now (board .exit)) ≡ tasksOn (now (board .entry))) ⌝ }
+{
+    let mut k: u8 = 0;
+    while k < 128 {
+        let y = channel_of(channels, base::wide8(k));
+        put_channel(board, ChannelId(k + 1), y);
+        k += 1;
+    }
+}
+
+// The tasks of a board.
+pub fn tasks_on(board: &[u64; 256]) -> [Task; 64]
+    ensures { λ r. ⌜ r ≡ tasksOn (now (board .entry)) ⌝ }
+{
+    let first = task_at(board, TaskId(1));
+    let mut tasks = [first; 64];
+    let mut k: u8 = 0;
+    while k < 64 {
+        let x = task_at(board, TaskId(k + 1));
+        let at = base::wide8(k);
+        tasks[at] = x;
+        k += 1;
+    }
+    tasks
+}
+
+// The channels of a board.
+pub fn channels_on(board: &[u64; 256]) -> Channels
+    ensures { λ r. ⌜ r ≡ channelsOn (now (board .entry)) ⌝ }
+{
+    let mut granted = [0u8; 128];
+    let mut awaiting = [false; 128];
+    let mut carriedprocessors = [0u8; 128];
+    let mut carriednumbers = [0u8; 128];
+    let mut travellingprocessors = [0u8; 128];
+    let mut travellingmoves = [0u16; 128];
+    let mut k: u8 = 0;
+    while k < 128 {
+        let y = channel_at(board, ChannelId(k + 1));
+        let at = base::wide8(k);
+        granted[at] = y.granted;
+        awaiting[at] = y.awaiting;
+        let carried = y.carried;
+        let offering = carried.processor;
+        carriedprocessors[at] = offering.0;
+        carriednumbers[at] = carried.number;
+        let travelling = y.travelling;
+        let toward = travelling.processor;
+        travellingprocessors[at] = toward.0;
+        travellingmoves[at] = travelling.moves;
+        k += 1;
+    }
+    Channels {
+        granted: granted,
+        awaiting: awaiting,
+        carriedprocessors: carriedprocessors,
+        carriednumbers: carriednumbers,
+        travellingprocessors: travellingprocessors,
+        travellingmoves: travellingmoves,
+    }
+}
