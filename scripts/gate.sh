@@ -1,0 +1,21 @@
+#!/usr/bin/env bash
+# The gate. `rt ci` proves everything from nothing and tries the wrong programs of must-fail/. The C side is then tested
+# over the archive of that very proof: `rt` does not prove a crate again that has not changed since. The last line is the
+# last line of `rt ci`, 'N passed, 0 failed', if all of it passed. Otherwise it is another line, and the status is not 0.
+set -u
+cd "$(dirname "$0")/.." || exit 2
+log=$(mktemp)
+trap 'rm -f "$log"' EXIT
+
+rt ci 2>&1 | tee "$log"
+status=${PIPESTATUS[0]}
+verdict=$(tail -n 1 "$log")
+if [ "$status" -ne 0 ] || ! [[ $verdict =~ ^[0-9]+\ passed,\ 0\ failed$ ]]; then
+    echo "gate: rt ci does not pass"
+    exit 1
+fi
+if ! make -s ctest; then
+    echo "gate: rt ci passes, the C tests do not"
+    exit 1
+fi
+echo "$verdict"
