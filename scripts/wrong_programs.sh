@@ -11,9 +11,12 @@ top=$(cd "$(dirname "$0")/.." && pwd)
 work=$(mktemp -d)
 trap 'rm -rf "$work"' EXIT
 
-# The first place that the prover refuses, and its words there.
+# The first place that the prover refuses, and its words there. What only follows from another refusal comes last.
 refusal() {
-    grep -m 1 -E '^[^ ]+: error|^note: [^ ]+:[0-9]+:[0-9]+:' "$1" | sed "s|$2/||; s/: error//; s/^note: //" | cut -c 1-200
+    {
+        grep -E '^[^ ]+: error|^note: [^ ]+:[0-9]+:[0-9]+:' "$1" | grep -v 'was not admitted'
+        grep -E '^[^ ]+: error' "$1"
+    } | head -n 1 | sed "s|$2/||; s/: error//; s/^note: //" | cut -c 1-200
 }
 
 # Replaces the text OLD by NEW in a file, where it stands just once.
