@@ -318,6 +318,18 @@ def definition_tables(crates):
     return out
 
 
+def prose(page, crates, edits):
+    """Words of the hand-written part that look like an edit, a function or a definition, and are none."""
+    known = set(edits) | {crate.name for crate in crates}
+    for crate in crates:
+        known |= {part for f in crate.all_functions() for part in f.path.split('::')} | {d.name for d in crate.all_definitions()}
+    page = re.sub(r'<!-- (\w+): made by .*?<!-- \1: end -->', lambda m: '\n' * m[0].count('\n'), page, flags=re.S)
+    for number, line in enumerate(page.splitlines(), 1):
+        for word in re.findall(r'`([^`]*)`', line):
+            if re.fullmatch(r'[A-Za-z][A-Za-z0-9]*([_-][A-Za-z0-9]+)+|[A-Za-z]+[a-z0-9][A-Z]\w*|[A-Z]\w+', word) and word not in known:
+                complain(f'{PAGE}:{number}', f'there is no {word}')
+
+
 def filled(page, name, lines):
     first, last = f'<!-- {name}: made by scripts/review.py -->', f'<!-- {name}: end -->'
     if page.count(first) != 1 or page.count(last) != 1:
@@ -333,12 +345,13 @@ def main():
         sys.exit(__doc__)
     names = re.findall(r'^(\w+):', read('crates.txt'), re.M)
     crates = [Crate(name) for name in names if os.path.isdir(os.path.join(TOP, 'crates', name))]
+    edits = []
     for crate in crates:
         for part in 'must-fail', 'wrong':
             folder = os.path.join(TOP, crate.folder, part)
             for file in sorted(os.listdir(folder)) if os.path.isdir(folder) else []:
                 if file.endswith('.edit'):
-                    Edit(crate, part, file[:-len('.edit')])
+                    edits.append(Edit(crate, part, file[:-len('.edit')]).name)
         for f in crate.all_functions():
             few = f.public == (True, True) and len(f.edits) < 2
             if f.public == (True, True) and not f.outcome:
@@ -348,6 +361,7 @@ def main():
             elif not few and f.path in EXCEPTIONS:
                 complain(f.path, 'it is no exception')
     old = read(PAGE)
+    prose(old, crates, edits)
     new = filled(filled(old, 'functions', function_tables(crates)), 'definitions', definition_tables(crates))
     if not check:
         with open(os.path.join(TOP, PAGE), 'w', encoding='utf-8') as file:
@@ -358,9 +372,7 @@ def main():
         complain(f'{PAGE}:{line}', f'it differs from what scripts/review.py makes:\n  {had}\n  {due}')
     for complaint in complaints:
         print(f'review: {complaint}')
-    edits = sum(len(os.listdir(os.path.join(TOP, c.folder, p))) for c in crates for p in ('must-fail', 'wrong')
-                if os.path.isdir(os.path.join(TOP, c.folder, p)))
-    print(f'review: {edits} wrong programs, {len(complaints)} complaints')
+    print(f'review: {len(edits)} wrong programs, {len(complaints)} complaints')
     sys.exit(1 if complaints else 0)
 
 
