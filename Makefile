@@ -2,6 +2,7 @@
 #
 #   make driver   build/driver, with the proved archive (proved first if need be)
 #   make ctest    the tests of the C side
+#   make sanitize the driver and the header's functions under the compiler's checks of addresses and undefined behaviour
 #   make test     the gate: everything proved from nothing, then the tests of the C side over that archive
 #   make mutants  wrong simulators, which the comparison has to find
 #   make bench    times of library and simulator
@@ -12,12 +13,12 @@ CFLAGS ?= -O2
 CXXFLAGS ?= -O2
 WARNINGS = -Wall -Wextra -Wpedantic -Wconversion -Werror
 CCALL = $(CC) -std=c11 $(WARNINGS) $(CFLAGS) -Iinclude
-CXXCALL = $(CXX) -std=c++11 $(WARNINGS) $(CXXFLAGS) -Iinclude
+SANITIZE = -O1 -g -fsanitize=address,undefined -fno-sanitize-recover=all
 
 ARCHIVE = target/staticlib/libdriver.a
 PROVED = crates.txt $(shell find crates -type f)
 HEADER = include/mortarsedge.h
-DRIVER = driver/driver.c driver/file.c driver/trace.c
+DRIVER = driver/driver.c driver/file.c
 SIMULATOR = bench/simulator.c bench/sim_plan.c bench/sim_start.c bench/sim_step.c \
     bench/sim_run.c bench/sim_deliver.c bench/sim_move.c
 GENERATOR = bench/generate.c bench/damage.c bench/make_plan.c bench/make_steps.c bench/draft.c
@@ -29,7 +30,7 @@ BENCH_HEADERS = $(wildcard bench/*.h) $(HEADER)
 SEED = 1
 COUNT = 20000
 
-.PHONY: driver ctest test mutants bench instructions clean
+.PHONY: driver ctest sanitize test mutants bench instructions clean
 .DELETE_ON_ERROR:
 
 driver: build/driver
@@ -44,11 +45,12 @@ build:
 build/driver: $(DRIVER) $(wildcard driver/*.h) $(HEADER) $(ARCHIVE) | build
 	$(CCALL) -o $@ $(DRIVER) $(ARCHIVE)
 
-build/header_c: driver/header_test.c $(HEADER) $(ARCHIVE) | build
-	$(CCALL) -o $@ driver/header_test.c $(ARCHIVE)
+# The header as C99, C11 and C++11.
+build/header_c%: driver/header_test.c $(HEADER) $(ARCHIVE) | build
+	$(CC) -std=c$* $(WARNINGS) $(CFLAGS) -Iinclude -o $@ driver/header_test.c $(ARCHIVE)
 
-build/header_cxx: driver/header_test.c $(HEADER) $(ARCHIVE) | build
-	$(CXXCALL) -o $@ -x c++ driver/header_test.c -x none $(ARCHIVE)
+build/header_cxx%: driver/header_test.c $(HEADER) $(ARCHIVE) | build
+	$(CXX) -std=c++$* $(WARNINGS) $(CXXFLAGS) -Iinclude -o $@ -x c++ driver/header_test.c -x none $(ARCHIVE)
 
 build/vectors: bench/vectors.c $(SIMULATOR) $(BENCH_HEADERS) | build
 	$(CCALL) -o $@ bench/vectors.c $(SIMULATOR)
@@ -62,13 +64,22 @@ build/benchmark: $(BENCHMARK) $(SIMULATOR) $(BENCH_HEADERS) $(ARCHIVE) | build
 build/stack: $(STACK) $(GENERATOR) $(SIMULATOR) $(BENCH_HEADERS) $(ARCHIVE) | build
 	$(CCALL) -o $@ $(STACK) $(GENERATOR) $(SIMULATOR) $(ARCHIVE)
 
-ctest: build/driver build/header_c build/header_cxx build/vectors build/differential build/stack
-	build/header_c
-	build/header_cxx
+HEADER_TESTS = build/header_c99 build/header_c11 build/header_cxx11
+
+ctest: build/driver $(HEADER_TESTS) build/vectors build/differential build/stack
+	build/header_c99
+	build/header_c11
+	build/header_cxx11
 	driver/test.sh build/driver crates/trace_program/data
 	build/vectors crates/vectors_test/data/base.bin crates/vectors_test/data/moves.bin
 	build/differential $(SEED) $(COUNT)
 	build/stack $(SEED) 1000
+
+sanitize: $(ARCHIVE) | build
+	$(CCALL) $(SANITIZE) -o build/driver_sanitized $(DRIVER) $(ARCHIVE)
+	$(CCALL) $(SANITIZE) -o build/header_sanitized driver/header_test.c $(ARCHIVE)
+	build/header_sanitized
+	driver/test.sh build/driver_sanitized crates/trace_program/data
 
 test:
 	scripts/gate.sh

@@ -2,21 +2,22 @@
  *
  * Each word that a task receives becomes a line `level CHANNEL WORD` on
  * standard output, in order. Refused steps and the end of the run are told on
- * standard error. Exit status: 0 the run was done; 1 a file is refused; 2 wrong
- * usage; 3 a file cannot be read or the levels cannot be written. */
+ * standard error. Exit status: 0 the run was done; 1 the desks or a file are
+ * refused; 2 wrong usage; 3 a file cannot be read or the levels cannot be
+ * written. */
 #include <errno.h>
 #include <stdio.h>
 #include <string.h>
 
 #include "file.h"
 #include "mortarsedge.h"
-#include "trace.h"
 
 enum { DONE = 0, REFUSED = 1, USAGE = 2, BROKEN = 3 };
 
 static int usage(void)
 {
-    fprintf(stderr, "usage: driver DESKS PLANFILE STEPFILE\n");
+    fprintf(stderr, "usage: driver DESKS PLANFILE STEPFILE\n"
+                    "DESKS is a number, and 1 to 6 are accepted; the files are explained in docs/FORMATS.md\n");
     return USAGE;
 }
 
@@ -24,6 +25,12 @@ static int refused(const char *name, uint32_t number)
 {
     fprintf(stderr, "driver: %s refused, %u: %s\n", name, (unsigned)number, mortarsedge_refusal_text(number));
     return REFUSED;
+}
+
+static int broken(const char *name, const char *why)
+{
+    fprintf(stderr, "driver: %s: %s\n", name, why);
+    return BROKEN;
 }
 
 /* One to nine digits. */
@@ -38,66 +45,89 @@ static bool parse_desks(const char *text, uint32_t *desks)
     return true;
 }
 
-static void report_end(const struct trace_line *line)
+/* What is run, and what its trace has told so far. */
+struct show {
+    uint32_t desks;
+    const char *desks_word, *plan_name, *steps_name; /* as on the command line */
+    struct file plan, steps;
+    uint32_t runs; /* accepted runs of task 1 */
+};
+
+/* The show has finished when task 1 has executed all its instructions: its last
+ * is finish, which is refused while a child lives (docs/FORMATS.md). Their number
+ * stands in bytes 6 and 7 of the plan file, which is accepted here. */
+static bool has_finished(const struct show *show)
 {
-    if (line->at_rest)
-        fprintf(stderr, "at rest\n");
-    else
-        fprintf(stderr, "not at rest, %u letters\n", (unsigned)line->letters);
+    return show->runs == show->plan.bytes[6] + 256u * show->plan.bytes[7];
 }
 
-static void report_step(const struct trace_line *line)
+static void report_end(const struct show *show, const struct mortarsedge_line *line)
 {
+    const char *finished = has_finished(show) ? "finished" : "not finished";
+    if (line->at_rest)
+        fprintf(stderr, "%s, at rest\n", finished);
+    else
+        fprintf(stderr, "%s, not at rest, %u letter%s\n", finished, (unsigned)line->letters,
+                line->letters == 1 ? "" : "s");
+}
+
+static void report_step(struct show *show, const struct mortarsedge_line *line)
+{
+    const uint8_t *step = show->steps.bytes + MORTARSEDGE_STEP_BYTES * (line->step - 1);
     if (line->received)
         printf("level %u %u\n", (unsigned)line->channel, (unsigned)line->word);
     if (line->answer != MORTARSEDGE_ACCEPTED)
         fprintf(stderr, "step %u refused, %u: %s\n", (unsigned)line->step, (unsigned)line->answer,
                 mortarsedge_refusal_text(line->answer));
+    else if (step[0] == MORTARSEDGE_STEP_RUN && step[1] == 1)
+        show->runs++;
 }
 
-static int report(struct trace trace)
+/* The lines of a trace, up to the last. */
+static int report(struct show *show, const uint8_t *trace, size_t length)
 {
-    struct trace_line line;
+    struct mortarsedge_line line;
     do {
-        if (!trace_next(&trace, &line)) {
-            fprintf(stderr, "driver: the trace has a line of no known form\n");
-            return BROKEN;
-        }
-        if (line.is_end)
-            report_end(&line);
+        size_t taken = mortarsedge_take_line(trace, length, &line);
+        if (line.kind == MORTARSEDGE_LINE_OTHER)
+            return broken("the trace", "a line of no known form");
+        if (line.kind == MORTARSEDGE_LINE_END)
+            report_end(show, &line);
         else
-            report_step(&line);
-    } while (!line.is_end);
-    if (fflush(stdout) != 0) {
-        fprintf(stderr, "driver: standard output: %s\n", strerror(errno));
-        return BROKEN;
-    }
-    return DONE;
+            report_step(show, &line);
+        trace += taken;
+        length -= taken;
+    } while (line.kind != MORTARSEDGE_LINE_END);
+    return fflush(stdout) == 0 ? DONE : broken("standard output", strerror(errno));
 }
 
-static int run(uint32_t desks, const char *const names[2], const struct file *plan, const struct file *steps)
+static int run(struct show *show)
 {
     static uint8_t out[MORTARSEDGE_OUTPUT_ENOUGH];
-    uint32_t number = mortarsedge_plan_check(desks, plan->bytes, plan->length);
+    const struct file *plan = &show->plan, *steps = &show->steps;
+    uint32_t number = mortarsedge_plan_check(show->desks, plan->bytes, plan->length);
     if (number != MORTARSEDGE_ACCEPTED)
-        return refused(names[0], number);
-    uint64_t answer = mortarsedge_run(desks, plan->bytes, plan->length, steps->bytes, steps->length, out, sizeof out);
+        return refused(number == MORTARSEDGE_BAD_DESKS ? show->desks_word : show->plan_name, number);
+    uint64_t answer = mortarsedge_run(show->desks, plan->bytes, plan->length, steps->bytes, steps->length,
+                                      out, sizeof out);
     number = mortarsedge_number(answer);
     if (number != MORTARSEDGE_ACCEPTED)
-        return refused(names[1], number);
-    return report((struct trace){out, out + mortarsedge_filled(answer)});
+        return refused(show->steps_name, number);
+    return report(show, out, mortarsedge_filled(answer));
 }
 
 int main(int argc, char **argv)
 {
-    struct file plan = {NULL, 0}, steps = {NULL, 0};
-    uint32_t desks;
+    struct show show = {.desks = 0};
     int status = BROKEN;
-    if (argc != 4 || !parse_desks(argv[1], &desks))
+    if (argc != 4 || !parse_desks(argv[1], &show.desks))
         return usage();
-    if (file_load(argv[2], &plan) && file_load(argv[3], &steps))
-        status = run(desks, (const char *const[2]){argv[2], argv[3]}, &plan, &steps);
-    file_free(&plan);
-    file_free(&steps);
+    show.desks_word = argv[1];
+    show.plan_name = argv[2];
+    show.steps_name = argv[3];
+    if (file_load(show.plan_name, &show.plan) && file_load(show.steps_name, &show.steps))
+        status = run(&show);
+    file_free(&show.plan);
+    file_free(&show.steps);
     return status;
 }

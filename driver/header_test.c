@@ -1,8 +1,9 @@
-/* The header, as C and as C++: it compiles alone, links, and its functions agree
- * with the paper's numbers. */
+/* The header, as C99, C11 and C++11: it compiles alone, links, and its functions
+ * agree with the paper's numbers. */
 #include "mortarsedge.h"
 
 #include <stdio.h>
+#include <stdlib.h>
 #include <string.h>
 
 static int failures;
@@ -37,7 +38,7 @@ static void sizes_are_right(void)
 /* A plan of one finish, and an empty step file. */
 static void calls_link(void)
 {
-    static const uint8_t plan[12] = {1, 0, 1, 0, 8, 0, 1, 0, 3, 0, 0, 0};
+    static const uint8_t plan[12] = {1, 0, 1, 0, 8, 0, 1, 0, MORTARSEDGE_INSTRUCTION_FINISH, 0, 0, 0};
     uint8_t out[9] = {0};
     expect(mortarsedge_plan_check(0, plan, sizeof plan) == MORTARSEDGE_BAD_DESKS, "plan check: 1");
     expect(mortarsedge_plan_check(1, NULL, 0) == MORTARSEDGE_BAD_LAYOUT, "plan check: 2");
@@ -51,10 +52,220 @@ static void calls_link(void)
     expect(answer == MORTARSEDGE_BAD_STEP_FILE, "run: 8");
 }
 
+/* Whether a step is put as these bytes, and no byte around them is written. */
+static bool put_is(uint32_t kind, uint32_t task, uint32_t number, bool fits, const uint8_t bytes[4])
+{
+    uint8_t out[6] = {0xa5, 0xa5, 0xa5, 0xa5, 0xa5, 0xa5};
+    bool answer = mortarsedge_put_step(out + 1, kind, task, number);
+    return answer == fits && memcmp(out + 1, bytes, 4) == 0 && out[0] == 0xa5 && out[5] == 0xa5;
+}
+
+/* Every kind with every task, and every number; then fields that do not fit. */
+static void steps_are_put(void)
+{
+    static const uint32_t large[5] = {65536, 65537, 16777216, 2147483648u, 4294967295u};
+    static const uint8_t zeros[4] = {0, 0, 0, 0};
+    for (uint32_t kind = 0; kind <= 255; kind++)
+        for (uint32_t task = 0; task <= 255; task++) {
+            uint8_t bytes[4] = {(uint8_t)kind, (uint8_t)task, 0x34, 0x12};
+            expect(put_is(kind, task, 0x1234, true, bytes), "a step's kind and task");
+        }
+    for (uint32_t number = 0; number <= 65535; number++) {
+        uint8_t bytes[4] = {3, 2, (uint8_t)(number & 255), (uint8_t)(number >> 8)};
+        expect(put_is(3, 2, number, true, bytes), "a step's number");
+    }
+    expect(put_is(256, 1, 1, false, zeros), "kind 256");
+    expect(put_is(1, 256, 1, false, zeros), "task 256");
+    for (int i = 0; i < 5; i++) {
+        expect(put_is(large[i], 1, 1, false, zeros), "a large kind");
+        expect(put_is(1, large[i], 1, false, zeros), "a large task");
+        expect(put_is(1, 1, large[i], false, zeros), "a large number");
+    }
+}
+
+/* The first line of a text, in memory that is not a byte longer. */
+static size_t take(const uint8_t *text, size_t length, struct mortarsedge_line *line)
+{
+    uint8_t *copy = (uint8_t *)malloc(length);
+    size_t taken;
+    memset(line, 0xa5, sizeof *line);
+    if (copy == NULL && length > 0)
+        exit(2);
+    if (length > 0)
+        memcpy(copy, text, length);
+    taken = mortarsedge_take_line(copy, length, line);
+    free(copy);
+    return taken;
+}
+
+static size_t take_text(const char *text, struct mortarsedge_line *line)
+{
+    return take((const uint8_t *)text, strlen(text), line);
+}
+
+/* The text of a line; a text that is none where the line is none. */
+static void write_line(const struct mortarsedge_line *line, char text[32])
+{
+    if (line->kind == MORTARSEDGE_LINE_END)
+        sprintf(text, "end %u %u\n", (unsigned)line->at_rest, (unsigned)line->letters);
+    else if (line->kind == MORTARSEDGE_LINE_STEP && line->received)
+        sprintf(text, "%u %u %u %u\n", (unsigned)line->step, (unsigned)line->answer, (unsigned)line->channel,
+                (unsigned)line->word);
+    else if (line->kind == MORTARSEDGE_LINE_STEP)
+        sprintf(text, "%u %u\n", (unsigned)line->step, (unsigned)line->answer);
+    else
+        text[0] = '\0';
+}
+
+static bool same_line(const struct mortarsedge_line *a, const struct mortarsedge_line *b)
+{
+    return a->kind == b->kind && a->step == b->step && a->answer == b->answer && a->received == b->received
+        && a->channel == b->channel && a->word == b->word && a->at_rest == b->at_rest && a->letters == b->letters;
+}
+
+/* A line is written and taken apart again, alone and with another behind it; cut short it is no line. */
+static void line_is_taken(struct mortarsedge_line line)
+{
+    static const struct mortarsedge_line none = {MORTARSEDGE_LINE_OTHER, 0, 0, false, 0, 0, false, 0};
+    struct mortarsedge_line got;
+    char text[40];
+    write_line(&line, text);
+    size_t length = strlen(text);
+    expect(take_text(text, &got) == length && same_line(&got, &line), "a line is taken apart");
+    strcat(text, "end 1");
+    expect(take_text(text, &got) == length && same_line(&got, &line), "a line before others is taken apart");
+    for (size_t cut = 0; cut < length; cut++)
+        expect(take((const uint8_t *)text, cut, &got) == 0 && same_line(&got, &none), "a line cut short is taken");
+}
+
+/* Every step with every answer, every channel, on channel 128 every word, and every number of letters. */
+static void lines_are_taken(void)
+{
+    struct mortarsedge_line step = {MORTARSEDGE_LINE_STEP, 1, 0, false, 0, 0, false, 0};
+    struct mortarsedge_line word = {MORTARSEDGE_LINE_STEP, 9, 0, true, 3, 7, false, 0};
+    struct mortarsedge_line end = {MORTARSEDGE_LINE_END, 0, 0, false, 0, 0, true, 0};
+    for (step.step = 1; step.step <= MORTARSEDGE_MAX_STEPS; step.step++)
+        for (step.answer = 0; step.answer <= 19; step.answer = step.answer == 0 ? 10 : step.answer + 1)
+            line_is_taken(step);
+    for (word.channel = 1; word.channel <= MORTARSEDGE_MAX_CHANNELS; word.channel++)
+        for (word.word = 0; word.word <= 65535; word.word += 1 + 127 * (word.channel % 128))
+            line_is_taken(word);
+    line_is_taken(end);
+    end.at_rest = false;
+    for (end.letters = 0; end.letters <= MORTARSEDGE_MAX_LETTERS; end.letters++)
+        line_is_taken(end);
+}
+
+/* Whole lines that stand in no trace. */
+static void others_are_told(void)
+{
+    static const char *const others[] = {
+        "\n", " \n", "1\n", "1 \n", " 1 0\n", "1 0 \n", "1  0\n", "1\t0\n", "1 0\r\n", "1 0 3\n", "1 0 3 \n",
+        "1 0 3 7 \n", "1 0 3 7 0\n", "1 0 3 7 0 0 0\n", "1,0\n", "1 x\n", "x 1\n", "-1 0\n", "+1 0\n", "1 -0\n",
+        "0 0\n", "2001 0\n", "01 0\n", "1 00\n", "1 010\n", "1 1\n", "1 9\n", "1 20\n", "1 256\n", "1 65536\n",
+        "1 10 3 7\n", "1 19 128 65535\n", "1 0 0 7\n", "1 0 129 7\n", "1 0 3 65536\n", "1 0 03 7\n",
+        "1 0 3 4294967296\n", "1 0 3 4294967303\n", "4294967297 0\n", "18446744073709551617 0\n",
+        "99999999999999999999999999999999999999 0\n", "e\n", "en\n", "end\n", "end \n", "end 1\n", "end 1 \n",
+        "end1 0\n", "end  1 0\n", "end 1 1\n", "end 2 0\n", "end 0 257\n", "end 0 00\n", "end 00 0\n", "end 0 0 0\n",
+        "end 0 0 \n", "End 0 0\n", "ende 0 0\n", " end 0 0\n", "end\n0 0\n", "over 3\n", "refused 2\n", "\0 1 0\n"};
+    for (size_t i = 0; i < sizeof others / sizeof others[0]; i++) {
+        struct mortarsedge_line line;
+        size_t length = others[i][0] == '\0' ? 6 : strlen(others[i]);
+        size_t first = 1 + (size_t)((const char *)memchr(others[i], '\n', length) - others[i]);
+        size_t taken = take((const uint8_t *)others[i], length, &line);
+        expect(taken == first && line.kind == MORTARSEDGE_LINE_OTHER, others[i]);
+    }
+    struct mortarsedge_line line;
+    expect(mortarsedge_take_line(NULL, 0, &line) == 0 && line.kind == MORTARSEDGE_LINE_OTHER, "no text");
+}
+
+/* Of any bytes, what is taken for a line of a trace is that line and no other text. */
+static void taken_is_written(const uint8_t *text, size_t length)
+{
+    struct mortarsedge_line line;
+    char again[32];
+    size_t taken = take(text, length, &line);
+    const uint8_t *feed = length == 0 ? NULL : (const uint8_t *)memchr(text, '\n', length);
+    expect(taken == (feed == NULL ? 0 : (size_t)(feed - text) + 1), "bytes taken");
+    if (line.kind != MORTARSEDGE_LINE_OTHER) {
+        write_line(&line, again);
+        expect(strlen(again) == taken && memcmp(again, text, taken) == 0, "another line is read than there is");
+    }
+}
+
+/* Lines with every byte at every place: put instead, put between, left out. */
+static void bytes_are_told(void)
+{
+    static const char *const samples[] = {"9 0 3 7\n", "15 11\n", "end 1 0\n", "end 0 256\n", "2000 0 128 65535\n"};
+    for (size_t i = 0; i < sizeof samples / sizeof samples[0]; i++) {
+        size_t length = strlen(samples[i]);
+        for (size_t place = 0; place < length; place++) {
+            uint8_t text[32] = {0};
+            memcpy(text, samples[i], place);
+            memcpy(text + place, samples[i] + place + 1, length - place - 1);
+            taken_is_written(text, length - 1);
+            memcpy(text + place + 1, samples[i] + place + 1, length - place - 1);
+            for (unsigned byte = 0; byte <= 255; byte++) {
+                text[place] = (uint8_t)byte;
+                taken_is_written(text, length);
+            }
+            memcpy(text + place + 1, samples[i] + place, length - place);
+            for (unsigned byte = 0; byte <= 255; byte++) {
+                text[place] = (uint8_t)byte;
+                taken_is_written(text, length + 1);
+            }
+        }
+    }
+}
+
+/* The paper's worked run on two desks: its plan by names, its steps put, its trace taken apart. */
+static const uint8_t worked_plan[44] = {
+    2, 0, 8, 0, 12, 0, 5, 0, 32, 0, 3, 0,
+    MORTARSEDGE_INSTRUCTION_CREATE, 0, 2, 0, MORTARSEDGE_INSTRUCTION_SET, 0, 7, 0,
+    MORTARSEDGE_INSTRUCTION_SEND, 0, 3, 0, MORTARSEDGE_INSTRUCTION_SYNC, 0, 0, 0,
+    MORTARSEDGE_INSTRUCTION_FINISH, 0, 0, 0,
+    MORTARSEDGE_INSTRUCTION_RECEIVE, 0, 3, 0, MORTARSEDGE_INSTRUCTION_ADD, 0, 1, 0,
+    MORTARSEDGE_INSTRUCTION_FINISH, 0, 0, 0};
+
+enum { RUN = MORTARSEDGE_STEP_RUN, DELIVER = MORTARSEDGE_STEP_DELIVER, MOVE = MORTARSEDGE_STEP_MOVE, WORKED_STEPS = 15 };
+
+static const uint32_t worked_steps[WORKED_STEPS][3] = {
+    {RUN, 1, 0}, {RUN, 1, 0}, {MOVE, 2, 2}, {RUN, 1, 0}, {DELIVER, 0, 2}, {DELIVER, 0, 1}, {RUN, 2, 0}, {DELIVER, 0, 1},
+    {DELIVER, 0, 1}, {RUN, 2, 0}, {RUN, 2, 0}, {RUN, 1, 0}, {DELIVER, 0, 1}, {RUN, 1, 0}, {RUN, 1, 0}};
+
+static void worked_run_is_right(void)
+{
+    uint8_t steps[4 * WORKED_STEPS], out[200];
+    struct mortarsedge_line line;
+    size_t at = 0;
+    for (size_t i = 0; i < WORKED_STEPS; i++)
+        expect(mortarsedge_put_step(steps + 4 * i, worked_steps[i][0], worked_steps[i][1], worked_steps[i][2]),
+               "a worked step is put");
+    uint64_t answer = mortarsedge_run(2, worked_plan, sizeof worked_plan, steps, sizeof steps, out, sizeof out);
+    size_t filled = mortarsedge_filled(answer);
+    expect(mortarsedge_number(answer) == MORTARSEDGE_ACCEPTED, "the worked run is accepted");
+    for (uint32_t step = 1; step <= WORKED_STEPS; step++) {
+        bool word = step == 9;
+        at += mortarsedge_take_line(out + at, filled - at, &line);
+        expect(line.kind == MORTARSEDGE_LINE_STEP && line.step == step, "the worked run's steps");
+        expect(line.answer == (step == 15 ? (uint32_t)MORTARSEDGE_NOT_READY : 0), "the worked run's answers");
+        expect(line.received == word && line.channel == (word ? 3u : 0) && line.word == (word ? 7u : 0),
+               "the worked run's word");
+    }
+    at += mortarsedge_take_line(out + at, filled - at, &line);
+    expect(line.kind == MORTARSEDGE_LINE_END && line.at_rest && line.letters == 0, "the worked run's end");
+    expect(at == filled && mortarsedge_take_line(out + at, filled - at, &line) == 0, "nothing behind the end");
+}
+
 int main(void)
 {
     texts_differ();
     sizes_are_right();
     calls_link();
+    steps_are_put();
+    lines_are_taken();
+    others_are_told();
+    bytes_are_told();
+    worked_run_is_right();
     return failures != 0;
 }

@@ -37,7 +37,7 @@ expect() {
 }
 
 # refuses NAME NUMBER FILE DESKS PLAN STEPS: exit 1, the number and FILE on
-# standard error, no level.
+# standard error, no level. FILE is what is refused: a file's name, or the desks.
 refuses() {
     cases=$((cases + 1))
     run "$4" "$5" "$6"
@@ -56,25 +56,25 @@ none=$scratch/none
 run 2 "$plan" "$steps"
 expect "worked run" 0 "level 3 7
 " "step 15 refused, 11: task not ready
-at rest
+finished, at rest
 "
 
 # Without its last two steps, task 1 is ready to go on.
 head -c 52 "$steps" > "$scratch/short"
 run 2 "$plan" "$scratch/short"
 expect "worked run, 13 steps" 0 "level 3 7
-" "not at rest, 0 letters
+" "not finished, not at rest, 0 letters
 "
 
 # Its first four steps: the mover and the offer to desk 2 are under way.
 head -c 16 "$steps" > "$scratch/four"
 run 2 "$plan" "$scratch/four"
-expect "worked run, 4 steps" 0 "" "not at rest, 2 letters
+expect "worked run, 4 steps" 0 "" "not finished, not at rest, 2 letters
 "
 
 bytes none ''
 run 2 "$plan" "$none"
-expect "empty step file" 0 "" "not at rest, 0 letters
+expect "empty step file" 0 "" "not finished, not at rest, 0 letters
 "
 
 # Two words on one desk. Task 1: create 2, set 65535, send 128, add 2, send 1,
@@ -90,7 +90,28 @@ level 1 1
 step 9 refused, 10: no such task
 step 10 refused, 14: no letter at this position
 step 11 refused, 15: desk outside the rig
-not at rest, 0 letters
+not finished, not at rest, 0 letters
+"
+
+# Rest is not the end of a show: two tasks that each wait for the other's word.
+# Task 1: create 2, receive 1, send 2, finish. Task 2: receive 2, send 1, finish.
+# Steps: run 1, run 1, run 2.
+bytes stuck.plan '\002\000\007\000\014\000\004\000\034\000\003\000\001\000\002\000\005\000\001\000\004\000\002\000\003\000\000\000\005\000\002\000\004\000\001\000\003\000\000\000'
+bytes stuck.steps '\001\001\000\000\001\001\000\000\001\002\000\000'
+run 1 "$scratch/stuck.plan" "$scratch/stuck.steps"
+expect "rest without an end" 0 "" "not finished, at rest
+"
+
+# The end of a show is not rest: an advert that nobody needs is still under way.
+# Task 1: create 2, create 3, sync, finish. Task 2: send 1, finish. Task 3:
+# receive 1, finish. Steps: run 1, move 2 to 2, deliver 1, run 2 (adverts to 1
+# and 3), run 1, run 3, deliver 1 (the advert to 1), deliver 2 (the call),
+# deliver 2 (the word), run 2, run 3, deliver 2 (task 2 has ended), run 1, run 1.
+bytes early.plan '\003\000\010\000\020\000\004\000\040\000\002\000\050\000\002\000\001\000\002\000\001\000\003\000\002\000\000\000\003\000\000\000\004\000\001\000\003\000\000\000\005\000\001\000\003\000\000\000'
+bytes early.steps '\001\001\000\000\003\002\002\000\002\000\001\000\001\002\000\000\001\001\000\000\001\003\000\000\002\000\001\000\002\000\002\000\002\000\002\000\001\002\000\000\001\003\000\000\002\000\002\000\001\001\000\000\001\001\000\000'
+run 3 "$scratch/early.plan" "$scratch/early.steps"
+expect "an end without rest" 0 "level 1 0
+" "finished, not at rest, 1 letter
 "
 
 # Refused plans: one task with one instruction unless said otherwise.
@@ -105,9 +126,9 @@ bytes open.plan "$one"'\006\000\001\000'
 bytes orphan.plan '\002\000\002\000\014\000\001\000\020\000\001\000\003\000\000\000\003\000\000\000'
 # Task 1: create 2, send 1, finish. Task 2: send 1, finish.
 bytes senders.plan '\002\000\005\000\014\000\003\000\030\000\002\000\001\000\002\000\004\000\001\000\003\000\000\000\004\000\001\000\003\000\000\000'
-refuses "no desks" 1 "$plan" 0 "$plan" "$steps"
-refuses "seven desks" 1 "$plan" 7 "$plan" "$steps"
-refuses "many desks" 1 "$plan" 999999999 "$plan" "$steps"
+refuses "no desks" 1 0 0 "$plan" "$steps"
+refuses "seven desks" 1 7 7 "$plan" "$steps"
+refuses "many desks" 1 999999999 999999999 "$plan" "$steps"
 refuses "empty plan" 2 "$none" 2 "$none" "$steps"
 refuses "a byte too many" 2 "$scratch/long.plan" 2 "$scratch/long.plan" "$steps"
 refuses "unknown kind" 3 "$scratch/kind.plan" 2 "$scratch/kind.plan" "$steps"
@@ -156,6 +177,7 @@ fi
 
 # Wrong usage.
 wrong="usage: driver DESKS PLANFILE STEPFILE
+DESKS is a number, and 1 to 6 are accepted; the files are explained in docs/FORMATS.md
 "
 run
 expect "no words" 2 "" "$wrong"

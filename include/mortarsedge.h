@@ -1,13 +1,23 @@
 /* Mortarsedge: the proved core of a moving rig, for a C driver.
  *
- * Link with libdriver.a. Both functions take numbers and bytes, keep nothing
- * between calls, and may be called from several threads at once. Both return
- * for every input; neither allocates, reads or writes anything else.
+ * Link with libdriver.a. Its two functions, plan check and run, take numbers
+ * and bytes, keep nothing between calls, and may be called from several threads
+ * at once. Both return for every input; neither allocates, reads or writes
+ * anything else. Everything else in this header is C for a driver's convenience:
+ * names for the numbers, and inline functions, which no proof covers.
  *
- * Where a length is 0 its pointer may be any. */
+ * Where a length is 0 its pointer may be any.
+ *
+ * The header needs C99 or C++11. docs/FORMATS.md explains plan file, step file
+ * and trace, docs/driver.md what a driver supplies and is promised. */
 #ifndef MORTARSEDGE_H
 #define MORTARSEDGE_H
 
+#if !defined(__cplusplus) && (!defined(__STDC_VERSION__) || __STDC_VERSION__ < 199901L)
+#error "mortarsedge.h needs C99 or later: compile with -std=c99"
+#endif
+
+#include <stdbool.h>
 #include <stddef.h>
 #include <stdint.h>
 
@@ -46,6 +56,27 @@ enum {
     MORTARSEDGE_RUN_STACK = 128 * 1024
 };
 
+/* The kinds of an instruction, 4 bytes of a plan file: kind, a zero byte, and an
+ * argument of 16 bits, little-endian. What the argument is stands beside. */
+enum mortarsedge_instruction {
+    MORTARSEDGE_INSTRUCTION_CREATE = 1,  /* the child, 2 to the number of tasks */
+    MORTARSEDGE_INSTRUCTION_SYNC = 2,    /* unused: 0 */
+    MORTARSEDGE_INSTRUCTION_FINISH = 3,  /* unused: 0 */
+    MORTARSEDGE_INSTRUCTION_SEND = 4,    /* a channel, 1 to 128 */
+    MORTARSEDGE_INSTRUCTION_RECEIVE = 5, /* a channel, 1 to 128 */
+    MORTARSEDGE_INSTRUCTION_SET = 6,     /* a word, 0 to 65,535 */
+    MORTARSEDGE_INSTRUCTION_ADD = 7      /* a word, 0 to 65,535 */
+};
+
+/* The kinds of a step, 4 bytes of a step file: kind, task, and a number of 16
+ * bits, little-endian. A field that a kind does not use has to be 0, or the step
+ * is answered 19, as is a step of any other kind. */
+enum mortarsedge_step {
+    MORTARSEDGE_STEP_RUN = 1,     /* the task; the number is unused: 0 */
+    MORTARSEDGE_STEP_DELIVER = 2, /* the task is unused: 0; the number is the letter's position, from 1 */
+    MORTARSEDGE_STEP_MOVE = 3     /* the task; the number is the desk it goes to */
+};
+
 /* The answers: of a call 0 to 6, 8 and 20, of a step in the trace 0 and 10 to 19. */
 enum mortarsedge_answer {
     MORTARSEDGE_ACCEPTED = 0,
@@ -70,7 +101,7 @@ enum mortarsedge_answer {
     MORTARSEDGE_NO_DESK = 15,         /* a move to a desk outside the rig */
     MORTARSEDGE_SAME_DESK = 16,       /* the task is at this desk already */
     MORTARSEDGE_MOVE_CHILDREN = 17,   /* a move with living children */
-    MORTARSEDGE_MOVE_COUNT = 18,      /* the task's move count is 9,999 */
+    MORTARSEDGE_MOVE_COUNT = 18,      /* the task's move count is 9,999; no step file has so many moves */
     MORTARSEDGE_BAD_STEP = 19,        /* a kind not 1 to 3, or an unused field not zero */
     /* Of the output. */
     MORTARSEDGE_OUTPUT_SHORT = 20 /* the lent output is too short */
@@ -115,7 +146,9 @@ uint32_t mortarsedge_plan_check(uint32_t desks, const uint8_t *plan, size_t plan
  * word was received, channel and word. A refused step gets its line and the run
  * goes on. The last line is `end`, 1 if the rig is at rest else 0, and the
  * letters in the mail. Fields are decimal with one space between, and a line
- * feed is behind each line. */
+ * feed is behind each line: mortarsedge_take_line takes a line apart. A rig at
+ * rest does nothing more; that the show has finished is another thing
+ * (docs/FORMATS.md). */
 uint64_t mortarsedge_run(uint32_t desks, const uint8_t *plan, size_t plan_length,
                          const uint8_t *steps, size_t steps_length,
                          uint8_t *out, size_t out_length);
@@ -130,6 +163,133 @@ static inline uint32_t mortarsedge_number(uint64_t answer)
 static inline size_t mortarsedge_filled(uint64_t answer)
 {
     return (size_t)(answer / 256);
+}
+
+/* Puts a step into the four bytes out[0] to out[3]. A kind or a task above 255
+ * or a number above 65,535 does not fit its field: then false is returned and
+ * the bytes are zero, a step that is answered 19 and changes nothing. It is not
+ * looked at whether the step is well formed; that is the core's to say. */
+static inline bool mortarsedge_put_step(uint8_t out[MORTARSEDGE_STEP_BYTES], uint32_t kind, uint32_t task,
+                                        uint32_t number)
+{
+    bool fits = kind <= 255 && task <= 255 && number <= 65535;
+    out[0] = (uint8_t)(fits ? kind : 0);
+    out[1] = (uint8_t)(fits ? task : 0);
+    out[2] = (uint8_t)(fits ? number % 256 : 0);
+    out[3] = (uint8_t)(fits ? number / 256 : 0);
+    return fits;
+}
+
+/* What a line of a trace is. */
+enum mortarsedge_line_kind {
+    MORTARSEDGE_LINE_OTHER = 0, /* no line of a trace */
+    MORTARSEDGE_LINE_STEP = 1,  /* a step's line */
+    MORTARSEDGE_LINE_END = 2    /* the last line */
+};
+
+/* A line of a trace, taken apart. What does not belong to its kind is 0. */
+struct mortarsedge_line {
+    enum mortarsedge_line_kind kind;
+    uint32_t step;    /* of a step's line: the step's number, 1 to 2,000; */
+    uint32_t answer;  /* 0, or the refusal, 10 to 19; */
+    bool received;    /* whether a word was received; if so, */
+    uint32_t channel; /* its channel, 1 to 128, */
+    uint32_t word;    /* and the word, 0 to 65,535 */
+    bool at_rest;     /* of the last line: whether the rig is at rest; */
+    uint32_t letters; /* how many letters are in the mail, 0 to 256, 0 at rest */
+};
+
+/* The numbers on a line: step, answer, channel, word. */
+enum { MORTARSEDGE_LINE_FIELDS = 4 };
+
+/* For mortarsedge_take_line: how many bytes the first line has, its line feed
+ * with them; 0 if there is no line feed. */
+static inline size_t mortarsedge_line_length(const uint8_t *text, size_t length)
+{
+    for (size_t i = 0; i < length; i++)
+        if (text[i] == '\n')
+            return i + 1;
+    return 0;
+}
+
+/* For mortarsedge_take_line: decimals from 0 to 65,535 with one space between,
+ * none with a zero in front. Returns how many; 0 if the text is anything else. */
+static inline size_t mortarsedge_line_fields(const uint8_t *text, size_t length,
+                                             uint32_t fields[MORTARSEDGE_LINE_FIELDS])
+{
+    size_t count = 0, at = 0;
+    for (;;) {
+        size_t first = at;
+        uint32_t number = 0;
+        for (; at < length && text[at] >= '0' && text[at] <= '9' && number <= 65535; at++)
+            number = 10 * number + (uint32_t)(text[at] - '0');
+        if (count == MORTARSEDGE_LINE_FIELDS || at == first || number > 65535)
+            return 0;
+        if (text[first] == '0' && at - first > 1)
+            return 0;
+        fields[count++] = number;
+        if (at == length)
+            return count;
+        if (text[at++] != ' ')
+            return 0;
+    }
+}
+
+/* For mortarsedge_take_line: a step's line, of these fields. */
+static inline void mortarsedge_step_line(const uint32_t *fields, size_t count, struct mortarsedge_line *line)
+{
+    bool received = count == 4;
+    if (count != 2 && !received)
+        return;
+    if (fields[0] < 1 || fields[0] > MORTARSEDGE_MAX_STEPS)
+        return;
+    if (fields[1] != MORTARSEDGE_ACCEPTED
+        && (received || fields[1] < MORTARSEDGE_NO_TASK || fields[1] > MORTARSEDGE_BAD_STEP))
+        return;
+    if (received && (fields[2] < 1 || fields[2] > MORTARSEDGE_MAX_CHANNELS))
+        return;
+    line->kind = MORTARSEDGE_LINE_STEP;
+    line->step = fields[0];
+    line->answer = fields[1];
+    line->received = received;
+    line->channel = received ? fields[2] : 0;
+    line->word = received ? fields[3] : 0;
+}
+
+/* For mortarsedge_take_line: the last line, of these fields behind `end`. */
+static inline void mortarsedge_end_line(const uint32_t *fields, size_t count, struct mortarsedge_line *line)
+{
+    if (count != 2 || fields[0] > 1 || fields[1] > MORTARSEDGE_MAX_LETTERS)
+        return;
+    if (fields[0] == 1 && fields[1] != 0)
+        return;
+    line->kind = MORTARSEDGE_LINE_END;
+    line->at_rest = fields[0] == 1;
+    line->letters = fields[1];
+}
+
+/* Takes the first line of a text apart: length readable bytes, any bytes.
+ * Returns how many bytes the line has, its line feed with them, which is where
+ * the next line begins; 0 if there is no whole line. The line's kind is
+ * MORTARSEDGE_LINE_OTHER where that is so, and for every line that can stand in
+ * no trace: numbers are within the ranges above, so that a channel may be used
+ * as an index without another test.
+ *
+ *     for (at = 0; (taken = mortarsedge_take_line(out + at, filled - at, &line)) > 0; at += taken)
+ *         if (line.received)
+ *             level[line.channel] = line.word;
+ */
+static inline size_t mortarsedge_take_line(const uint8_t *text, size_t length, struct mortarsedge_line *line)
+{
+    const struct mortarsedge_line none = {MORTARSEDGE_LINE_OTHER, 0, 0, false, 0, 0, false, 0};
+    uint32_t fields[MORTARSEDGE_LINE_FIELDS] = {0, 0, 0, 0};
+    size_t taken = mortarsedge_line_length(text, length);
+    *line = none;
+    if (taken >= 5 && text[0] == 'e' && text[1] == 'n' && text[2] == 'd' && text[3] == ' ')
+        mortarsedge_end_line(fields, mortarsedge_line_fields(text + 4, taken - 5, fields), line);
+    else if (taken > 0)
+        mortarsedge_step_line(fields, mortarsedge_line_fields(text, taken - 1, fields), line);
+    return taken;
 }
 
 /* One line of text for an answer of a call or of a step. */
