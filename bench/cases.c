@@ -4,6 +4,7 @@
 
 #include <string.h>
 
+#include "../include/mortarsedge.h"
 #include "make_plan.h"
 #include "make_steps.h"
 
@@ -46,19 +47,19 @@ static void lead(struct bench_case *c, uint32_t steps, propose *proposal)
 
 static void propose_run(struct random *r, const struct sim_rig *rig, uint8_t *step)
 {
-    put_step(step, 1, ready_task(r, rig, false), 0);
+    mortarsedge_put_step(step, 1, ready_task(r, rig, false), 0);
 }
 
 static void propose_move(struct random *r, const struct sim_rig *rig, uint8_t *step)
 {
-    put_step(step, 3, ready_task(r, rig, true), random_from(r, 1, rig->desks));
+    mortarsedge_put_step(step, 3, ready_task(r, rig, true), random_from(r, 1, rig->desks));
 }
 
 /* Runs and moves while few letters are under way, else a delivery of any. */
 static void propose_moving(struct random *r, const struct sim_rig *rig, uint8_t *step)
 {
     if (random_below(r, 24) < rig->letters)
-        put_step(step, 2, 0, random_from(r, 1, rig->letters));
+        mortarsedge_put_step(step, 2, 0, random_from(r, 1, rig->letters));
     else if (random_chance(r, 30))
         propose_run(r, rig, step);
     else
@@ -93,17 +94,17 @@ static uint32_t lively_letter(struct random *r, const struct sim_rig *rig)
 static void propose_mail(struct random *r, const struct sim_rig *rig, uint8_t *step)
 {
     if (rig->code[rig->task[1].place].kind == CREATE)
-        put_step(step, 1, 1, 0);
+        mortarsedge_put_step(step, 1, 1, 0);
     else if (rig->letters > 244 && random_chance(r, 2))
-        put_step(step, 2, 0, 1);
+        mortarsedge_put_step(step, 2, 0, 1);
     else if (rig->letters > 252)
-        put_step(step, 2, 0, lively_letter(r, rig));
+        mortarsedge_put_step(step, 2, 0, lively_letter(r, rig));
     else if (rig->letters > 200 && random_chance(r, 50))
         propose_move(r, rig, step);
     else
         propose_run(r, rig, step);
     if (rig->letters > 0 && random_chance(r, 5))
-        put_step(step, 2, 0, lively_letter(r, rig));
+        mortarsedge_put_step(step, 2, 0, lively_letter(r, rig));
 }
 
 /* Task 1: create 2, set 7, send 3, sync, finish; task 2: receive 3, add 1, finish. */

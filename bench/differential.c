@@ -199,7 +199,8 @@ static void one_trial(struct tally *tally)
     if (mortarsedge_number(answer) == MORTARSEDGE_ACCEPTED) {
         memcpy(trace, library_memory.start, filled);
         compare_short_runs(trace, filled, tally);
-        tally_trace(tally, &trial.g, trace, filled);
+        if (!tally_trace(tally, &trial.g, trace, filled))
+            differ("the trace and its lines as the header takes them differ");
     } else {
         compare_run((size_t)(trial.index % 64), true, tally);
     }

@@ -1,5 +1,6 @@
 #include "generate.h"
 
+#include "../include/mortarsedge.h"
 #include "damage.h"
 #include "make_plan.h"
 #include "make_steps.h"
@@ -21,7 +22,7 @@ static void random_steps(struct random *r, struct generated *g, uint32_t count)
 {
     g->steps_length = 4 * (size_t)count;
     for (uint32_t i = 0; i < count; i++)
-        put_step(g->steps + 4 * i, random_below(r, 5), random_below(r, 6), random_below(r, 4));
+        mortarsedge_put_step(g->steps + 4 * i, random_below(r, 5), random_below(r, 6), random_below(r, 4));
 }
 
 /* Steps led by the plan's rig, or any where it has none. */

@@ -1,13 +1,7 @@
 #include "make_steps.h"
 
+#include "../include/mortarsedge.h"
 #include "draft.h"
-
-void put_step(uint8_t *step, uint32_t kind, uint32_t task, uint32_t number)
-{
-    step[0] = (uint8_t)kind;
-    step[1] = (uint8_t)task;
-    put_u16(step + 2, number);
-}
 
 uint32_t ready_task(struct random *r, const struct sim_rig *rig, bool childless)
 {
@@ -23,7 +17,7 @@ uint32_t ready_task(struct random *r, const struct sim_rig *rig, bool childless)
 static bool led_run(struct random *r, const struct sim_rig *rig, uint8_t *step)
 {
     uint32_t t = ready_task(r, rig, false);
-    put_step(step, 1, t, 0);
+    mortarsedge_put_step(step, 1, t, 0);
     return t != 0;
 }
 
@@ -31,7 +25,7 @@ static bool led_deliver(struct random *r, const struct step_style *style, const 
 {
     if (rig->letters == 0 || rig->letters < style->hoard)
         return false;
-    put_step(step, 2, 0, random_chance(r, style->oldest) ? 1 : random_from(r, 1, rig->letters));
+    mortarsedge_put_step(step, 2, 0, random_chance(r, style->oldest) ? 1 : random_from(r, 1, rig->letters));
     return true;
 }
 
@@ -41,7 +35,7 @@ static bool led_move(struct random *r, const struct sim_rig *rig, uint8_t *step)
     if (t == 0 || rig->desks < 2)
         return false;
     uint32_t e = random_from(r, 1, rig->desks - 1);
-    put_step(step, 3, t, e + (e >= rig->task[t].desk));
+    mortarsedge_put_step(step, 3, t, e + (e >= rig->task[t].desk));
     return true;
 }
 
@@ -49,11 +43,11 @@ static void blind_step(struct random *r, const struct sim_rig *rig, uint32_t kin
 {
     uint32_t task = random_below(r, rig->tasks + 2);
     if (kind == 1)
-        put_step(step, 1, task, 0);
+        mortarsedge_put_step(step, 1, task, 0);
     else if (kind == 2)
-        put_step(step, 2, 0, random_below(r, rig->letters + 3));
+        mortarsedge_put_step(step, 2, 0, random_below(r, rig->letters + 3));
     else
-        put_step(step, 3, task, random_below(r, rig->desks + 2));
+        mortarsedge_put_step(step, 3, task, random_below(r, rig->desks + 2));
 }
 
 /* Malformed, or at least unusual. */
@@ -62,7 +56,7 @@ static void wild_step(struct random *r, const struct sim_rig *rig, uint8_t *step
     uint32_t way = random_below(r, 5);
     blind_step(r, rig, random_from(r, 1, 3), step);
     if (way == 0)
-        put_step(step, random_below(r, 256), random_below(r, 256), random_below(r, 65536));
+        mortarsedge_put_step(step, random_below(r, 256), random_below(r, 256), random_below(r, 65536));
     else if (way == 1)
         step[0] = (uint8_t)random_below(r, 6);
     else if (way == 2)

@@ -13,8 +13,6 @@ struct step_style {
     uint32_t hoard;                    /* no delivery while fewer letters are in the mail */
 };
 
-void put_step(uint8_t *step, uint32_t kind, uint32_t task, uint32_t number);
-
 /* A ready task, from a random one on; 0 if there is none. */
 uint32_t ready_task(struct random *r, const struct sim_rig *rig, bool childless);
 

@@ -2,8 +2,8 @@
 
 #include <inttypes.h>
 #include <stdio.h>
-#include <stdlib.h>
 
+#include "../include/mortarsedge.h"
 #include "sim_rig.h"
 
 static const unsigned run_answers[] = {0, 1, 2, 3, 4, 5, 6, 8};
@@ -30,41 +30,29 @@ static uint32_t longest_mail(const struct generated *g)
     return longest;
 }
 
-/* Reads a decimal and the byte behind it. */
-static unsigned long field(const uint8_t **p)
+static void tally_step(struct tally *t, const struct generated *g, const struct mortarsedge_line *line)
 {
-    unsigned long n = 0;
-    while (**p >= '0' && **p <= '9')
-        n = 10 * n + (unsigned long)(*(*p)++ - '0');
-    (*p)++;
-    return n;
+    t->steps[line->answer]++;
+    t->words += line->received;
+    t->moves += line->answer == 0 && g->steps[4 * (line->step - 1)] == MORTARSEDGE_STEP_MOVE;
 }
 
-static const uint8_t *tally_line(struct tally *t, const struct generated *g, const uint8_t *p)
+bool tally_trace(struct tally *t, const struct generated *g, const uint8_t *trace, size_t length)
 {
-    unsigned long step = field(&p);
-    unsigned long answer = field(&p);
-    t->steps[answer <= 20 ? answer : 9]++;
-    if (answer == 0 && g->steps[4 * (step - 1)] == 3)
-        t->moves++;
-    if (p[-1] == ' ') {
-        field(&p);
-        field(&p);
-        t->words++;
+    struct mortarsedge_line line;
+    size_t at = 0;
+    for (uint32_t step = 1; step <= g->steps_length / 4; step++) {
+        at += mortarsedge_take_line(trace + at, length - at, &line);
+        if (line.kind != MORTARSEDGE_LINE_STEP || line.step != step)
+            return false;
+        tally_step(t, g, &line);
     }
-    return p;
-}
-
-void tally_trace(struct tally *t, const struct generated *g, const uint8_t *trace, size_t length)
-{
-    const uint8_t *p = trace;
-    while (p < trace + length && *p != 'e')
-        p = tally_line(t, g, p);
-    if (trace + length - p >= 5 && p[4] == '1')
-        t->at_rest++;
+    at += mortarsedge_take_line(trace + at, length - at, &line);
+    t->at_rest += line.at_rest;
     uint32_t mail = longest_mail(g);
     if (mail > t->longest_mail)
         t->longest_mail = mail;
+    return line.kind == MORTARSEDGE_LINE_END && at == length;
 }
 
 void tally_print(const struct tally *t)

@@ -18,8 +18,9 @@ struct tally {
     uint32_t longest_mail;
 };
 
-/* Counts an accepted run by its trace. */
-void tally_trace(struct tally *t, const struct generated *g, const uint8_t *trace, size_t length);
+/* Counts an accepted run by its trace; false if the header's function does not
+ * take each line apart, the steps' in order and the last. */
+bool tally_trace(struct tally *t, const struct generated *g, const uint8_t *trace, size_t length);
 
 void tally_print(const struct tally *t);
 
