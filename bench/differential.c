@@ -200,7 +200,7 @@ static void one_trial(struct tally *tally)
         memcpy(trace, library_memory.start, filled);
         compare_short_runs(trace, filled, tally);
         if (!tally_trace(tally, &trial.g, trace, filled))
-            differ("the trace and its lines as the header takes them differ");
+            differ("the trace and what a driver reads in it differ");
     } else {
         compare_run((size_t)(trial.index % 64), true, tally);
     }
@@ -246,7 +246,7 @@ int main(int argc, char **argv)
     }
     tally_print(&tally);
     if (count >= FULL_COUNT && !tally_is_full(&tally)) {
-        fprintf(stderr, "differential: an answer, words, moves, rest or a full mail were never reached\n");
+        fprintf(stderr, "differential: an answer, words, moves, rest, an end or a full mail were never reached\n");
         return 1;
     }
     return 0;

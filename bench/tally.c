@@ -15,44 +15,73 @@ enum {
     STEP_ANSWERS = sizeof step_answers / sizeof step_answers[0]
 };
 
-static uint32_t longest_mail(const struct generated *g)
+/* The same run in the simulator: the longest mail, and the rig then. */
+static uint32_t longest_mail(const struct generated *g, struct sim_rig *rig)
 {
-    struct sim_rig rig;
     struct sim_received received;
     uint32_t longest = 0;
-    if (sim_start(&rig, g->desks, g->plan, g->plan_length) != 0)
-        return 0;
+    sim_start(rig, g->desks, g->plan, g->plan_length);
     for (size_t i = 0; i + 4 <= g->steps_length; i += 4) {
-        sim_step(&rig, g->steps + i, &received);
-        if (rig.letters > longest)
-            longest = rig.letters;
+        sim_step(rig, g->steps + i, &received);
+        if (rig->letters > longest)
+            longest = rig->letters;
     }
     return longest;
 }
 
-static void tally_step(struct tally *t, const struct generated *g, const struct mortarsedge_line *line)
+/* Whether every task that was born is done. */
+static bool has_finished(const struct sim_rig *rig)
+{
+    for (uint32_t t = 1; t <= rig->tasks; t++)
+        if (rig->task[t].state != UNBORN && rig->task[t].state != DONE)
+            return false;
+    return true;
+}
+
+/* What a trace tells with the plan and the steps beside it. */
+struct count {
+    uint32_t runs;       /* accepted runs, */
+    uint32_t first_runs; /* and those of task 1 */
+};
+
+static void tally_step(struct tally *t, const uint8_t *step, const struct mortarsedge_line *line, struct count *count)
 {
     t->steps[line->answer]++;
     t->words += line->received;
-    t->moves += line->answer == 0 && g->steps[4 * (line->step - 1)] == MORTARSEDGE_STEP_MOVE;
+    if (line->answer != MORTARSEDGE_ACCEPTED)
+        return;
+    t->moves += step[0] == MORTARSEDGE_STEP_MOVE;
+    count->runs += step[0] == MORTARSEDGE_STEP_RUN;
+    count->first_runs += step[0] == MORTARSEDGE_STEP_RUN && step[1] == 1;
+}
+
+/* The show has finished when task 1 has executed all its instructions, and then
+ * all tasks have: docs/FORMATS.md says why. */
+static bool tally_finish(struct tally *t, const struct generated *g, const struct sim_rig *rig, const struct count *count)
+{
+    bool finished = has_finished(rig);
+    t->finished += finished;
+    return (count->runs == sim_u16(g->plan + 2)) == finished && (count->first_runs == sim_u16(g->plan + 6)) == finished;
 }
 
 bool tally_trace(struct tally *t, const struct generated *g, const uint8_t *trace, size_t length)
 {
+    static struct sim_rig rig;
     struct mortarsedge_line line;
+    struct count count = {0, 0};
     size_t at = 0;
     for (uint32_t step = 1; step <= g->steps_length / 4; step++) {
         at += mortarsedge_take_line(trace + at, length - at, &line);
         if (line.kind != MORTARSEDGE_LINE_STEP || line.step != step)
             return false;
-        tally_step(t, g, &line);
+        tally_step(t, g->steps + 4 * (step - 1), &line, &count);
     }
     at += mortarsedge_take_line(trace + at, length - at, &line);
     t->at_rest += line.at_rest;
-    uint32_t mail = longest_mail(g);
+    uint32_t mail = longest_mail(g, &rig);
     if (mail > t->longest_mail)
         t->longest_mail = mail;
-    return line.kind == MORTARSEDGE_LINE_END && at == length;
+    return line.kind == MORTARSEDGE_LINE_END && at == length && tally_finish(t, g, &rig, &count);
 }
 
 void tally_print(const struct tally *t)
@@ -65,12 +94,13 @@ void tally_print(const struct tally *t)
     for (unsigned i = 0; i < STEP_ANSWERS; i++)
         printf(" %u: %" PRIu64, step_answers[i], t->steps[step_answers[i]]);
     printf("\nwords received %" PRIu64 ", moves accepted %" PRIu64 ", runs at rest %" PRIu64
-           ", longest mail %" PRIu32 "\n", t->words, t->moves, t->at_rest, t->longest_mail);
+           ", finished %" PRIu64 ", longest mail %" PRIu32 "\n", t->words, t->moves, t->at_rest, t->finished, t->longest_mail);
 }
 
 bool tally_is_full(const struct tally *t)
 {
-    bool full = t->short_outputs > 0 && t->words > 0 && t->moves > 0 && t->at_rest > 0 && t->longest_mail == MAX_MAIL;
+    bool full = t->short_outputs > 0 && t->words > 0 && t->moves > 0 && t->at_rest > 0 && t->finished > 0
+        && t->longest_mail == MAX_MAIL;
     for (unsigned i = 0; i < RUN_ANSWERS; i++)
         full = full && t->answers[run_answers[i]] > 0;
     for (unsigned i = 0; i < STEP_ANSWERS; i++)
