@@ -1,6 +1,7 @@
 /* benchmark [SAMPLES]: library and simulator on the same inputs, by turns.
  * benchmark --one CASE library|simulator COUNT: so many calls and no more, for
  * a counter of instructions (instructions.sh).
+ * benchmark --growing: the library on files that grow by one step at a time.
  * benchmark --names: the cases. */
 #define _POSIX_C_SOURCE 200809L
 #include <stdio.h>
@@ -12,7 +13,7 @@
 #include "cases.h"
 #include "simulator.h"
 
-enum { MAX_SAMPLES = 201, SAMPLE_NS = 2000000 };
+enum { MAX_SAMPLES = 201, SAMPLE_NS = 2000000, GROWING_SAMPLES = 21 };
 
 static uint8_t out[MORTARSEDGE_OUTPUT_ENOUGH];
 
@@ -153,6 +154,32 @@ static int one(const char *name, const char *who, const char *count)
     return 0;
 }
 
+/* Nanoseconds for all beginnings of a case's steps, one run each. */
+static double grow(const struct bench_case *c)
+{
+    double start = now();
+    for (size_t length = 4; length <= c->steps_length; length += 4)
+        mortarsedge_run(c->desks, c->plan, c->plan_length, c->steps, length, out, sizeof out);
+    return now() - start;
+}
+
+static int growing(void)
+{
+    static double samples[GROWING_SAMPLES];
+    const struct bench_case *c;
+    printf("microseconds for a file that grows by one step at a time, best and median of %d\n", GROWING_SAMPLES);
+    printf("%-15s %10s %10s %8s\n", "case", "best", "median", "step");
+    for (unsigned i = 0; (c = case_at(i)) != NULL; i++) {
+        if (c->steps_length != MORTARSEDGE_MAX_STEP_FILE)
+            continue;
+        for (unsigned s = 0; s < GROWING_SAMPLES; s++)
+            samples[s] = grow(c);
+        struct result r = summary(samples, GROWING_SAMPLES);
+        printf("%-15s %10.0f %10.0f %8.1f\n", c->name, r.best / 1000, r.median / 1000, r.best / 1000 / MORTARSEDGE_MAX_STEPS);
+    }
+    return 0;
+}
+
 static int names(void)
 {
     const struct bench_case *c;
@@ -165,11 +192,13 @@ int main(int argc, char **argv)
 {
     if (argc == 5 && strcmp(argv[1], "--one") == 0)
         return one(argv[2], argv[3], argv[4]);
+    if (argc == 2 && strcmp(argv[1], "--growing") == 0)
+        return growing();
     if (argc == 2 && strcmp(argv[1], "--names") == 0)
         return names();
     long samples = argc == 2 ? strtol(argv[1], NULL, 10) : 21;
     if (argc > 2 || samples < 1 || samples > MAX_SAMPLES) {
-        fprintf(stderr, "usage: benchmark [SAMPLES] | --names | --one CASE library|simulator COUNT\n");
+        fprintf(stderr, "usage: benchmark [SAMPLES] | --growing | --names | --one CASE library|simulator COUNT\n");
         return 2;
     }
     return compare((unsigned)samples);

@@ -259,24 +259,24 @@ static void worked_run_is_right(void)
 
 /* docs/driver.md, 'A rig that goes on': a step file that grows. */
 struct growing {
-    uint8_t steps[MORTARSEDGE_MAX_STEP_FILE], out[MORTARSEDGE_OUTPUT_ENOUGH];
+    uint8_t steps[MORTARSEDGE_MAX_STEP_FILE + MORTARSEDGE_STEP_BYTES], out[MORTARSEDGE_OUTPUT_ENOUGH];
     size_t length; /* bytes of steps, all accepted */
     size_t read;   /* bytes of their lines */
 };
 
-/* One step more: its line. A step that is refused is left out again. False if the file is full. */
-static bool grow(struct growing *g, uint32_t kind, uint32_t task, uint32_t number, struct mortarsedge_line *line)
+/* One step more: its line. A step that is refused is left out again. The number of the run: 8 if the file is full. */
+static uint32_t grow(struct growing *g, uint32_t kind, uint32_t task, uint32_t number, struct mortarsedge_line *line)
 {
-    if (g->length == sizeof g->steps)
-        return false;
     mortarsedge_put_step(g->steps + g->length, kind, task, number);
     uint64_t answer = mortarsedge_run(2, worked_plan, sizeof worked_plan, g->steps, g->length + 4, g->out, sizeof g->out);
+    if (mortarsedge_number(answer) != MORTARSEDGE_ACCEPTED)
+        return mortarsedge_number(answer);
     size_t taken = mortarsedge_take_line(g->out + g->read, mortarsedge_filled(answer) - g->read, line);
     if (line->answer == MORTARSEDGE_ACCEPTED) {
         g->length += 4;
         g->read += taken;
     }
-    return true;
+    return MORTARSEDGE_ACCEPTED;
 }
 
 /* The worked run step by step, with refused steps between; then the file is filled. */
@@ -285,8 +285,8 @@ static void growing_run_is_right(void)
     static struct growing g;
     struct mortarsedge_line line;
     for (uint32_t i = 0; i < WORKED_STEPS; i++) {
-        expect(grow(&g, DELIVER, 0, 200, &line) && line.answer == MORTARSEDGE_NO_LETTER, "a refused step grows");
-        expect(grow(&g, worked_steps[i][0], worked_steps[i][1], worked_steps[i][2], &line), "a worked step grows");
+        expect(grow(&g, DELIVER, 0, 200, &line) == 0 && line.answer == MORTARSEDGE_NO_LETTER, "a refused step grows");
+        expect(grow(&g, worked_steps[i][0], worked_steps[i][1], worked_steps[i][2], &line) == 0, "a worked step grows");
         expect(line.kind == MORTARSEDGE_LINE_STEP && line.step == i + 1 && line.received == (i == 8), "its line");
         expect(line.answer == (i == 14 ? (uint32_t)MORTARSEDGE_NOT_READY : 0), "its answer");
     }
@@ -294,9 +294,9 @@ static void growing_run_is_right(void)
     memset(&g, 0, sizeof g);
     grow(&g, RUN, 1, 0, &line);
     for (uint32_t i = 1; i < MORTARSEDGE_MAX_STEPS; i++)
-        expect(grow(&g, i % 2 == 1 ? MOVE : DELIVER, i % 2 == 1 ? 2 : 0, i % 4 == 1 ? 2 : 1, &line)
+        expect(grow(&g, i % 2 == 1 ? MOVE : DELIVER, i % 2 == 1 ? 2 : 0, i % 4 == 1 ? 2 : 1, &line) == 0
                    && line.answer == MORTARSEDGE_ACCEPTED, "task 2 goes to and fro");
-    expect(!grow(&g, MOVE, 2, 1, &line), "a full file grows");
+    expect(grow(&g, MOVE, 2, 1, &line) == MORTARSEDGE_BAD_STEP_FILE, "a full file grows");
 }
 
 int main(void)

@@ -187,7 +187,8 @@ enum mortarsedge_line_kind {
     MORTARSEDGE_LINE_END = 2    /* the last line */
 };
 
-/* A line of a trace, taken apart. What does not belong to its kind is 0. */
+/* A line of a trace, taken apart. What does not belong to its kind is 0, which
+ * is also the answer to an accepted step: the kind is to be looked at first. */
 struct mortarsedge_line {
     enum mortarsedge_line_kind kind;
     uint32_t step;    /* of a step's line: the step's number, 1 to 2,000; */
@@ -270,10 +271,10 @@ static inline void mortarsedge_end_line(const uint32_t *fields, size_t count, st
 
 /* Takes the first line of a text apart: length readable bytes, any bytes.
  * Returns how many bytes the line has, its line feed with them, which is where
- * the next line begins; 0 if there is no whole line. The line's kind is
- * MORTARSEDGE_LINE_OTHER where that is so, and for every line that can stand in
- * no trace: numbers are within the ranges above, so that a channel may be used
- * as an index without another test.
+ * the next line begins; 0 if there is no whole line. The line's kind is then
+ * MORTARSEDGE_LINE_OTHER, and so it is of every line that can stand in no trace.
+ * So the numbers of a line are within the ranges above, and a channel may be
+ * used as an index without another test.
  *
  *     for (at = 0; (taken = mortarsedge_take_line(out + at, filled - at, &line)) > 0; at += taken)
  *         if (line.received)
