@@ -1,9 +1,10 @@
 -- Laws of lists that are given by a rule.
 use mathlib.Core.Path.{_≡_, refl, sym, _∙_, ap}
 use mathlib.Core.Bool.{Bool, _&&_}
-use mathlib.Core.List.{List, [], _∷_, _++_, append-assoc}
+use mathlib.Core.List.{List, [], _∷_, _++_, append-assoc, append-nil}
 use mathlib.Core.Logic.{_≢_, by-cases}
 use Prim.Native.Nat.{ℕ, zero, suc, _+_, _<_}
+use native.Mathlib.Nat.{add-zero, add-suc}
 use native.Mathlib.Numerals.{add-one}
 use native.Mathlib.Omega.{arith}
 use native.Mathlib.Decide.{ℕ-discrete}
@@ -50,6 +51,15 @@ module _ {A : Type 0} where
   pub table-same : (n : ℕ) (f g : ℕ → A) → ((i : ℕ) → i < n → f i ≡ g i) → table n f ≡ table n g
   table-same zero f g h = unfold table tableBefore in refl
   table-same (suc n) f g h = rw (table-suc n f, table-suc n g, table-same n f g (λ i q. h i (omega arith)), h n (omega arith)) refl
+
+  -- a table is two tables, one after the other
+  pub table-split : (n k : ℕ) (f g h : ℕ → A) → ((i : ℕ) → i < n → f i ≡ g i) → ((i : ℕ) → i < k → f (n + i) ≡ h i)
+      → table (n + k) f ≡ table n g ++ table k h
+  table-split n zero f g h p q =
+      rw (add-zero n, table-same n f g p) (sym (append-nil (table n g)) ∙ ap (λ (l : List A). table n g ++ l) (unfold table tableBefore in refl))
+  table-split n (suc k) f g h p q =
+      rw (add-suc n k, table-suc (n + k) f, table-split n k f g h p (λ i l. q i (omega arith)), table-suc k h, q k (omega arith))
+      (append-assoc (table n g) (table k h) (h k ∷ []))
 
   -- a list is the table of its elements
   pub as-table : (l : List A) (d : A) → table (length l) (λ i. getD l i d) ≡ l

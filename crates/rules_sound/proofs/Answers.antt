@@ -1,10 +1,10 @@
--- What an accepted run and an accepted move have passed, and which answer a rig that 9 does not refuse never gets.
+-- What an accepted run and an accepted move have passed, and which answers a rig that 9 does not refuse never gets.
 use mathlib.Core.Path.{_≡_, refl, ap}
 use mathlib.Core.Bool.{Bool, true, false, not}
 use mathlib.Core.Logic.{_≢_}
 use Prim.Native.Nat.{ℕ}
 use lib.Dec.{eqb}
-use borrow.Author.Tests.{eqb-false, not-true}
+use borrow.Author.Tests.{eqb-true, eqb-false, not-true}
 use Rattle.base.specs.Choice.{unless, within}
 use Rattle.base.proofs.Choices.{pick-either, unless-not-refused}
 use Rattle.plan.specs.declared.TaskId.{TaskId}
@@ -64,42 +64,74 @@ move-passed r t e h =
     let (f, _) = passed (fits r (moved r t e)) NetworkFull Accepted refl h₆ in
     record { task = i; processor = d; ready = y; elsewhere = not-true _ a; childless = c; count = not-true _ k; fitting = f }
 
--- a rig that 9 does not refuse is not answered by 9: no other test has that answer
-module _ (r : System) where
-  abbrev Other : StepAnswer → Type 0
-  Other a = eqb (stepNumber a) 9 ≡ false
+-- what holds of every answer but 9 and 18
+pub record Answers (P : StepAnswer → Type 0) : Type 0 where
+  pub accepted : P Accepted
+  pub no-task : P NoTask
+  pub not-ready : P NotReady
+  pub finish-with-children : P FinishWithChildren
+  pub network-full : P NetworkFull
+  pub no-message : P NoMessage
+  pub no-processor : P NoProcessor
+  pub already-there : P AlreadyThere
+  pub move-with-children : P MoveWithChildren
+  pub bad-step : P BadStep
 
-  other : (ok : Bool) (a rest : StepAnswer) → Other a → Other rest → Other (unless ok a rest)
-  other true a rest p q = q
-  other false a rest p q = p
+-- holds of the answer of a rig that 9 does not refuse, if it holds of 18 where the task has that count
+module _ (r : System) (P : StepAnswer → Type 0) (all : Answers P) where
+  either : (ok : Bool) (a rest : StepAnswer) → P a → P rest → P (unless ok a rest)
+  either true a rest p q = q
+  either false a rest p q = p
 
-  run-other : (t : TaskId) → Other (runAnswer r t)
+  run-either : (t : TaskId) → P (runAnswer r t)
   unfolding runAnswer
-  run-other t =
-      other (within 1 (r .plan .tasks) (t .0)) NoTask _ refl
-      (other (isIn Ready (taskAt r t)) NotReady _ refl
-      (other (not (finishesEarly r t)) FinishWithChildren _ refl
-      (other (fits r (ran r t)) NetworkFull Accepted refl refl)))
+  run-either t =
+      either (within 1 (r .plan .tasks) (t .0)) NoTask _ (all .no-task)
+      (either (isIn Ready (taskAt r t)) NotReady _ (all .not-ready)
+      (either (not (finishesEarly r t)) FinishWithChildren _ (all .finish-with-children)
+      (either (fits r (ran r t)) NetworkFull Accepted (all .network-full) (all .accepted))))
 
-  deliver-other : (p : ℕ) → Other (deliverAnswer r p)
+  deliver-either : (p : ℕ) → P (deliverAnswer r p)
   unfolding deliverAnswer
-  deliver-other p = other (within 1 (r .network .used) p) NoMessage Accepted refl refl
+  deliver-either p = either (within 1 (r .network .used) p) NoMessage Accepted (all .no-message) (all .accepted)
 
-  move-other : (t : TaskId) (e : ProcessorId) → Other (moveAnswer r t e)
+  move-either : (t : TaskId) (e : ProcessorId) → (taskAt r t .moves ≡ 9999 → P MovesSpent) → P (moveAnswer r t e)
   unfolding moveAnswer
-  move-other t e =
-      other (within 1 (r .plan .tasks) (t .0)) NoTask _ refl
-      (other (within 1 (r .processors) (e .0)) NoProcessor _ refl
-      (other (isIn Ready (taskAt r t)) NotReady _ refl
-      (other (not (isAt e (taskAt r t))) AlreadyThere _ refl
-      (other (isChildless (taskAt r t)) MoveWithChildren _ refl
-      (other (not (eqb (taskAt r t .moves) 9999)) MovesSpent _ refl
-      (other (fits r (moved r t e)) NetworkFull Accepted refl refl))))))
+  move-either t e spent =
+      let rest = either (fits r (moved r t e)) NetworkFull Accepted (all .network-full) (all .accepted) in
+      either (within 1 (r .plan .tasks) (t .0)) NoTask _ (all .no-task)
+      (either (within 1 (r .processors) (e .0)) NoProcessor _ (all .no-processor)
+      (either (isIn Ready (taskAt r t)) NotReady _ (all .not-ready)
+      (either (not (isAt e (taskAt r t))) AlreadyThere _ (all .already-there)
+      (either (isChildless (taskAt r t)) MoveWithChildren _ (all .move-with-children)
+      (count (eqb (taskAt r t .moves) 9999) refl (unless (fits r (moved r t e)) NetworkFull Accepted) rest)))))
+    where
+      count : (b : Bool) → eqb (taskAt r t .moves) 9999 ≡ b → (a : StepAnswer) → P a → P (unless (not b) MovesSpent a)
+      count true f a p = spent (eqb-true (taskAt r t .moves) 9999 f)
+      count false f a p = p
 
-  pub not-bad : (s : Step) → systemOk r ≡ true → stepAnswer r s ≢ BadSystem
+  pub each-answer : (s : Step) → systemOk r ≡ true → (taskAt r (taskId (s .task)) .moves ≡ 9999 → P MovesSpent) → P (stepAnswer r s)
   unfolding stepAnswer ruledAnswer kindAnswer
-  not-bad s h e =
-      let rule =
-      pick-either Other (isRun s) _ _ (run-other (taskId (s .task)))
-      (pick-either Other (isDeliver s) _ _ (deliver-other (s .number)) (move-other (taskId (s .task)) (processorId (s .number)))) in
-      eqb-false (stepNumber (stepAnswer r s)) 9 (rw h (other (wellFormed s) BadStep _ refl rule)) (ap stepNumber e)
+  each-answer s h spent =
+      rw h
+      (either (wellFormed s) BadStep _ (all .bad-step)
+      (pick-either P (isRun s) _ _ (run-either (taskId (s .task)))
+      (pick-either P (isDeliver s) _ _ (deliver-either (s .number)) (move-either (taskId (s .task)) (processorId (s .number)) spent))))
+
+-- it is not answered by 9, and by 18 only where the task has that count
+module _ (r : System) (s : Step) (ok : systemOk r ≡ true) where
+  -- an answer with a number other than n
+  abbrev Other : ℕ → StepAnswer → Type 0
+  Other n a = eqb (stepNumber a) n ≡ false
+
+  pub not-bad : stepAnswer r s ≢ BadSystem
+  not-bad e = eqb-false (stepNumber (stepAnswer r s)) 9 (each-answer r (Other 9) others s ok (λ m. refl)) (ap stepNumber e)
+    where
+      others : Answers (Other 9)
+      others = search
+
+  pub not-spent : taskAt r (taskId (s .task)) .moves ≢ 9999 → stepAnswer r s ≢ MovesSpent
+  not-spent few e = eqb-false (stepNumber (stepAnswer r s)) 18 (each-answer r (Other 18) others s ok (λ m. absurd (few m))) (ap stepNumber e)
+    where
+      others : Answers (Other 18)
+      others = search

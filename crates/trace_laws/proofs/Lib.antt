@@ -1,4 +1,4 @@
--- How long a trace is: decimals and lines; the words of a run have 16 bits; the bound.
+-- How long a trace is: decimals and lines; the words of a run have 16 bits; the bound. A step file that grows, and refused steps left out.
 pub mod Decimals
 pub mod Texts
 pub mod Lengths
@@ -9,3 +9,5 @@ mod Runs
 mod Deliveries
 mod Steps
 pub mod Bound
+pub mod Growing
+pub mod GrowingExample

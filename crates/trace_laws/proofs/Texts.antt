@@ -33,9 +33,19 @@ module _ (l : List ℕ) (ms : List (List ℕ)) where
   unfolding text
   text-too-long room ls h = rw (text-append ls (l ∷ ms)) (omega (arith, length-append (text ls) (l ++ text ms), length-append l (text ms)))
 
--- the line of the step after the first ones
+-- the lines of reports behind others, and of one report behind others
+pub step-lines-append : (k : ℕ) (ps qs : List Report) → stepLines k (ps ++ qs) ≡ stepLines k ps ++ stepLines (k + length ps) qs
+unfolding stepLines
+step-lines-append k [] qs = rw (add-zero k) refl
+step-lines-append k (p ∷ ps) qs = rw (step-lines-append (suc k) ps qs, suc-add k (length ps), ← add-suc k (length ps)) refl
+
 pub step-lines-more : (k : ℕ) (qs : List Report) (q : Report)
     → stepLines k (qs ++ (q ∷ [])) ≡ stepLines k qs ++ (stepLine (suc (k + length qs)) q ∷ [])
 unfolding stepLines
-step-lines-more k [] q = rw (add-zero k) refl
-step-lines-more k (p ∷ qs) q = rw (step-lines-more (suc k) qs q, suc-add k (length qs), ← add-suc k (length qs)) refl
+step-lines-more k qs q = step-lines-append k qs (q ∷ [])
+
+-- a line a report
+pub length-lines : (k : ℕ) (qs : List Report) → length (stepLines k qs) ≡ length qs
+unfolding stepLines
+length-lines k [] = refl
+length-lines k (q ∷ qs) = ap suc (length-lines (suc k) qs)
