@@ -1,17 +1,14 @@
 -- Demand 3 holds of every accepted plan, on 1 to 6 desks, with every list of steps.
 use mathlib.Core.Path.{_≡_, refl, sym, ap, subst, _∙_}
-use mathlib.Core.Logic.{_≢_}
 use mathlib.Core.Bool.{true, false, not}
 use mathlib.Core.List.{List, [], _∷_, _++_, append-nil}
-use Prim.Native.Nat.{ℕ, _+_, _-_, _*_, _≤_}
+use Prim.Native.Nat.{ℕ, _+_, _*_, _≤_}
 use native.Mathlib.Omega.{arith}
-use lib.Dec.{eqb}
 use lib.ListN.{length}
-use borrow.Author.Tests.{ne-eqb}
 use Rattle.base.specs.Choice.{within}
 use Rattle.base.specs.Lists.{every}
 use Rattle.base.specs.Beginnings.{Beginning}
-use Rattle.base.proofs.Tests.{and-both, is-false, tests-differ}
+use Rattle.base.proofs.Tests.{is-false, tests-differ}
 use Rattle.base.proofs.Beginnings.{beginning-trans}
 use Rattle.machine.specs.Machines.{Normal}
 use Rattle.plan.specs.declared.PlanAnswer.the-variants.{Accepted as PlanAccepted}
@@ -26,22 +23,19 @@ use Rattle.plan.specs.Refusals.{planAnswer}
 use Rattle.plan.proofs.Parts.{tasks-of}
 use Rattle.plan_laws.proofs.Answers.{and-parts}
 use Rattle.rules.specs.declared.step.Step.{Step}
-use Rattle.rules.specs.declared.step.StepAnswer.the-variants.{Accepted, BadSystem, NoTask, NotReady, FinishWithChildren, NetworkFull, NoMessage}
-use Rattle.rules.specs.declared.step.StepAnswer.the-variants.{NoProcessor, AlreadyThere, MoveWithChildren, MovesSpent, BadStep}
-use Rattle.rules.specs.declared.step.StepAnswer.{StepAnswer}
 use Rattle.rules.specs.declared.message.Message.{Message}
 use Rattle.rules.specs.declared.system.System.{System}
-use Rattle.rules.specs.Answers.{isAccepted, stepNumber}
+use Rattle.rules.specs.Answers.{isAccepted}
 use Rattle.rules.specs.Tasks.{isChildless}
 use Rattle.rules.specs.Places.{nextIn}
 use Rattle.rules.specs.Systems.{taskAt}
 use Rattle.rules.specs.Starts.{started}
-use Rattle.rules.specs.Steps.{isRun, isDeliver, isMove, stepAnswer, step, stepsBy, steps, quiescent, receivedOn}
+use Rattle.rules.specs.Steps.{isRun, isDeliver, isMove, stepAnswer, stepsBy, steps, quiescent, receivedOn}
 use Rattle.rules_laws.proofs.Letters.{length-letters}
 use Rattle.rules_laws.proofs.Steps.{accepted-is, step-answer, step-passed}
 use Rattle.rules_laws.proofs.StepKinds.{answer-deliver, deliver-passed}
 use Rattle.rules_laws.proofs.Sound.{letters-fit}
-use Rattle.rules_sound.proofs.Answers.{not-bad}
+use Rattle.rules_sound.proofs.Answers.{number-not-9}
 use Rattle.net.specs.States.{Net}
 use Rattle.net.specs.Nets.{net}
 use Rattle.net.proofs.Meaning.{passed-beginning, same-end}
@@ -64,31 +58,11 @@ module _ (p : Plan) (a : planAnswer (programs p) ≡ PlanAccepted) where
   m = programs p
 
   -- (a) no step of a list is answered 9, and no letter is removed without effect
-  not-nine : (n : ℕ) → n ≢ 9 → not (eqb n 9) ≡ true
-  not-nine n ne = rw (ne-eqb n 9 ne) refl
-
-  -- the answer of number 9
-  nine-is : (b : StepAnswer) → stepNumber b ≡ 9 → b ≡ BadSystem
-  nine-is BadSystem e = refl
-  nine-is Accepted e = absurd (omega arith)
-  nine-is NoTask e = absurd (omega arith)
-  nine-is NotReady e = absurd (omega arith)
-  nine-is FinishWithChildren e = absurd (omega arith)
-  nine-is NetworkFull e = absurd (omega arith)
-  nine-is NoMessage e = absurd (omega arith)
-  nine-is NoProcessor e = absurd (omega arith)
-  nine-is AlreadyThere e = absurd (omega arith)
-  nine-is MoveWithChildren e = absurd (omega arith)
-  nine-is MovesSpent e = absurd (omega arith)
-  nine-is BadStep e = absurd (omega arith)
-
   no-nine : {r : System} {w : ChannelId → List Word} → Kept p r w → (ss : List Step) → every (λ q. not (answeredNine q)) (steps r ss .reports) ≡ true
   unfolding stepsBy every
   no-nine {r} k [] = refl
   no-nine {r} k (s ∷ ss) =
-      let other : not (eqb (stepNumber (step r s .report .answer)) 9) ≡ true =
-      not-nine (stepNumber (step r s .report .answer)) (λ e. not-bad r s (k .ok) (sym (step-answer r s) ∙ nine-is (step r s .report .answer) e)) in
-      and-both (not (eqb (stepNumber (step r s .report .answer)) 9)) _ other (no-nine (kept-step p a k s) ss)
+      rw (step-answer r s, number-not-9 r s (k .ok)) (no-nine (kept-step p a k s) ss)
 
   -- a delivery that is accepted finds what its letter supposes
   found : {r : System} {w : ChannelId → List Word} → Kept p r w → (s : Step) → wastes r s ≡ false

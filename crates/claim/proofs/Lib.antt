@@ -9,4 +9,5 @@ pub mod Finds
 pub mod Demand3
 pub mod Files
 pub mod Corollaries
+pub mod Moves
 pub mod OneLetter

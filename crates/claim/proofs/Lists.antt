@@ -30,7 +30,7 @@ either true f g = f refl
 either false f g = g refl
 
 -- a step is refused, or accepted
-step-either : {C : Type 0} (r : System) (s : Step) → (isAccepted (stepAnswer r s) ≡ false → C) → (stepAnswer r s ≡ Accepted → C) → C
+pub step-either : {C : Type 0} (r : System) (s : Step) → (isAccepted (stepAnswer r s) ≡ false → C) → (stepAnswer r s ≡ Accepted → C) → C
 step-either r s refusal acceptance =
     either (isAccepted (stepAnswer r s)) (λ e. acceptance (accepted-is (stepAnswer r s) e)) refusal
 
@@ -39,7 +39,7 @@ module _ (r : System) (s : Step) where
   stays : isAccepted (stepAnswer r s) ≡ false → step r s ≡ refused r (stepAnswer r s)
   stays e = step-refused r s (stepAnswer r s) refl e
 
-  left : isAccepted (stepAnswer r s) ≡ false → step r s .system ≡ r
+  pub left : isAccepted (stepAnswer r s) ≡ false → step r s .system ≡ r
   left e = ap (λ (o : Stepped). o .system) (stays e)
 
   module _ (test : Step → Bool) (ss : List Step) where

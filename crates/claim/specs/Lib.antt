@@ -1,3 +1,4 @@
--- Demand 3: the statement, and a corollary.
+-- Demand 3: the statement, what else holds of moves, and what a corollary is stated with.
 pub mod Statement
+pub mod Moves
 pub mod Corollaries

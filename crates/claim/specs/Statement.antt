@@ -92,27 +92,47 @@ pub record SameTask (r q : System) (t : TaskId) : Type 0 where
   pub place : taskAt r t .pc ≡ taskAt q t .pc
   pub word : taskAt r t .word ≡ taskAt q t .word
 
--- what is claimed of plan p on n desks and the list ss, of any length and with any steps, "malformed ones too"
+-- Demand 3 in its own words, clause by clause, with what renders each.
+--
+-- "Take any accepted plan and every list of run, deliver and move steps, refused ones included, from its start on a rig of one to six desks, where
+-- tasks move at will.": p, ss and n of `Claim`, with its three premises. The list is "of any length and may hold any step, malformed ones too"; `from`
+-- starts it at the start of the plan.
+--
+-- (a) "Every step is answered and done as the paper's rules say": `from` goes by `step` of `rules`, which is those rules. `no-nine` adds that the
+-- rig is never one that 9 refuses, and `none-wasted` that no letter is "removed without effect": "no run from the start of an accepted plan meets
+-- this, and that is shown".
+--
+-- (b) "and after the list each channel's received words are a beginning of those on a one-desk rig where nothing moves, started from the same plan
+-- and brought to rest by the paper's meaning, in whatever order.": `beginning`, for each list ts that brings the rig of one desk to rest; `one-desk`,
+-- that there is such a list. That nothing moves there is no premise: on one desk no move is accepted (`NothingMoves` of Moves).
+--
+-- (c) "If the moving rig is at rest too, both share every channel's list of received words and every task's state, place and word.": `same-words`
+-- and `same-tasks`.
+--
+-- (d) "From the end of any such list on, at rest or not, if no more moves are accepted, every list of further steps has at most 10 × (instructions
+-- not yet executed + letters under way) accepted ones, both counted at that moment,": `few-steps`, for each list us of further steps; `few-runs`, that
+-- no more than N runs are accepted, so that the difference in `notExecuted` cuts nothing off.
+--
+-- (e) "and the rig is at rest exactly when no run and no delivery would be accepted.": `rest-refuses` and `refuses-rest`, of every run and delivery
+-- step, whatever its task number, position or unused field.
 pub record Demand3 (n : ℕ) (p : Plan) (ss : List Step) : Type 0 where
-  -- (a) no step is answered 9, and no letter is removed without effect
+  -- (a)
   pub no-nine : every (λ q. not (answeredNine q)) (from n p ss .reports) ≡ true
   pub none-wasted : noneWasted (started n p) ss ≡ true
-  -- (b) each channel's received words, "just as the steps' trace lines report", are a beginning of those of the one-desk rig of the same plan
-  -- after any list that brings it to rest; and there is such a list
+  -- (b) the words "just as the steps' trace lines report" them
   pub beginning : (ts : List Step) → Rests p ts → (c : ChannelId)
       → Beginning (receivedOn c (from n p ss .reports)) (receivedOn c (from 1 p ts .reports))
   pub one-desk : ComesToRest p
-  -- (c) at rest every channel's list and every task's state, place and word agree with the one-desk rig's
+  -- (c)
   pub same-words : quiescent (from n p ss .system) ≡ true → (ts : List Step) → Rests p ts → (c : ChannelId)
       → receivedOn c (from n p ss .reports) ≡ receivedOn c (from 1 p ts .reports)
   pub same-tasks : quiescent (from n p ss .system) ≡ true → (ts : List Step) → Rests p ts → (t : TaskId) → within 1 (p .tasks) (t .0) ≡ true
       → SameTask (from n p ss .system) (from 1 p ts .system) t
-  -- (d) from there on a list in which no move is accepted has at most 10 × (instructions not yet executed + letters under way) accepted steps;
-  -- the accepted runs are at most N, so that the difference cuts nothing off
+  -- (d)
   pub few-runs : acceptedOf isRun (started n p) ss ≤ totalOf (programs p)
   pub few-steps : (us : List Step) → acceptedOf isMove (from n p ss .system) us ≡ 0
       → acceptedOf anyStep (from n p ss .system) us ≤ 10 * (notExecuted n p ss + underWay n p ss)
-  -- (e) the rig is at rest exactly when no run and no delivery would be accepted, for every task number and every position
+  -- (e)
   pub rest-refuses : quiescent (from n p ss .system) ≡ true → (s : Step) → (isRun s || isDeliver s) ≡ true
       → isAccepted (stepAnswer (from n p ss .system) s) ≡ false
   pub refuses-rest : ((s : Step) → (isRun s || isDeliver s) ≡ true → isAccepted (stepAnswer (from n p ss .system) s) ≡ false)

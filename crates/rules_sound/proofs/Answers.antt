@@ -121,17 +121,20 @@ module _ (r : System) (P : StepAnswer → Type 0) (all : Answers P) where
 -- it is not answered by 9, and by 18 only where the task has that count
 module _ (r : System) (s : Step) (ok : systemOk r ≡ true) where
   -- an answer with a number other than n
-  abbrev Other : ℕ → StepAnswer → Type 0
+  abbrev pub Other : ℕ → StepAnswer → Type 0
   Other n a = eqb (stepNumber a) n ≡ false
 
-  pub not-bad : stepAnswer r s ≢ BadSystem
-  not-bad e = eqb-false (stepNumber (stepAnswer r s)) 9 (each-answer r (Other 9) others s ok (λ m. refl)) (ap stepNumber e)
+  pub number-not-9 : Other 9 (stepAnswer r s)
+  number-not-9 = each-answer r (Other 9) others s ok (λ m. refl)
     where
       others : Answers (Other 9)
       others = search
 
-  pub not-spent : taskAt r (taskId (s .task)) .moves ≢ 9999 → stepAnswer r s ≢ MovesSpent
-  not-spent few e = eqb-false (stepNumber (stepAnswer r s)) 18 (each-answer r (Other 18) others s ok (λ m. absurd (few m))) (ap stepNumber e)
+  pub number-not-18 : taskAt r (taskId (s .task)) .moves ≢ 9999 → Other 18 (stepAnswer r s)
+  number-not-18 few = each-answer r (Other 18) others s ok (λ m. absurd (few m))
     where
       others : Answers (Other 18)
       others = search
+
+  pub not-bad : stepAnswer r s ≢ BadSystem
+  not-bad e = eqb-false (stepNumber (stepAnswer r s)) 9 number-not-9 (ap stepNumber e)

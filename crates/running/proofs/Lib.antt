@@ -5,6 +5,8 @@ pub mod TaskLetters
 pub mod ChannelFalls
 pub mod TaskFalls
 pub mod Falls
+-- how often a task has moved
+pub mod Counts
 -- what holds of channels and of families is kept
 pub mod ViewsKept
 pub mod FamilyParts

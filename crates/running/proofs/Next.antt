@@ -47,6 +47,7 @@ use Rattle.acts.proofs.MoveActs.{move-act, move-received}
 use Rattle.acts.proofs.Dispatch.{run-act, deliver-act}
 use Rattle.running.specs.Weights.{weightOf}
 use Rattle.running.proofs.Falls.{run-less, deliver-less, move-work}
+use Rattle.running.proofs.Counts.{CountsRise, counts-run, counts-deliver, counts-move}
 use Rattle.running.proofs.ViewsKept.{views-run, views-deliver, views-move, root-run, root-deliver, root-move}
 use Rattle.running.proofs.FamilyParts.{Families}
 use Rattle.running.proofs.Families.{families-run, families-deliver, families-move}
@@ -64,11 +65,12 @@ pub record Kept (p : Plan) (r : System) (received : ChannelId → List Word) : T
   pub reached : Reached (programs p) labels state
   pub running : Running (programs p) histories state (reading r) received
 
--- the rig after an accepted step; a run executes one instruction, and without a move the measure falls
+-- the rig after an accepted step; a run executes one instruction, without a move the measure falls, and a move adds one to one task's count
 pub record Next (p : Plan) {r : System} {w : ChannelId → List Word} (k : Kept p r w) (q : System) (got : Received) (runs moves : Bool) : Type 0 where
   pub kept : Kept p q (λ c. w c ++ wordOn c got)
   pub work : unexecuted (programs p) (reading r .tasks) ≡ flag runs + unexecuted (programs p) (reading q .tasks)
   pub falls : moves ≡ false → weightOf (programs p) (kept .histories) (reading q) < weightOf (programs p) (k .histories) (reading r)
+  pub counts : CountsRise (reading r .tasks) (reading q .tasks) (flag moves)
 
 few : (q : System) → Shaped q → systemOk q ≡ true → reading q .processors ≤ 6
 unfolding reading
@@ -129,6 +131,7 @@ module _ (p : Plan) (a : planAnswer (programs p) ≡ PlanAccepted) {r : System} 
               (follows-run m a (k .reached) (k .running) act);
           work = less .work;
           falls = λ e. less .weight;
+          counts = counts-run m act;
         }
 
     after-deliver : {got : Received} → DeliverAct m (k .histories) (reading r) (reading q) got → Next p k q got false false
@@ -142,6 +145,7 @@ module _ (p : Plan) (a : planAnswer (programs p) ≡ PlanAccepted) {r : System} 
               (root-deliver m (k .running) act) (follows-deliver m a (k .reached) (k .running) act);
           work = less .work;
           falls = λ e. less .weight;
+          counts = counts-deliver m act;
         }
 
     after-move : (h : Histories) → MoveAct m (k .histories) h (reading r) (reading q) → Next p k q Nothing false true
@@ -154,6 +158,7 @@ module _ (p : Plan) (a : planAnswer (programs p) ≡ PlanAccepted) {r : System} 
               (follows-move m a (k .reached) (k .running) act));
           work = omega (arith, move-work m (k .running) act);
           falls = λ e. absurd (tests-differ refl e);
+          counts = counts-move m act;
         }
 
   module _ (s : Step) (yes : stepAnswer r s ≡ Accepted) where
