@@ -6,12 +6,12 @@ use Prim.Native.Nat.{_≤_}
 use native.Mathlib.Omega.{arith}
 use Rattle.plan.specs.declared.Plan.{Plan}
 use Rattle.plan.specs.declared.PlanAnswer.the-variants.{Accepted}
-use Rattle.plan.specs.Edges.{worked}
+use Rattle.plan.proofs.Edges.{worked}
 use Rattle.plan.specs.Files.{filePrograms}
 use Rattle.plan.specs.Programs.{programs, canonical}
 use Rattle.plan.specs.Refusals.{planAnswer}
 use Rattle.rules.specs.declared.step.Step.{Step}
-use Rattle.rules.specs.Scripts.{run, move}
+use Rattle.rules.proofs.Scripts.{run, move}
 use Rattle.rules.specs.Steps.{isMove}
 use Rattle.rules.proofs.Evaluated.{evaluated}
 use Rattle.claim.specs.Statement.{acceptedOf, anyStep, from, notExecuted, underWay}

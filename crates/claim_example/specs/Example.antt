@@ -6,7 +6,7 @@ use Rattle.plan.specs.declared.ChannelId.{ChannelId}
 use Rattle.plan.specs.Numbers.{channelId}
 use Rattle.plan.specs.Programs.{Programs, canonical}
 use Rattle.rules.specs.declared.step.Step.{Step}
-use Rattle.rules.specs.Scripts.{create, sync, finish, send, receive, set, add, run, deliver, move}
+use Rattle.rules.proofs.Scripts.{create, sync, finish, send, receive, set, add, run, deliver, move}
 
 abbrev pub examplePrograms : Programs
 examplePrograms =

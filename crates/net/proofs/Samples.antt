@@ -8,7 +8,7 @@ use Rattle.plan.specs.Words.{setWord, addWord}
 use Rattle.plan.specs.Users.{users}
 use Rattle.plan.specs.Refusals.{sizesOk, instructionOk, instructionsOk, finishOk, finishesOk, createsOk, channelsOk, structureAnswer, planAnswer}
 use Rattle.plan.specs.Files.{filePrograms}
-use Rattle.plan.specs.WriteEdges.{sameBytes}
+use Rattle.plan.proofs.WriteEdges.{sameBytes}
 use Rattle.net.specs.States.{startNet}
 use Rattle.net.specs.Guards.{programFor, isComplete, isActive, nextOf, standsAt, childrenComplete, isFree, enabled}
 use Rattle.net.specs.Effects.{bornAfter, wordAfter, afterOwn, afterPass, effect}

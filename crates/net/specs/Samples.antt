@@ -16,8 +16,8 @@ use Rattle.plan.specs.Programs.{Programs}
 use Rattle.plan.specs.Answers.{isAccepted}
 use Rattle.plan.specs.Refusals.{planAnswer}
 use Rattle.plan.specs.Files.{filePrograms}
-use Rattle.plan.specs.Edges.{does, worked}
-use Rattle.plan.specs.WriteEdges.{sameBytes}
+use Rattle.plan.proofs.Edges.{does, worked}
+use Rattle.plan.proofs.WriteEdges.{sameBytes}
 use Rattle.net.specs.States.{Net, startNet}
 use Rattle.net.specs.Labels.{Label, own, pass}
 use Rattle.net.specs.Guards.{enabled}

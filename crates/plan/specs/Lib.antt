@@ -9,5 +9,3 @@ pub mod Refusals
 pub mod Layout
 pub mod Files
 pub mod Outcomes
-pub mod Edges
-pub mod WriteEdges

@@ -1,6 +1,6 @@
 -- The definitions that an evaluation opens, under one name.
 use Prim.{Unit, tt}
-use Rattle.plan.specs.WriteEdges.{sameBytes}
+use Rattle.plan.proofs.WriteEdges.{sameBytes}
 use Rattle.base.specs.Lists.{every, everyPair, any, tableBefore, table}
 use Rattle.base.specs.Range.{fold}
 use Rattle.base.specs.Sets.{member, inserted, removed}
@@ -23,10 +23,10 @@ use Rattle.rules.specs.Offers.{offerRule, advertRule}
 use Rattle.rules.specs.Places.{nextIn, lastIn, isOn, sendNumber}
 use Rattle.rules.specs.Receive.{receivePasses, receiveWaits, receiveRule}
 use Rattle.rules.specs.Runs.{ranCreate, ranFinish, ranSend, ranReceive, executed, ran, fits, runAnswer}
-use Rattle.rules.specs.Scripts.{sameBool, linesHold, startOn, historyHolds}
+use Rattle.rules.proofs.Scripts.{sameBool, linesHold, startOn, historyHolds}
 use Rattle.rules.specs.Send.{sendPasses, sendWaits, sendRule}
 use Rattle.rules.specs.Sound.{tablesOk, channelEntriesOk, messageOk, networkOk, unbornOk, bornOk, taskOk, systemOk}
-use Rattle.rules.specs.Sites.{plain}
+use Rattle.rules.proofs.Sites.{plain}
 use Rattle.rules.specs.Starts.{birth, blank, started}
 use Rattle.rules.specs.StepFiles.{fileSteps, startOf, traceLines, text, stepsOk, runFileAnswer, fitting, runFileText, runFileOutput, printed}
 use Rattle.rules.specs.Steps.{wellFormed, kindAnswer, ruledAnswer, stepAnswer, performed, answered, step, ruledStep, quiescent, stepsBy, wordOn, receivedOn}

@@ -10,7 +10,7 @@ use Rattle.rules.specs.Tasks.{taking}
 use Rattle.rules.specs.Cells.{hint, offer, withHint, withHeld, withNoted, withGranted, withAwaiting, withCarried}
 use Rattle.rules.specs.Offers.{kept, offerRule, advertRule}
 use Rattle.rules.specs.Calls.{callRule, dataRule}
-use Rattle.rules.specs.Sites.{desk, one, seven, empty, talker, listener, site}
+use Rattle.rules.proofs.Sites.{desk, one, seven, empty, talker, listener, site}
 use Rattle.rules.proofs.Evaluated.{evaluated}
 
 -- an offer with number 5 at desk 2, sent along a pointer of count 4. It no longer counts and the receiver is here: dropped

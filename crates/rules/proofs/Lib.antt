@@ -1,8 +1,22 @@
--- What is shown of the definitions.
+-- What is shown of the definitions, by computation, and the inputs and outcomes that it is shown of.
+
+-- plans, steps and trace lines written short; whether a script's steps have the lines that it says
+pub mod Scripts
+-- small sites and rigs
+pub mod Sites
+-- both sides of each condition of 9: parts of a rig, each with what is found of it
+pub mod SoundEdges
+-- the definitions that an evaluation opens, under one name
 pub mod Evaluated
+-- each sample of SoundEdges is judged as it says
 pub mod SoundCases
+-- each way of a send and of a receive
 pub mod SendCases
+-- each way of an offer, an advert, a call and a word letter
 pub mod LetterCases
+-- tasks, what is kept of two, births and moves, the mail
 pub mod TaskCases
+-- each refusal of a run, a delivery and a move, in their order where several hold; whole steps
 pub mod StepCases
+-- numbers in a line, lines, and what fits into an output
 pub mod TraceCases

@@ -12,8 +12,8 @@ use Rattle.rules.specs.Cells.{hint, offer, withHint, withHeld, withNoted
 use Rattle.rules.specs.Places.{sendNumber}
 use Rattle.rules.specs.Send.{sendRule, sendWaits}
 use Rattle.rules.specs.Receive.{receiveRule, receiveWaits}
-use Rattle.rules.specs.Scripts.{send, receive, set, finish}
-use Rattle.rules.specs.Sites.{desk, one, seven, empty, talker, listener, site}
+use Rattle.rules.proofs.Scripts.{send, receive, set, finish}
+use Rattle.rules.proofs.Sites.{desk, one, seven, empty, talker, listener, site}
 use Rattle.rules.proofs.Evaluated.{evaluated}
 
 -- the receiver is here and receives: the word passes, and the number called becomes 5

@@ -3,7 +3,7 @@ use mathlib.Core.Path.{_≡_, refl}
 use mathlib.Core.Bool.{true}
 use Rattle.base.specs.Lists.{every}
 use Rattle.rules.specs.Sound.{hintOk, offerOk, messageOk, taskOk, tablesOk, channelEntriesOk, networkOk}
-use Rattle.rules.specs.SoundEdges.{judged, program, hintSamples, offerSamples, messageSamples, taskSamples, tablesSamples, channelsSamples, networkSamples}
+use Rattle.rules.proofs.SoundEdges.{judged, program, hintSamples, offerSamples, messageSamples, taskSamples, tablesSamples, channelsSamples, networkSamples}
 use Rattle.rules.proofs.Evaluated.{evaluated}
 
 all-hints : every (judged (hintOk 2)) hintSamples ≡ true

@@ -4,7 +4,7 @@ use mathlib.Core.Bool.{true, false}
 use mathlib.Core.List.{List, [], _∷_, map}
 use Prim.Native.Nat.{ℕ}
 use Rattle.plan.specs.declared.Refusal.the-variants.{BadFinish}
-use Rattle.plan.specs.Edges.{single}
+use Rattle.plan.proofs.Edges.{single}
 use Rattle.plan.specs.Programs.{canonical}
 use Rattle.plan.specs.Words.{zeroWord, wordOf}
 use Rattle.rules.specs.declared.task.Task.{Task}
@@ -28,9 +28,9 @@ use Rattle.rules.specs.Moves.{moveAnswer}
 use Rattle.rules.specs.Sound.{systemOk}
 use Rattle.rules.specs.Starts.{blank}
 use Rattle.rules.specs.Steps.{wellFormed, stepAnswer, ruledStep, ruledSteps, receivedOn}
-use Rattle.rules.specs.Scripts.{create, sync, finish, send, set, add, raw, run, deliver, move}
-use Rattle.rules.specs.Sites.{desk, one, seven, empty, plain, small, crowded}
-use Rattle.rules.specs.SoundEdges.{program}
+use Rattle.rules.proofs.Scripts.{create, sync, finish, send, set, add, raw, run, deliver, move}
+use Rattle.rules.proofs.Sites.{desk, one, seven, empty, plain, small, crowded}
+use Rattle.rules.proofs.SoundEdges.{program}
 use Rattle.rules.proofs.Evaluated.{evaluated}
 
 -- the paper's numbers, in the order of the types

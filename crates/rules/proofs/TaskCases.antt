@@ -21,10 +21,10 @@ use Rattle.rules.specs.Arrivals.{terminatedRule, takenOver, arrivalRecei
 use Rattle.rules.specs.Moves.{departureSending}
 use Rattle.rules.specs.Steps.{ruledSteps, quiescent}
 use Rattle.rules.specs.StepFiles.{stepsOk}
-use Rattle.rules.specs.Scripts.{create, finish, send, receive, run, deliver, move, startOn}
+use Rattle.rules.proofs.Scripts.{create, finish, send, receive, run, deliver, move, startOn}
 use Rattle.rules.specs.Starts.{blank}
 use Rattle.rules.specs.Deliver.{gotMigration}
-use Rattle.rules.specs.Sites.{desk, one, empty, small, crowded}
+use Rattle.rules.proofs.Sites.{desk, one, empty, small, crowded}
 use Rattle.rules.proofs.Evaluated.{evaluated}
 
 -- "of equals the desk's own stays"; "the larger number is kept, of equals the earlier"

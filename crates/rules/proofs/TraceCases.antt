@@ -3,7 +3,7 @@ use mathlib.Core.Path.{_≡_, refl}
 use mathlib.Core.Bool.{true, false}
 use mathlib.Core.List.{List, [], _∷_, _++_}
 use Prim.Native.Nat.{ℕ}
-use Rattle.plan.specs.Edges.{single}
+use Rattle.plan.proofs.Edges.{single}
 use Rattle.plan.specs.declared.PlanAnswer.the-variants.{Accepted, Refused}
 use Rattle.plan.specs.declared.Refusal.the-variants.{BadFinish}
 use Rattle.rules.specs.declared.rule.Received.the-variants.{Nothing, Word}
@@ -11,8 +11,8 @@ use Rattle.rules.specs.declared.step.StepAnswer.the-variants.{BadStep, A
 use Rattle.rules.specs.declared.step.RunAnswer.the-variants.{Traced, Unstarted, BadSteps, OutputShort}
 use Rattle.rules.specs.Trace.{decimal, stepLine, endLine, stepLines, refusedLine}
 use Rattle.rules.specs.StepFiles.{fileSteps, answerAfter, fitting, writtenAfter, printed}
-use Rattle.rules.specs.Scripts.{raw}
-use Rattle.rules.specs.Sites.{one, seven, small, crowded}
+use Rattle.rules.proofs.Scripts.{raw}
+use Rattle.rules.proofs.Sites.{one, seven, small, crowded}
 use Rattle.rules.proofs.Evaluated.{evaluated}
 
 -- `0`, `100`, `65535`

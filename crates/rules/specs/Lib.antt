@@ -1,5 +1,5 @@
 -- What the paper says of the rig: first what it is made of and how it is read and changed, then start, run, deliver, move, refusal 9, steps,
--- trace and step file; at the end what the cases are written with.
+-- trace and step file.
 pub mod Numbers
 pub mod Answers
 pub mod Tasks
@@ -22,6 +22,3 @@ pub mod Sound
 pub mod Steps
 pub mod Trace
 pub mod StepFiles
-pub mod Scripts
-pub mod SoundEdges
-pub mod Sites

@@ -8,7 +8,7 @@ use lib.Dec.{eqb}
 use borrow.Author.Tests.{eqb-true}
 use Rattle.base.specs.Lists.{every}
 use Rattle.base.proofs.Tests.{every-at, and-left, and-right}
-use Rattle.plan.specs.WriteEdges.{sameBytes}
+use Rattle.plan.proofs.WriteEdges.{sameBytes}
 use Rattle.rules.specs.declared.system.System.{System}
 use Rattle.rules.specs.Answers.{stepNumber}
 use Rattle.rules.specs.Steps.{step}
@@ -16,8 +16,8 @@ use Rattle.rules.specs.StepFiles.{printed}
 use Rattle.rules.specs.Sound.{systemOk}
 use Rattle.rules_edges.specs.Edges.{TextEdge, textEdges, textHolds, bytesOf, OutputEdge, outputEdges, outputHolds, StepEdge, stepEdges, stepHolds, sender, mover, family, spent}
 use Rattle.rules_edges.specs.SystemEdges.{pair, systemSamples}
-use Rattle.rules.specs.SoundEdges.{Sample, judged}
-use Rattle.rules.specs.Sites.{small, crowded}
+use Rattle.rules.proofs.SoundEdges.{Sample, judged}
+use Rattle.rules.proofs.Sites.{small, crowded}
 use Rattle.rules.proofs.Evaluated.{evaluated}
 
 all-texts : every textHolds textEdges ≡ true

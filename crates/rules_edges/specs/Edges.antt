@@ -6,8 +6,8 @@ use lib.Dec.{eqb}
 use lib.ListN.{replicate}
 use Rattle.plan.specs.Programs.{Programs}
 use Rattle.plan.specs.Layout.{layout}
-use Rattle.plan.specs.WriteEdges.{sameBytes}
-use Rattle.plan.specs.Edges.{single, worked}
+use Rattle.plan.proofs.WriteEdges.{sameBytes}
+use Rattle.plan.proofs.Edges.{single, worked}
 use Rattle.rules.specs.declared.step.Step.{Step}
 use Rattle.rules.specs.declared.system.System.{System}
 use Rattle.rules.specs.Numbers.{taskId}
@@ -16,8 +16,8 @@ use Rattle.rules.specs.Tasks.{withMoves}
 use Rattle.rules.specs.Systems.{taskAt, withTask}
 use Rattle.rules.specs.Steps.{step, ruledSteps}
 use Rattle.rules.specs.StepFiles.{printed, runFileAnswer, runFileOutput}
-use Rattle.rules.specs.Scripts.{create, sync, finish, send, receive, set, add, raw, run, deliver, move, startOn}
-use Rattle.rules.specs.Sites.{crowded}
+use Rattle.rules.proofs.Scripts.{create, sync, finish, send, receive, set, add, raw, run, deliver, move, startOn}
+use Rattle.rules.proofs.Sites.{crowded}
 
 -- desks, a plan file, a step file, and what the trace program prints
 pub record TextEdge : Type 0 where

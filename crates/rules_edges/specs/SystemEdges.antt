@@ -11,9 +11,9 @@ use Rattle.rules.specs.Cells.{hint, offer, withHint, withHeld, withNoted, withG
 use Rattle.rules.specs.Networks.{enqueued}
 use Rattle.rules.specs.Systems.{withNetwork, withTask, cellAt, withCell}
 use Rattle.rules.specs.Starts.{blank}
-use Rattle.rules.specs.Scripts.{create, sync, finish, startOn}
-use Rattle.rules.specs.Sites.{small, crowded}
-use Rattle.rules.specs.SoundEdges.{Sample, fine, wrong}
+use Rattle.rules.proofs.Scripts.{create, sync, finish, startOn}
+use Rattle.rules.proofs.Sites.{small, crowded}
+use Rattle.rules.proofs.SoundEdges.{Sample, fine, wrong}
 
 -- two tasks; a cell changed at the last entry; another count of letters; another plan
 unfoldable pub pair : System

@@ -5,7 +5,7 @@ use Prim.Native.Nat.{ℕ, _<_}
 use lib.ListN.{length, getD}
 use Rattle.base.specs.Lists.{every}
 use Rattle.base.proofs.Tests.{every-at}
-use Rattle.rules.specs.Scripts.{Script, scriptHolds}
+use Rattle.rules.proofs.Scripts.{Script, scriptHolds}
 use Rattle.rules.proofs.Evaluated.{evaluated}
 use Rattle.rules_scenes.specs.Scenes.{scenes}
 

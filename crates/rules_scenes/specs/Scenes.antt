@@ -2,7 +2,7 @@
 -- written from the paper apart from these definitions.
 use mathlib.Core.Bool.{true, false}
 use mathlib.Core.List.{List, [], _∷_}
-use Rattle.rules.specs.Scripts.{create, sync, finish, send, receive, set, add, raw, run, deliver, move, ok, word, refuses, Script}
+use Rattle.rules.proofs.Scripts.{create, sync, finish, send, receive, set, add, raw, run, deliver, move, ok, word, refuses, Script}
 
 -- an advert that is noted, and one that finds its receiver; the note no longer counts
 abbrev pub notesAtTwoDesks : Script

@@ -21,7 +21,7 @@ use Rattle.rules.specs.Cells.{unknown, noOffer}
 use Rattle.rules.specs.Networks.{slot, noSlot}
 use Rattle.rules.specs.Systems.{withNetwork, withTask}
 use Rattle.rules.specs.Starts.{blank}
-use Rattle.rules.specs.Scripts.{finish}
+use Rattle.rules.proofs.Scripts.{finish}
 
 abbrev pub desk : ℕ → ProcessorId
 desk n = processorId n

@@ -6,8 +6,8 @@ use lib.Dec.{eqb}
 use Rattle.plan.specs.declared.Instruction.{Instruction}
 use Rattle.plan.specs.Kinds.{opCreate, opSync, opFinish, opSend, opReceive, opSet, opAdd}
 use Rattle.plan.specs.Programs.{Programs, canonical}
-use Rattle.plan.specs.Edges.{does}
-use Rattle.plan.specs.WriteEdges.{sameBytes}
+use Rattle.plan.proofs.Edges.{does}
+use Rattle.plan.proofs.WriteEdges.{sameBytes}
 use Rattle.rules.specs.declared.step.Step.{Step}
 use Rattle.rules.specs.declared.step.Report.{Report}
 use Rattle.rules.specs.declared.system.System.{System}

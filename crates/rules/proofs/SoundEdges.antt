@@ -19,7 +19,7 @@ use Rattle.rules.specs.Numbers.{taskId, processorId, channelId}
 use Rattle.rules.specs.Tasks.{unborn, born, withState, withProcessor, withPc, withWord, withMoves, withChildren}
 use Rattle.rules.specs.Cells.{hint, unknown, offer, noOffer}
 use Rattle.rules.specs.Networks.{slot, noSlot}
-use Rattle.rules.specs.Scripts.{create, finish, send, receive, sameBool}
+use Rattle.rules.proofs.Scripts.{create, finish, send, receive, sameBool}
 
 -- something of a rig, and whether 9 lets it pass
 pub record Sample (A : Type 0) : Type 0 where
