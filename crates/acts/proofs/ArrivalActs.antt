@@ -183,7 +183,7 @@ module _ (r : System) (shaped : Shaped r) (ok : systemOk r ≡ true) (h : Histor
 
   read-arrived : isIn Moving (taskAt r t) ≡ true → 1 ≤ d .0 → d .0 ≤ 6
       → reading (completed (delivered r p)) ≡ arrivedRead (meaning r) t d (p - 1) (reading r)
-  unfolding reading delivered opened gotMigration arrival taskAt
+  unfolding reading delivered opened gotMigration arrival
   read-arrived moving desk few =
       let full = mail-few r shaped ok in
       let e = read-dequeued r shaped p low there full in

@@ -108,7 +108,6 @@ module _ (r : System) (shaped : Shaped r) (ok : systemOk r ≡ true) (h : Histor
       eq-eqb (parent .processor .0) (d .0) (ap (λ (e : ProcessorId). e .0) (child .home living) ∙ sym (child .address (d .0) there))
 
   same : taskAt q v ≡ parent
-  unfolding taskAt
   same = refl
 
   -- so the parent loses the child

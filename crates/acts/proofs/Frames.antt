@@ -132,7 +132,7 @@ nobody r = taskAt-none r
 
 -- another mail
 read-network : (r : System) (k : Network) → reading (withNetwork r k) ≡ withLettersRead (reading r) (letters k)
-unfolding reading taskAt entryOf entryAt channelOf channelAt
+unfolding reading entryOf entryAt channelOf channelAt
 read-network r k = refl
 
 -- letters join the mail

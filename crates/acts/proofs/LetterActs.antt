@@ -24,7 +24,7 @@ use Rattle.rules.specs.declared.rule.Outcome.{Outcome}
 use Rattle.rules.specs.declared.system.System.{System}
 use Rattle.rules.specs.Numbers.{processorOk, channelNumberOk}
 use Rattle.rules.specs.Networks.{letterAt, lettersOf}
-use Rattle.rules.specs.Systems.{taskAt, entryAt, channelAt, meaning}
+use Rattle.rules.specs.Systems.{taskAt, meaning, channelAt, entryAt}
 use Rattle.rules.specs.Effects.{Effect, completed, siteAt, withOutcome}
 use Rattle.rules.specs.Offers.{kept}
 use Rattle.rules.specs.Deliver.{onChannel, opened, delivered}
@@ -157,13 +157,13 @@ module _ (r : System) (shaped : Shaped r) (ok : systemOk r ≡ true) (p : ℕ) (
 
     -- its rule does not see it in the mail, and what the rule leaves is read
     site-rest : siteAt rest s u c d ≡ siteRead (meaning r) (reading r) c (d .0)
-    unfolding siteAt taskAt entryAt channelAt
+    unfolding siteAt entryAt channelAt
     site-rest = site-read r shaped c d cell
 
     read-rest : (o : Outcome) → length (lettersOf (r .processors) (o .posting)) ≤ 1
         → (s .0 ≡ 0 → o .sender ≡ taskAt r s) → (u .0 ≡ 0 → o .receiver ≡ taskAt r u)
         → reading (completed (withOutcome rest s u c d o)) ≡ withLetterRead (meaning r) (reading r) (p - 1) c (d .0) o
-    unfolding taskAt reading
+    unfolding reading
     read-rest o few sn un =
         let used = dequeued-used (r .network) p in
         let posted = lettersOf (r .processors) (o .posting) in

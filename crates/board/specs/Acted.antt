@@ -9,11 +9,10 @@ use Rattle.rules.specs.declared.rule.Posting.the-variants.{Nothing as NoPosting
 use Rattle.rules.specs.declared.rule.Received.the-variants.{Nothing as NoWord}
 use Rattle.rules.specs.declared.step.StepAnswer.{StepAnswer}
 use Rattle.rules.specs.declared.step.StepAnswer.the-variants.{Accepted}
-use Rattle.judge.specs.declared.store.Store.{Store}
-use Rattle.judge.specs.Store.{swept}
+use Rattle.rules.specs.declared.system.Store.{Store}
 use Rattle.judge.specs.declared.change.Verdict.{Verdict}
 use Rattle.judge.specs.declared.change.Verdict.the-variants.{Refused, Accepted as Allowed}
-use Rattle.judge.specs.Fetches.{taskStored, cellPut}
+use Rattle.judge.specs.Effects.{changedTasks, changedStore}
 use Rattle.board.specs.declared.act.Act.{Act}
 use Rattle.board.specs.Lent.{Lent, Whole, tasksOf, storeOf}
 
@@ -38,11 +37,11 @@ actOf (Allowed k) = acceptedAct (k .outcome)
 -- the tasks, and what is kept for channels, then
 abbrev pub tasksAfter : Verdict → List Task → List Task
 tasksAfter (Refused q) ts = ts
-tasksAfter (Allowed k) ts = taskStored (taskStored ts (k .scope .sender) (k .outcome .sender)) (k .scope .receiver) (k .outcome .receiver)
+tasksAfter (Allowed k) ts = changedTasks k ts
 
 abbrev pub storeAfter : List ℕ → List ℕ → Verdict → Store → Store
 storeAfter senders receivers (Refused q) s = s
-storeAfter senders receivers (Allowed k) s = swept senders receivers (k .sweep) (cellPut (k .scope) (k .outcome .cell) s)
+storeAfter senders receivers (Allowed k) s = changedStore senders receivers k s
 
 -- the verdict v was carried out: r is said, and what is lent is `after`
 pub record Acted (senders receivers : List ℕ) (v : Verdict) (before : Lent) (r : Act) (after : Lent) : Type 0 where

@@ -11,11 +11,10 @@ use Rattle.rules.specs.declared.channel.Hint.{Hint}
 use Rattle.rules.specs.declared.channel.Offer.{Offer}
 use Rattle.rules.specs.declared.task.Task.{Task}
 use Rattle.rules.specs.declared.system.Channels.{Channels}
+use Rattle.rules.specs.declared.system.Store.{Store}
 use Rattle.rules.specs.Numbers.{processorId}
 use Rattle.rules.specs.Cells.{hint, offer}
-use Rattle.rules.specs.Systems.{entryIndex}
-use Rattle.judge.specs.declared.store.Store.{Store}
-use Rattle.judge.specs.Store.{store}
+use Rattle.rules.specs.Systems.{entryIndex, store}
 use Rattle.packing.specs.Packed.{low16, byte2, byte3, byte4, byte5, mark6, taskOf}
 
 -- all that is lent to be written, in the order of the parameters

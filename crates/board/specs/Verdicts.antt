@@ -1,14 +1,13 @@
 -- The verdict on a step that delivers no letter.
 use Prim.Native.Nat.{ℕ}
 use mathlib.Core.List.{List}
-use lib.Dec.{eqb}
-use Rattle.base.specs.Choice.{pick, unless}
+use Rattle.base.specs.Choice.{unless}
 use Rattle.rules.specs.declared.task.Task.{Task}
 use Rattle.rules.specs.declared.step.Step.{Step}
 use Rattle.rules.specs.declared.step.StepAnswer.the-variants.{NoMessage, BadStep}
+use Rattle.rules.specs.declared.system.Store.{Store}
 use Rattle.rules.specs.Numbers.{taskId, processorId}
-use Rattle.rules.specs.Steps.{isRun, isDeliver, isMove}
-use Rattle.judge.specs.declared.store.Store.{Store}
+use Rattle.rules.specs.Steps.{byKind, wellFormed}
 use Rattle.judge.specs.declared.change.Verdict.{Verdict}
 use Rattle.judge.specs.declared.change.Verdict.the-variants.{Refused}
 use Rattle.judge.specs.Facts.{Facts}
@@ -17,7 +16,8 @@ use Rattle.judge.specs.MoveVerdicts.{judgedMove}
 
 unfoldable pub stepVerdict : Facts → ℕ → List Task → Store → ℕ → Step → Verdict
 stepVerdict f n ts s used x =
-    pick (isRun x) (unless (eqb (x .number) 0) (Refused BadStep) (judgedRun f n ts s used (taskId (x .task))))
-    (pick (isDeliver x) (unless (eqb (x .task) 0) (Refused BadStep) (Refused NoMessage))
-    (pick (isMove x) (judgedMove (f .tasks) n ts used (taskId (x .task)) (processorId (x .number)))
-    (Refused BadStep)))
+    unless (wellFormed x) (Refused BadStep)
+    (byKind x
+    (judgedRun f n ts s used (taskId (x .task)))
+    (Refused NoMessage)
+    (judgedMove (f .tasks) n ts used (taskId (x .task)) (processorId (x .number))))

@@ -15,7 +15,7 @@ use Rattle.rules.specs.declared.message.Message.the-variants.{Empty, Offered, A
 use Rattle.rules.specs.declared.rule.Site.{Site}
 use Rattle.rules.specs.declared.rule.Posting.the-variants.{Nothing}
 use Rattle.rules.specs.declared.system.System.{System}
-use Rattle.rules.specs.Systems.{withNetwork, taskAt, channelAt, meaning}
+use Rattle.rules.specs.Systems.{withNetwork, meaning, channelAt}
 use Rattle.rules.specs.Effects.{changed, siteAt, withOutcome}
 use Rattle.rules.specs.Calls.{callRule, dataRule}
 use Rattle.rules.specs.Offers.{kept}
@@ -41,19 +41,19 @@ module _ (r : System) (mail : Network) where
         rw (withTask-taskAt q (senderOf (meaning q) c), withTask-taskAt q (receiverOf (meaning q) c), withCell-cellAt q d c) refl
 
     call-unsupposed : (h : Hint) → findsIts r (ReadyToReceive c d h) ≡ false → callRule site c d h ≡ kept site (site .cell) Nothing
-    unfolding findsIts siteAt callRule taskAt channelAt
+    unfolding findsIts siteAt callRule channelAt
     call-unsupposed h e = rw e refl
 
     word-unsupposed : (w : Word) → findsIts r (Data c d w) ≡ false → dataRule site c d w ≡ kept site (site .cell) Nothing
-    unfolding findsIts siteAt dataRule taskAt channelAt
+    unfolding findsIts siteAt dataRule channelAt
     word-unsupposed w e = rw e refl
 
   ended-unsupposed : (d : ProcessorId) (t : TaskId) → findsIts r (Terminated d t) ≡ false → gotTerminated q d t ≡ q
-  unfolding findsIts gotTerminated terminatedRule taskAt
+  unfolding findsIts gotTerminated terminatedRule
   ended-unsupposed d t e = rw e (withTask-taskAt q (parentOf (meaning q) t))
 
   mover-unsupposed : (d : ProcessorId) (t : TaskId) → findsIts r (Migration d t) ≡ false → gotMigration q d t ≡ q
-  unfolding findsIts gotMigration taskAt
+  unfolding findsIts gotMigration
   mover-unsupposed d t e = rw e refl
 
   pub unsupposed : (a : Message) → findsIts r a ≡ false → opened q a ≡ changed q

@@ -5,11 +5,11 @@ use mathlib.Core.List.{List}
 use Prim.Native.Nat.{ℕ, _≤_}
 use Rattle.rules.specs.declared.task.Task.{Task}
 use Rattle.rules.specs.declared.message.Network.{Network}
+use Rattle.rules.specs.declared.system.Store.{Store}
 use Rattle.rules.specs.Networks.{letterAt}
 use Rattle.rules.specs.Sound.{messageOk}
 use Rattle.rules_sound.proofs.Mail.{letter-fine}
 use Rattle.rules_sound.proofs.Sound.{sound}
-use Rattle.judge.specs.declared.store.Store.{Store}
 use Rattle.judge.specs.Facts.{Facts}
 use Rattle.core.specs.Turns.{Rig}
 

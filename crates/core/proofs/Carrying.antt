@@ -8,8 +8,8 @@ use Rattle.rules.specs.declared.system.System.{System}
 use Rattle.rules.specs.Answers.{isAccepted}
 use Rattle.rules.specs.Effects.{Effect, completed}
 use Rattle.rules.specs.Steps.{performed, refused, accepted, answered}
+use Rattle.rules.specs.Systems.{storeIn}
 use Rattle.ends.specs.Derived.{endsOf}
-use Rattle.judge.specs.Store.{storeIn}
 use Rattle.judge.specs.declared.change.Change.{Change}
 use Rattle.judge.specs.declared.change.Verdict.{Verdict}
 use Rattle.judge.specs.declared.change.Verdict.the-variants.{Refused, Accepted as Allowed}

@@ -1,13 +1,12 @@
 -- What a change posts fits, where it can be carried out.
 use mathlib.Core.Path.{_≡_}
-use mathlib.Core.Bool.{true, _&&_}
+use mathlib.Core.Bool.{true}
 use Prim.Native.Nat.{ℕ, _+_, _≤_}
-use lib.Dec.{leb}
 use lib.ListN.{length}
 use borrow.Author.Tests.{leb-true}
 use Rattle.base.proofs.Tests.{and-right}
 use Rattle.rules.specs.Networks.{lettersOf}
-use Rattle.judge.specs.Store.{sweepOk}
+use Rattle.judge.specs.Sweeps.{sweepOk}
 use Rattle.judge.specs.declared.change.Change.{Change}
 use Rattle.judge.specs.Fetches.{scopeOk}
 use Rattle.judge.specs.Feasible.{changeOk}
@@ -15,4 +14,4 @@ use Rattle.judge.specs.Feasible.{changeOk}
 pub change-room : (n used : ℕ) (x : Change) → changeOk n used x ≡ true → used + length (lettersOf n (x .outcome .posting)) ≤ 256
 change-room n used x h =
     let all = used + length (lettersOf n (x .outcome .posting)) in
-    leb-true all 256 (and-right (sweepOk (x .sweep)) _ (and-right (scopeOk (x .scope)) (sweepOk (x .sweep) && leb all 256) h))
+    leb-true all 256 (and-right (sweepOk (x .sweep)) _ (and-right (scopeOk (x .scope)) _ h))

@@ -7,14 +7,14 @@ use Rattle.rules.specs.declared.task.Task.{Task}
 use Rattle.rules.specs.declared.message.Network.{Network}
 use Rattle.rules.specs.declared.step.Step.{Step}
 use Rattle.rules.specs.declared.system.System.{System}
+use Rattle.rules.specs.declared.system.Store.{Store}
 use Rattle.rules.specs.Sound.{systemOk}
 use Rattle.rules.specs.Steps.{ruledStep, quiescent}
+use Rattle.rules.specs.Systems.{storeIn}
 use Rattle.rules_laws.specs.Shapes.{Shaped}
 use Rattle.rules_laws.proofs.Steps.{ruled-step}
 use Rattle.rules_laws.proofs.Shapes.{step-shaped, step-plan, step-processors}
 use Rattle.rules_sound.proofs.Kept.{step-kept}
-use Rattle.judge.specs.declared.store.Store.{Store}
-use Rattle.judge.specs.Store.{storeIn}
 use Rattle.judge.specs.Facts.{Facts, factsOf}
 use Rattle.judge.specs.Rests.{restIn}
 use Rattle.judge.proofs.AtRest.{rest-is}

@@ -1,17 +1,15 @@
 -- One step on the parts of a rig that 9 does not refuse is the step of the rig.
 use mathlib.Core.Path.{_≡_, refl, sym, _∙_, ap}
 use mathlib.Core.Bool.{Bool, true, false}
-use lib.Dec.{eqb}
 use Rattle.base.specs.Choice.{unless, within}
 use Rattle.base.proofs.Choices.{pick-cases}
 use Rattle.base.proofs.Tests.{within-low, within-high}
 use Rattle.rules.specs.declared.step.Step.{Step}
-use Rattle.rules.specs.declared.step.StepAnswer.{StepAnswer}
 use Rattle.rules.specs.declared.step.StepAnswer.the-variants.{Accepted, NoMessage, BadStep}
 use Rattle.rules.specs.declared.system.System.{System}
 use Rattle.rules.specs.Numbers.{taskId, processorId}
 use Rattle.rules.specs.Networks.{letterAt, dequeued}
-use Rattle.rules.specs.Systems.{taskAt, withNetwork}
+use Rattle.rules.specs.Systems.{taskAt, withNetwork, storeIn}
 use Rattle.rules.specs.Effects.{Effect}
 use Rattle.rules.specs.Runs.{nextOf, runAnswer}
 use Rattle.rules.specs.Deliver.{deliverAnswer}
@@ -24,7 +22,6 @@ use Rattle.rules_laws.proofs.StepKinds.{answer-run, performed-run, answer-deliv
 use Rattle.rules_sound.specs.Sound.{Sound}
 use Rattle.rules_sound.proofs.Sound.{sound}
 use Rattle.rules_sound.proofs.Answers.{run-passed}
-use Rattle.judge.specs.Store.{storeIn}
 use Rattle.judge.specs.Facts.{factsOf}
 use Rattle.judge.specs.RunVerdicts.{judgedRun}
 use Rattle.judge.specs.MoveVerdicts.{moveChange, judgedMove}
@@ -38,12 +35,20 @@ use Rattle.core.specs.Turns.{refusedTurn, deliveredTurn, turnOf, partsOf
 use Rattle.core.proofs.Carrying.{carriedIn, settledIn, carried-is, settled-is}
 
 -- a step, by the answer of its kind where 19 does not refuse it
-form-tested : (r : System) (x : Step) (ok : Bool) (a : StepAnswer) (v : Turn) → wellFormed x ≡ ok → kindAnswer r x ≡ a
-    → (ok ≡ true → v ≡ partsOf (answered r x a))
-    → unless ok (refusedTurn BadStep (r .tasks) (r .network) (storeIn r)) v ≡ partsOf (ruledStep r x)
+form-tested : (r : System) (x : Step) (v : Turn) → (wellFormed x ≡ true → v ≡ partsOf (answered r x (kindAnswer r x)))
+    → unless (wellFormed x) (refusedTurn BadStep (r .tasks) (r .network) (storeIn r)) v ≡ partsOf (ruledStep r x)
 unfolding ruledStep ruledAnswer answered
-form-tested r x true a v w e h = rw (w, e) (h refl)
-form-tested r x false a v w e h = rw w refl
+form-tested r x v h = go (wellFormed x) h
+  where
+    go : (ok : Bool) → (ok ≡ true → v ≡ partsOf (answered r x (kindAnswer r x)))
+        → unless ok (refusedTurn BadStep (r .tasks) (r .network) (storeIn r)) v ≡ partsOf (answered r x (unless ok BadStep (kindAnswer r x)))
+    go true k = k refl
+    go false k = refl
+
+-- what is well formed and neither a run nor a delivery is a move
+else-move : (x : Step) → wellFormed x ≡ true → isRun x ≡ false → isDeliver x ≡ false → isMove x ≡ true
+unfolding wellFormed
+else-move x e u d = rw (u, d) at e
 
 module _ (r : System) (z : Shaped r) (f : Sound r) (x : Step) where
   run-turn : isRun x ≡ true
@@ -85,19 +90,19 @@ module _ (r : System) (z : Shaped r) (f : Sound r) (x : Step) where
       go false e = refl
 
   kinds-turn : turnOf (factsOf (r .plan)) (r .processors) (r .tasks) (r .network) (storeIn r) x ≡ partsOf (ruledStep r x)
-  unfolding turnOf wellFormed
+  unfolding turnOf
   kinds-turn =
-      let t = taskId (x .task) in
-      let Is : Turn → Type 0 = λ v. v ≡ partsOf (ruledStep r x) in
+      form-tested r x _
+      (λ e.
+      let Is : Turn → Type 0 = λ v. v ≡ partsOf (answered r x (kindAnswer r x)) in
       pick-cases Is (isRun x) _ _
-      (λ u. form-tested r x (eqb (x .number) 0) (runAnswer r t) _ (rw u refl) (answer-run r x u) (λ e. run-turn u))
+      (λ u. rw (answer-run r x u) (run-turn u))
       (λ u.
       pick-cases Is (isDeliver x) _ _
-      (λ d. form-tested r x (eqb (x .task) 0) (deliverAnswer r (x .number)) _ (rw (u, d) refl) (answer-deliver r x d) (λ e. deliver-turn d))
+      (λ d. rw (answer-deliver r x d) (deliver-turn d))
       (λ d.
-      pick-cases Is (isMove x) _ _
-      (λ m. form-tested r x true (moveAnswer r t (processorId (x .number))) _ (rw (u, d) m) (answer-move r x m) (λ e. move-turn m))
-      (λ m. form-tested r x false (kindAnswer r x) (partsOf (answered r x (kindAnswer r x))) (rw (u, d) m) refl (λ e. refl))))
+      let m = else-move x e u d in
+      rw (answer-move r x m) (move-turn m))))
 
 pub turn-is : (r : System) → Shaped r → systemOk r ≡ true → (x : Step)
     → turnOf (factsOf (r .plan)) (r .processors) (r .tasks) (r .network) (storeIn r) x ≡ partsOf (ruledStep r x)

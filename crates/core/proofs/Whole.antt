@@ -6,10 +6,10 @@ use Rattle.rules.specs.declared.step.Stepped.{Stepped}
 use Rattle.rules.specs.declared.system.System.{System}
 use Rattle.rules.specs.Sound.{systemOk}
 use Rattle.rules.specs.Steps.{step}
+use Rattle.rules.specs.Systems.{storeIn, withTasks, withStore, withNetwork}
 use Rattle.rules_laws.specs.Shapes.{Shaped}
 use Rattle.rules_laws.proofs.Steps.{ruled-step}
 use Rattle.rules_laws.proofs.Shapes.{step-plan, step-processors}
-use Rattle.judge.specs.Store.{storeIn}
 use Rattle.judge.specs.Facts.{factsOf}
 use Rattle.core.specs.declared.turn.Turn.{Turn}
 use Rattle.core.specs.Turns.{turnOf, partsOf}
@@ -17,19 +17,7 @@ use Rattle.core.proofs.Turning.{turn-is}
 
 -- the parts that a step leaves, with the desks and the plan of the rig
 abbrev pub putTogether : System → Turn → Stepped
-putTogether r t =
-    record {
-      report = t .report;
-      system =
-          record {
-            processors = r .processors;
-            plan = r .plan;
-            tasks = t .tasks;
-            tables = t .store .tables;
-            channels = t .store .channels;
-            network = t .network;
-          };
-    }
+putTogether r t = record { report = t .report; system = withNetwork (withStore (withTasks r (t .tasks)) (t .store)) (t .network) }
 
 parts-together : (r : System) (o : Stepped) → o .system .processors ≡ r .processors → o .system .plan ≡ r .plan → putTogether r (partsOf o) ≡ o
 parts-together r o n p = rw (← n, ← p) refl

@@ -2,8 +2,7 @@
 use mathlib.Core.Path.{_≡_}
 use mathlib.Core.List.{List}
 use Prim.Native.Nat.{ℕ}
-use lib.Dec.{eqb}
-use Rattle.base.specs.Choice.{pick, unless, within}
+use Rattle.base.specs.Choice.{unless, within}
 use Rattle.rules.specs.declared.task.Task.{Task}
 use Rattle.rules.specs.declared.message.Network.{Network}
 use Rattle.rules.specs.declared.rule.Received.the-variants.{Nothing}
@@ -12,17 +11,17 @@ use Rattle.rules.specs.declared.step.StepAnswer.{StepAnswer}
 use Rattle.rules.specs.declared.step.StepAnswer.the-variants.{Accepted, NoMessage, BadStep}
 use Rattle.rules.specs.declared.step.Report.{Report}
 use Rattle.rules.specs.declared.step.Stepped.{Stepped}
+use Rattle.rules.specs.declared.system.Store.{Store}
 use Rattle.rules.specs.Numbers.{taskId, processorId}
-use Rattle.rules.specs.Networks.{letterAt, enqueuedAll, dequeued, lettersOf}
-use Rattle.rules.specs.Steps.{isRun, isDeliver, isMove}
-use Rattle.judge.specs.declared.store.Store.{Store}
-use Rattle.judge.specs.Store.{storeIn, swept}
+use Rattle.rules.specs.Networks.{letterAt, dequeued, posted}
+use Rattle.rules.specs.Steps.{byKind, wellFormed}
+use Rattle.rules.specs.Systems.{storeIn}
 use Rattle.core.specs.declared.turn.Turn.{Turn}
 use Rattle.judge.specs.declared.change.Change.{Change}
 use Rattle.judge.specs.declared.change.Verdict.{Verdict}
 use Rattle.judge.specs.declared.change.Verdict.the-variants.{Refused, Accepted as Allowed}
 use Rattle.judge.specs.Facts.{Facts, PartsOf}
-use Rattle.judge.specs.Fetches.{taskStored, cellPut}
+use Rattle.judge.specs.Effects.{changedTasks, changedStore}
 use Rattle.judge.specs.RunVerdicts.{judgedRun}
 use Rattle.judge.specs.MoveVerdicts.{judgedMove}
 use Rattle.judge.specs.Openings.{openedIn}
@@ -41,12 +40,10 @@ refusedTurn a ts k s = turned (reportOf a) ts k s
 -- a change carried out, and its letters posted, on n desks
 unfoldable pub carriedOut : List ℕ → List ℕ → ℕ → Change → List Task → Network → Store → Turn
 carriedOut senders receivers n x ts k s =
-    let a = x .scope in
-    let o = x .outcome in
-    turned (record { answer = Accepted; received = o .received })
-    (taskStored (taskStored ts (a .sender) (o .sender)) (a .receiver) (o .receiver))
-    (enqueuedAll k (lettersOf n (o .posting)))
-    (swept senders receivers (x .sweep) (cellPut a (o .cell) s))
+    turned (record { answer = Accepted; received = x .outcome .received })
+    (changedTasks x ts)
+    (posted n (x .outcome .posting) k)
+    (changedStore senders receivers x s)
 
 abbrev pub settled : List ℕ → List ℕ → ℕ → Verdict → List Task → Network → Store → Turn
 settled senders receivers n (Refused a) ts k s = refusedTurn a ts k s
@@ -60,10 +57,11 @@ deliveredTurn f n ts k s p =
 -- one step
 unfoldable pub turnOf : Facts → ℕ → List Task → Network → Store → Step → Turn
 turnOf f n ts k s x =
-    pick (isRun x) (unless (eqb (x .number) 0) (refusedTurn BadStep ts k s) (settled (f .senders) (f .receivers) n (judgedRun f n ts s (k .used) (taskId (x .task))) ts k s))
-    (pick (isDeliver x) (unless (eqb (x .task) 0) (refusedTurn BadStep ts k s) (deliveredTurn f n ts k s (x .number)))
-    (pick (isMove x) (settled (f .senders) (f .receivers) n (judgedMove (f .tasks) n ts (k .used) (taskId (x .task)) (processorId (x .number))) ts k s)
-    (refusedTurn BadStep ts k s)))
+    unless (wellFormed x) (refusedTurn BadStep ts k s)
+    (byKind x
+    (settled (f .senders) (f .receivers) n (judgedRun f n ts s (k .used) (taskId (x .task))) ts k s)
+    (deliveredTurn f n ts k s (x .number))
+    (settled (f .senders) (f .receivers) n (judgedMove (f .tasks) n ts (k .used) (taskId (x .task)) (processorId (x .number))) ts k s))
 
 -- the parts of what a step of the rig gives
 abbrev pub partsOf : Stepped → Turn

@@ -1,7 +1,7 @@
 // What a step leaves.
-use judge::store::Store;
 use rules::message::Network;
 use rules::step::Report;
+use rules::system::Store;
 use rules::task::Task;
 
 // What a step leaves: its report, and the parts of the rig then.

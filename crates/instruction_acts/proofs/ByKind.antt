@@ -16,10 +16,11 @@ use Rattle.rules.specs.declared.task.Task.{Task}
 use Rattle.rules.specs.Numbers.{taskId}
 use Rattle.rules.specs.Networks.{lettersOf}
 use Rattle.rules.specs.declared.rule.Posting.the-variants.{Nothing as NoPosting}
+use Rattle.rules.specs.declared.system.Store.{Store}
 use Rattle.rules.specs.Local.{syncRule, setRule, addRule}
-use Rattle.judge.specs.declared.store.Store.{Store}
+use Rattle.rules.specs.Systems.{taskIn}
 use Rattle.judge.specs.Facts.{Facts}
-use Rattle.judge.specs.Fetches.{taskIn, siteIn, cellOf}
+use Rattle.judge.specs.Fetches.{siteIn, cellOf}
 use Rattle.judge.specs.Scopes.{runScope}
 use Rattle.judge.specs.RunVerdicts.{ranIn, runChange, fittingIn}
 use Rattle.board.specs.Acted.{actOf, plainAct}

@@ -10,12 +10,12 @@ use Rattle.base.proofs.Tests.{within-low, within-high}
 use Rattle.plan.specs.declared.TaskId.{TaskId}
 use Rattle.rules.specs.declared.task.Task.{Task}
 use Rattle.rules.specs.declared.task.TaskState.the-variants.{Ready}
+use Rattle.rules.specs.declared.system.Store.{Store}
 use Rattle.rules.specs.Numbers.{channelId}
 use Rattle.rules.specs.Tasks.{isIn}
-use Rattle.rules.specs.Systems.{readChannel}
-use Rattle.judge.specs.declared.store.Store.{Store}
+use Rattle.rules.specs.Systems.{readChannel, taskIn}
 use Rattle.judge.specs.Facts.{Facts, PartsOf}
-use Rattle.judge.specs.Fetches.{taskIn, cellOf, siteIn}
+use Rattle.judge.specs.Fetches.{cellOf, siteIn}
 use Rattle.judge.specs.Scopes.{runScope, namedIn}
 use Rattle.judge.specs.RunVerdicts.{runRefusal, judgedRun, ranIn, runChange, sendIn}
 use Rattle.judge.proofs.BoundsParts.{count-few, used-few, place-few, sender-few, receiver-few}

@@ -7,10 +7,11 @@ use Rattle.plan.specs.declared.ProcessorId.{ProcessorId}
 use Rattle.rules.specs.declared.task.Task.{Task}
 use Rattle.rules.specs.declared.rule.Posting.{Posting}
 use Rattle.rules.specs.Numbers.{channelId}
+use Rattle.rules.specs.Systems.{taskStored}
 use Rattle.judge.specs.declared.sweep.Sweep.{Sweep}
 use Rattle.judge.specs.declared.change.Verdict.the-variants.{Accepted}
-use Rattle.judge.specs.Store.{swept}
-use Rattle.judge.specs.Fetches.{taskStored, cellPut}
+use Rattle.judge.specs.Sweeps.{swept}
+use Rattle.judge.specs.Fetches.{cellPut}
 use Rattle.judge.specs.Scopes.{scope}
 use Rattle.judge.specs.RunVerdicts.{change}
 use Rattle.board.specs.declared.act.Act.{Act}

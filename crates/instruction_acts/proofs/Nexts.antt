@@ -12,14 +12,15 @@ use Rattle.rules.specs.declared.task.Task.{Task}
 use Rattle.rules.specs.declared.task.TaskState.the-variants.{Ready}
 use Rattle.rules.specs.declared.step.StepAnswer.{StepAnswer}
 use Rattle.rules.specs.declared.step.StepAnswer.the-variants.{Accepted, NoTask, NotReady, FinishWithChildren}
+use Rattle.rules.specs.declared.system.Store.{Store}
 use Rattle.rules.specs.Answers.{isAccepted}
 use Rattle.rules.specs.Tasks.{isIn, isChildless}
+use Rattle.rules.specs.Systems.{taskIn}
 use Rattle.rules_laws.proofs.Steps.{accepted-is}
-use Rattle.judge.specs.declared.store.Store.{Store}
 use Rattle.judge.specs.declared.change.Verdict.{Verdict}
 use Rattle.judge.specs.declared.change.Verdict.the-variants.{Refused as Denied}
 use Rattle.judge.specs.Facts.{Facts, PartsOf}
-use Rattle.judge.specs.Fetches.{taskIn, instructionIn}
+use Rattle.judge.specs.Fetches.{instructionIn}
 use Rattle.judge.specs.RunVerdicts.{runRefusal, judgedRun, ranIn, fittingIn}
 use Rattle.judge.proofs.Passed.{run-passed}
 use Rattle.judge.proofs.BoundsReady.{nextAt}

@@ -20,9 +20,9 @@ use Rattle.rules.specs.declared.rule.Outcome.{Outcome}
 use Rattle.rules.specs.Numbers.{isNone}
 use Rattle.rules.specs.Tasks.{isAt}
 use Rattle.rules.specs.Cells.{unknown, noOffer, counts, noneCalled, withHint, withHeld}
-use Rattle.rules.specs.Systems.{readChannel}
+use Rattle.rules.specs.Systems.{readChannel, taskIn}
 use Rattle.rules.specs.Receive.{receiveRule, receivePasses, receiveWaits}
-use Rattle.judge.specs.Fetches.{taskIn, lastOf, isOnIn, cellOf, siteIn}
+use Rattle.judge.specs.Fetches.{lastOf, isOnIn, cellOf, siteIn}
 use Rattle.judge.specs.Scopes.{namedIn}
 use Rattle.board.specs.Lent.{lent, tasksOn, channelsOn, storeOf, hintIn, heldIn, noteIn}
 use Rattle.instruction_acts.proofs.Unseen.{atCell, leftCell, receive-unseen}

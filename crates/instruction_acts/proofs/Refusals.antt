@@ -3,9 +3,9 @@ use mathlib.Core.List.{List}
 use Prim.Native.Nat.{ℕ}
 use Rattle.base.proofs.Tests.{within-both}
 use Rattle.rules.specs.declared.task.Task.{Task}
-use Rattle.judge.specs.declared.store.Store.{Store}
+use Rattle.rules.specs.declared.system.Store.{Store}
+use Rattle.rules.specs.Systems.{taskIn}
 use Rattle.judge.specs.Facts.{Facts, PartsOf}
-use Rattle.judge.specs.Fetches.{taskIn}
 use Rattle.judge.proofs.BoundsParts.{count-few}
 use Rattle.judge.proofs.BoundsReady.{place-some, place-last}
 use Rattle.instruction_acts.specs.Refusals.{Placed}

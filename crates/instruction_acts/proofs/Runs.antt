@@ -13,11 +13,11 @@ use Rattle.plan.specs.declared.TaskId.{TaskId}
 use Rattle.plan.specs.declared.Instruction.{Instruction}
 use Rattle.plan.specs.Kinds.{opCreate, opSync, opFinish, opSend, opReceive, opSet}
 use Rattle.rules.specs.declared.task.Task.{Task}
+use Rattle.rules.specs.declared.system.Store.{Store}
 use Rattle.rules.specs.Numbers.{taskId, channelId}
 use Rattle.rules.specs.Local.{syncRule, setRule, addRule}
-use Rattle.judge.specs.declared.store.Store.{Store}
+use Rattle.rules.specs.Systems.{taskIn}
 use Rattle.judge.specs.Facts.{Facts}
-use Rattle.judge.specs.Fetches.{taskIn}
 use Rattle.judge.specs.Scopes.{argumentOk}
 use Rattle.judge.specs.RunVerdicts.{judgedRun}
 use Rattle.judge.proofs.BoundsParts.{count-few, used-few, parent-few}

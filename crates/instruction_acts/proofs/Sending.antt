@@ -20,9 +20,9 @@ use Rattle.rules.specs.declared.rule.Outcome.{Outcome}
 use Rattle.rules.specs.Numbers.{noProcessor, sameProcessor}
 use Rattle.rules.specs.Tasks.{isAt}
 use Rattle.rules.specs.Cells.{isUnknown, withNoted}
-use Rattle.rules.specs.Systems.{readChannel}
+use Rattle.rules.specs.Systems.{readChannel, taskIn}
 use Rattle.rules.specs.Send.{sendRule, sendPasses, sendWaits}
-use Rattle.judge.specs.Fetches.{taskIn, slotAt, isOnIn, cellOf, siteIn}
+use Rattle.judge.specs.Fetches.{slotAt, isOnIn, cellOf, siteIn}
 use Rattle.judge.specs.Scopes.{namedIn}
 use Rattle.board.specs.Lent.{lent, tasksOn, channelsOn, storeOf, hintIn, heldIn, noteIn}
 use Rattle.instruction_acts.proofs.Unseen.{atCell, leftCell, send-unseen}

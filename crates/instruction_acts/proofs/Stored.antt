@@ -11,9 +11,7 @@ use Rattle.rules.specs.declared.channel.Cell.{Cell}
 use Rattle.rules.specs.declared.rule.Outcome.{Outcome}
 use Rattle.rules.specs.declared.system.Channels.{Channels}
 use Rattle.rules.specs.Cells.{withHint, withHeld}
-use Rattle.rules.specs.Systems.{entryIndex, writeChannel}
-use Rattle.judge.specs.Store.{cellStored}
-use Rattle.judge.specs.Fetches.{taskStored}
+use Rattle.rules.specs.Systems.{entryIndex, writeChannel, cellStored, taskStored}
 use Rattle.board.specs.Lent.{lent, channelsOn, storeOf, hintIn, heldIn}
 use Rattle.board.proofs.Stores.{note-stored as note-kept}
 

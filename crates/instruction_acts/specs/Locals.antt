@@ -11,11 +11,12 @@ use Rattle.rules.specs.declared.rule.Received.the-variants.{Nothing as NoWord}
 use Rattle.rules.specs.Numbers.{channelId}
 use Rattle.rules.specs.Tasks.{noTask, born}
 use Rattle.rules.specs.Local.{createRule, finishRule}
+use Rattle.rules.specs.Systems.{taskIn}
 use Rattle.judge.specs.declared.sweep.Sweep.the-variants.{Nothing, Birth}
 use Rattle.judge.specs.declared.change.Change.{Change}
 use Rattle.judge.specs.declared.change.Verdict.{Verdict}
 use Rattle.judge.specs.declared.change.Verdict.the-variants.{Accepted}
-use Rattle.judge.specs.Fetches.{taskIn, noCell}
+use Rattle.judge.specs.Fetches.{noCell}
 use Rattle.judge.specs.Scopes.{scope, alone, namedIn}
 use Rattle.judge.specs.RunVerdicts.{change, fittingIn}
 

@@ -5,7 +5,8 @@ use Rattle.base.specs.Choice.{pick}
 use Rattle.plan.specs.declared.TaskId.{TaskId}
 use Rattle.rules.specs.declared.task.Task.{Task}
 use Rattle.rules.specs.Answers.{isAccepted}
-use Rattle.judge.specs.Fetches.{taskIn, instructionIn}
+use Rattle.rules.specs.Systems.{taskIn}
+use Rattle.judge.specs.Fetches.{instructionIn}
 use Rattle.judge.specs.RunVerdicts.{runRefusal}
 use Rattle.instruction_acts.specs.declared.next.Next.{Next}
 use Rattle.instruction_acts.specs.declared.next.Next.the-variants.{Refused, Runs}

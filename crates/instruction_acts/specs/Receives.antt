@@ -6,13 +6,13 @@ use Rattle.plan.specs.declared.ChannelId.{ChannelId}
 use Rattle.rules.specs.declared.task.Task.{Task}
 use Rattle.rules.specs.declared.rule.Outcome.{Outcome}
 use Rattle.rules.specs.declared.system.Channels.{Channels}
-use Rattle.rules.specs.Systems.{readChannel}
+use Rattle.rules.specs.declared.system.Store.{Store}
+use Rattle.rules.specs.Systems.{readChannel, taskIn}
 use Rattle.rules.specs.Receive.{receiveRule}
 use Rattle.judge.specs.declared.sweep.Sweep.the-variants.{Nothing}
-use Rattle.judge.specs.declared.store.Store.{Store}
 use Rattle.judge.specs.declared.change.Scope.{Scope}
 use Rattle.judge.specs.declared.change.Verdict.{Verdict}
-use Rattle.judge.specs.Fetches.{taskIn, lastOf, siteIn}
+use Rattle.judge.specs.Fetches.{lastOf, siteIn}
 use Rattle.judge.specs.Scopes.{scope, namedIn}
 use Rattle.judge.specs.RunVerdicts.{change, fittingIn}
 use Rattle.board.specs.Lent.{AtCell}

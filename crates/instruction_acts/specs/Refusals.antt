@@ -8,7 +8,7 @@ use Rattle.plan.specs.declared.TaskId.{TaskId}
 use Rattle.rules.specs.declared.task.Task.{Task}
 use Rattle.rules.specs.declared.task.TaskState.the-variants.{Ready}
 use Rattle.rules.specs.Tasks.{isIn}
-use Rattle.judge.specs.Fetches.{taskIn}
+use Rattle.rules.specs.Systems.{taskIn}
 
 -- there are at most 64 tasks, and each that is ready has a place of 1 to 64
 pub record Placed (count : ℕ) (ts : List Task) : Type 0 where

@@ -4,7 +4,7 @@ ghost use mathlib.Core.List.{List};
 ghost use Prim.Native.Nat.{ℕ, _≤_};
 ghost use Rattle.plan.specs.declared.ProcessorId.{ProcessorId};
 ghost use Rattle.rules.specs.Local.{finishRule};
-ghost use Rattle.judge.specs.Fetches.{taskIn};
+ghost use Rattle.rules.specs.Systems.{taskIn};
 ghost use Rattle.judge.specs.Scopes.{namedIn};
 ghost use Rattle.user_table.specs.Users.{receiversOf, parentsOf, Indexed};
 ghost use Rattle.board.specs.Lent.{lent, Whole, tasksOn};

@@ -12,9 +12,9 @@ use Rattle.rules.specs.Answers.{isAccepted}
 use Rattle.rules.specs.Runs.{nextOf, runAnswer}
 use Rattle.rules.specs.Sound.{systemOk}
 use Rattle.rules.specs.Steps.{wellFormed, kindAnswer, ruledAnswer, stepAnswer, runStep, quiescent}
+use Rattle.rules.specs.Systems.{storeIn}
 use Rattle.rules_laws.specs.Shapes.{Shaped}
 use Rattle.rules_sound.proofs.Sound.{sound}
-use Rattle.judge.specs.Store.{storeIn}
 use Rattle.judge.specs.declared.change.Verdict.{Verdict}
 use Rattle.judge.specs.declared.change.Verdict.the-variants.{Refused, Accepted}
 use Rattle.judge.specs.Facts.{factsOf}

@@ -15,10 +15,10 @@ use Rattle.plan_laws.proofs.Answers.{and-parts}
 use Rattle.rules.specs.declared.task.Task.{Task}
 use Rattle.rules.specs.declared.message.Message.{Message}
 use Rattle.rules.specs.declared.message.Message.the-variants.{Empty, Offered, Advert, ReadyToReceive, Data, Terminated, Migration}
+use Rattle.rules.specs.declared.system.Store.{Store}
 use Rattle.rules.specs.Numbers.{channelNumberOk, processorOk, taskNumberOk}
 use Rattle.rules.specs.Sound.{knownOk, madeOk, messageOk}
 use Rattle.letters.specs.Letters.{childOf}
-use Rattle.judge.specs.declared.store.Store.{Store}
 use Rattle.judge.specs.Facts.{Facts, PartsOf}
 use Rattle.judge.specs.Fetches.{siteIn}
 use Rattle.judge.specs.Scopes.{channelScope, letterScope, namesOk}

@@ -12,17 +12,17 @@ use Rattle.rules.specs.declared.message.Message.{Message}
 use Rattle.rules.specs.declared.message.Message.the-variants.{Empty, Offered, Advert, ReadyToReceive, Data, Terminated, Migration}
 use Rattle.rules.specs.declared.rule.Site.{Site}
 use Rattle.rules.specs.declared.system.System.{System}
+use Rattle.rules.specs.declared.system.Store.{Store}
 use Rattle.rules.specs.Tasks.{isIn}
 use Rattle.rules.specs.Networks.{lettersOf}
 use Rattle.rules.specs.Effects.{Effect}
 use Rattle.rules.specs.Deliver.{opened}
 use Rattle.rules.specs.Sound.{messageOk}
+use Rattle.rules.specs.Systems.{storeIn}
 use Rattle.rules_laws.specs.Shapes.{Shaped}
 use Rattle.rules_sound.specs.Sound.{Sound}
 use Rattle.rules_sound.specs.Stands.{Whole}
 use Rattle.rules_sound.proofs.Deliveries.{open-fine}
-use Rattle.judge.specs.declared.store.Store.{Store}
-use Rattle.judge.specs.Store.{storeIn}
 use Rattle.judge.specs.Facts.{Facts, factsOf, PartsOf}
 use Rattle.judge.specs.Fetches.{scopeOk}
 use Rattle.judge.specs.Scopes.{letterScope}

@@ -12,17 +12,15 @@ use Rattle.base.proofs.Tests.{within-low, within-high, within-both}
 use Rattle.plan.specs.declared.TaskId.{TaskId}
 use Rattle.rules.specs.declared.task.Task.{Task}
 use Rattle.rules.specs.declared.system.System.{System}
-use Rattle.rules.specs.Systems.{taskAt}
+use Rattle.rules.specs.declared.system.Store.{Store}
+use Rattle.rules.specs.Systems.{taskAt, taskIn}
 use Rattle.rules_sound.specs.Sound.{programIn, Sound}
 use Rattle.rules_sound.proofs.Born.{place-few as behind-few}
 use Rattle.rules_sound.proofs.Frames.{tasks-few, program-in}
 use Rattle.rules_sound.proofs.Sound.{sound}
 use Rattle.ends.proofs.Entries.{sender-in, receiver-in, parent-in}
-use Rattle.judge.specs.declared.store.Store.{Store}
 use Rattle.judge.specs.Facts.{Facts, PartsOf}
-use Rattle.judge.specs.Fetches.{taskIn}
 use Rattle.judge.specs.Scopes.{namedIn}
-use Rattle.judge.proofs.Fetching.{task-read}
 
 -- what is within a limit is within a greater one
 pub within-wider : (m k : ℕ) → m ≤ k → (a : ℕ) → within 1 m a ≡ true → within 1 k a ≡ true
@@ -33,7 +31,7 @@ rig-place : (r : System) → Sound r → (t : TaskId) → t .0 ≤ r .plan .task
 rig-place r o t h = by-cases (ℕ-discrete (t .0) 0) none some
   where
     none : t .0 ≡ 0 → taskAt r t .pc ≤ 65
-    none e = unfold taskAt in rw (eq-eqb (t .0) 0 e) (omega arith)
+    none e = unfold taskIn in rw (eq-eqb (t .0) 0 e) (omega arith)
 
     some : (t .0 ≡ 0 → ⊥) → taskAt r t .pc ≤ 65
     some e =
@@ -56,7 +54,7 @@ module _ {f : Facts} {n : ℕ} {ts : List Task} {s : Store} {used : ℕ} (p : Pa
   processors-few = rw (p .processors) (rig-sound .frame .few)
 
   pub place-few : (t : TaskId) → t .0 ≤ f .tasks → taskIn ts t .pc ≤ 65
-  place-few t h = rw (p .tasks, task-read (p .system) t) (rig-place (p .system) rig-sound t (rw (p .facts-of) at h))
+  place-few t h = rw (p .tasks) (rig-place (p .system) rig-sound t (rw (p .facts-of) at h))
 
   -- the ends of channel k, the parent of task k
   module _ (k : ℕ) where

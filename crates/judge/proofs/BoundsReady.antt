@@ -17,18 +17,18 @@ use Rattle.plan.specs.Refusals.{instructionOk}
 use Rattle.plan_laws.proofs.Programs.{create-operand, send-operand, receive-operand}
 use Rattle.rules.specs.declared.task.Task.{Task}
 use Rattle.rules.specs.declared.task.TaskState.the-variants.{Ready}
+use Rattle.rules.specs.declared.system.Store.{Store}
 use Rattle.rules.specs.Tasks.{isIn}
-use Rattle.rules.specs.Systems.{taskAt}
+use Rattle.rules.specs.Systems.{taskAt, taskIn}
 use Rattle.rules_sound.specs.Settled.{Settled}
 use Rattle.rules_sound.specs.Sound.{programIn}
 use Rattle.rules_sound.proofs.Settled.{settled}
 use Rattle.rules_sound.proofs.Frames.{program-in}
-use Rattle.judge.specs.declared.store.Store.{Store}
 use Rattle.judge.specs.Facts.{Facts, PartsOf}
-use Rattle.judge.specs.Fetches.{taskIn, instructionIn}
+use Rattle.judge.specs.Fetches.{instructionIn}
 use Rattle.judge.specs.Scopes.{argumentOk}
 use Rattle.judge.specs.MoveVerdicts.{readyCounts}
-use Rattle.judge.proofs.Fetching.{task-read, next-read}
+use Rattle.judge.proofs.Fetching.{next-read}
 use Rattle.judge.proofs.Runs.{next-fine}
 use Rattle.judge.proofs.BoundsParts.{rig-sound, count-few, processors-few}
 
@@ -63,12 +63,12 @@ module _ {f : Facts} {n : ℕ} {ts : List Task} {s : Store} {used : ℕ} (p : Pa
     high = rw (p .facts-of) at (within-high 1 (f .tasks) (t .0) w)
 
     ready-in : isIn Ready (taskAt (p .system) t) ≡ true
-    ready-in = rw (p .tasks, task-read (p .system) t) at ready
+    ready-in = rw (p .tasks) at ready
 
     ready-settled : Settled n (f .tasks) (length (programIn (p .system .plan) t)) (taskIn ts t)
     ready-settled =
         let r = p .system in
-        rw (p .processors, p .facts-of, p .tasks, task-read r t)
+        rw (p .processors, p .facts-of, p .tasks)
         (settled (r .processors) (r .plan .tasks) (programIn (r .plan) t) (taskAt r t) Ready refl ready-in (rig-sound p .rig .tasks t low high))
 
     pub place-some : 1 ≤ taskIn ts t .pc
@@ -84,7 +84,7 @@ module _ {f : Facts} {n : ℕ} {ts : List Task} {s : Store} {used : ℕ} (p : Pa
     instruction-ok =
         let r = p .system in
         let o = rig-sound p in
-        rw (p .facts-of, p .tasks, task-read r t, next-read r (o .rig) t low high ready-in) (next-fine r o t low high ready-in)
+        rw (p .facts-of, p .tasks, next-read r (o .rig) t low high ready-in) (next-fine r o t low high ready-in)
 
     pub argument-ok : argumentOk (nextAt f ts t) ≡ true
     argument-ok = argument-fine (f .tasks) (count-few p) (nextAt f ts t) instruction-ok

@@ -15,11 +15,11 @@ use Rattle.plan.specs.Kinds.{opCreate, opFinish, opSend, opReceive}
 use Rattle.plan_laws.proofs.Programs.{send-operand, receive-operand}
 use Rattle.rules.specs.declared.task.Task.{Task}
 use Rattle.rules.specs.declared.task.TaskState.the-variants.{Ready}
+use Rattle.rules.specs.declared.system.Store.{Store}
 use Rattle.rules.specs.Tasks.{isIn}
-use Rattle.judge.specs.declared.store.Store.{Store}
+use Rattle.rules.specs.Systems.{taskIn}
 use Rattle.judge.specs.declared.change.Scope.{Scope}
 use Rattle.judge.specs.Facts.{Facts, PartsOf}
-use Rattle.judge.specs.Fetches.{taskIn}
 use Rattle.judge.specs.Scopes.{runScope}
 use Rattle.judge.proofs.BoundsParts.{sender-few, receiver-few, parent-few}
 use Rattle.judge.proofs.BoundsScope.{Reached, scope-reached}

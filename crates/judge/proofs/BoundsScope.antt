@@ -10,11 +10,11 @@ use Rattle.base.specs.Choice.{within}
 use Rattle.base.proofs.Choices.{pick-cases}
 use Rattle.rules.specs.declared.task.Task.{Task}
 use Rattle.rules.specs.declared.channel.Cell.{Cell}
-use Rattle.rules.specs.Systems.{channelAt}
-use Rattle.judge.specs.declared.store.Store.{Store}
+use Rattle.rules.specs.declared.system.Store.{Store}
+use Rattle.rules.specs.Systems.{taskIn, channelAt}
 use Rattle.judge.specs.declared.change.Scope.{Scope}
 use Rattle.judge.specs.Facts.{Facts, PartsOf}
-use Rattle.judge.specs.Fetches.{taskIn, noCell, scopeOk, cellOf}
+use Rattle.judge.specs.Fetches.{noCell, scopeOk, cellOf}
 use Rattle.judge.proofs.BoundsParts.{rig-sound, count-few, place-few}
 
 pub record Reached (ts : List Task) (s : Store) (k : Scope) : Type 0 where

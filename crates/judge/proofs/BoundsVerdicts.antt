@@ -19,17 +19,18 @@ use Rattle.rules.specs.declared.task.TaskState.the-variants.{Ready}
 use Rattle.rules.specs.declared.rule.Site.{Site}
 use Rattle.rules.specs.declared.step.StepAnswer.{StepAnswer}
 use Rattle.rules.specs.declared.step.StepAnswer.the-variants.{Accepted as Unrefused, NetworkFull}
+use Rattle.rules.specs.declared.system.Store.{Store}
 use Rattle.rules.specs.Answers.{isAccepted}
 use Rattle.rules.specs.Tasks.{isIn}
 use Rattle.rules.specs.Networks.{lettersOf}
-use Rattle.judge.specs.declared.store.Store.{Store}
-use Rattle.judge.specs.Store.{sweepOk}
+use Rattle.rules.specs.Systems.{taskIn}
+use Rattle.judge.specs.Sweeps.{sweepOk}
 use Rattle.judge.specs.declared.change.Scope.{Scope}
 use Rattle.judge.specs.declared.change.Change.{Change}
 use Rattle.judge.specs.declared.change.Verdict.{Verdict}
 use Rattle.judge.specs.declared.change.Verdict.the-variants.{Refused, Accepted}
 use Rattle.judge.specs.Facts.{Facts, PartsOf}
-use Rattle.judge.specs.Fetches.{taskIn, scopeOk, siteIn}
+use Rattle.judge.specs.Fetches.{scopeOk, siteIn}
 use Rattle.judge.specs.Scopes.{alone, runScope}
 use Rattle.judge.specs.Answers.{unlessRefused}
 use Rattle.judge.specs.RunVerdicts.{runChange, fittingIn, ranIn, runRefusal, judgedRun}

@@ -24,7 +24,7 @@ use Rattle.judge.specs.Fetches.{lastOf}
 use Rattle.judge.specs.Scopes.{runScope}
 use Rattle.judge.specs.RunVerdicts.{sendIn, runChange, ranIn}
 use Rattle.judge.specs.Effects.{effectOf, ranOf}
-use Rattle.judge.proofs.Fetching.{task-read, site-read}
+use Rattle.judge.proofs.Fetching.{site-read}
 use Rattle.judge.proofs.Names.{sender-named, receiver-named}
 use Rattle.judge.proofs.Effects.{outcome-effect}
 use Rattle.judge.proofs.SendNumbers.{sender-waits, next-number, last-number}
@@ -40,7 +40,7 @@ module _ (r : System) (f : Sound r) (t : TaskId) (h : t .0 ≤ r .plan .tasks) (
       let uh = user-in (r .plan) opReceive (c .0) in
       let sends = and-both (eqb (i .opcode) opSend) (eqb (i .operand) (c .0)) (eq-eqb (i .opcode) opSend k) (eq-eqb (i .operand) (c .0) refl) in
       let number = next-number r f t h c l ready (ap (isUse opSend (c .0)) (sym next) ∙ sends) in
-      rw (k, receiver-named (r .plan) c ch, task-read r t, site-read r (f .rig) t u c d h uh cl, number) (sym (outcome-effect r d _ t u c cl))
+      rw (k, receiver-named (r .plan) c ch, site-read r (f .rig) t u c d h uh cl, number) (sym (outcome-effect r d _ t u c cl))
 
   pub receive-ran : i .opcode ≡ opReceive → executed r t i ≡ effectOf r (ranOf r t i)
   unfolding executed ranIn runScope runChange sendIn ranReceive siteAt
@@ -51,5 +51,5 @@ module _ (r : System) (f : Sound r) (t : TaskId) (h : t .0 ≤ r .plan .tasks) (
       let sh = user-in (r .plan) opSend (c .0) in
       let w = lastOf (endsOf (r .plan) .numbers) s (taskAt r s .pc) in
       let v = sendNumber (taskProgram r s) c (taskAt r s .pc - 1) in
-      rw (k, sender-named (r .plan) c ch, task-read r t, site-read r (f .rig) s t c d sh h cl, sender-waits (siteAt r s t c d) c w v (last-number r f s sh c))
+      rw (k, sender-named (r .plan) c ch, site-read r (f .rig) s t c d sh h cl, sender-waits (siteAt r s t c d) c w v (last-number r f s sh c))
       (sym (outcome-effect r d _ s t c cl))

@@ -5,12 +5,11 @@ use Rattle.plan.specs.declared.Plan.{Plan}
 use Rattle.rules.specs.declared.message.Network.{Network}
 use Rattle.rules.specs.declared.system.System.{System}
 use Rattle.rules.specs.Networks.{letterAt, dequeued}
-use Rattle.rules.specs.Systems.{withNetwork, taskAt, entryAt, channelAt}
+use Rattle.rules.specs.Systems.{withNetwork, storeIn, channelAt, entryAt}
 use Rattle.rules.specs.Deliver.{delivered}
 use Rattle.rules_laws.specs.Shapes.{Shaped}
 use Rattle.rules_sound.specs.Sound.{Holds, Sound}
 use Rattle.rules_sound.proofs.Mail.{letter-fine}
-use Rattle.judge.specs.Store.{storeIn}
 use Rattle.judge.specs.Facts.{factsOf}
 use Rattle.judge.specs.Openings.{openedIn}
 use Rattle.judge.specs.Effects.{effectOf}
@@ -18,7 +17,7 @@ use Rattle.judge.proofs.Openings.{open-effect}
 
 -- another mail
 mail-holds : (n : ℕ) (p : Plan) (r : System) (k : Network) → Holds n p r → Holds n p (withNetwork r k)
-unfolding taskAt entryAt channelAt
+unfolding entryAt channelAt
 mail-holds n p r k o = record { tasks = o .tasks; entries = o .entries; channels = o .channels }
 
 pub deliver-effect : (r : System) → Shaped r → Sound r → (p : ℕ) → 1 ≤ p → p ≤ r .network .used

@@ -1,5 +1,5 @@
 -- What a change makes of a rig, as the rules write it: tasks written one after the other, a cell, a sweep.
-use mathlib.Core.Path.{_≡_, refl, _∙_, ap}
+use mathlib.Core.Path.{_≡_, refl}
 use Prim.Native.Nat.{_≤_}
 use native.Mathlib.Omega.{arith}
 use borrow.Author.Tests.{ne-eqb}
@@ -11,18 +11,17 @@ use Rattle.rules.specs.declared.rule.Site.{Site}
 use Rattle.rules.specs.declared.rule.Outcome.{Outcome}
 use Rattle.rules.specs.declared.system.System.{System}
 use Rattle.rules.specs.Numbers.{taskId, channelId}
-use Rattle.rules.specs.Systems.{withTask, withTasks, withCell}
+use Rattle.rules.specs.Systems.{withTask, withTasks, withCell, taskStored, storeIn}
 use Rattle.rules.specs.Effects.{Effect, withOutcome, applied}
 use Rattle.rules_sound.specs.Sound.{Holds}
 use Rattle.judge.specs.declared.sweep.Sweep.{Sweep}
 use Rattle.judge.specs.declared.sweep.Sweep.the-variants.{Nothing}
-use Rattle.judge.specs.Store.{storeIn}
 use Rattle.judge.specs.declared.change.Change.{Change}
-use Rattle.judge.specs.Fetches.{taskStored, cellPut, siteIn}
+use Rattle.judge.specs.Fetches.{cellPut, siteIn}
 use Rattle.judge.specs.Scopes.{scope, alone}
 use Rattle.judge.specs.RunVerdicts.{change}
 use Rattle.judge.specs.Effects.{effectOf}
-use Rattle.judge.proofs.Fetching.{task-written, site-read}
+use Rattle.judge.proofs.Fetching.{site-read}
 use Rattle.judge.proofs.Sweeps.{sweptIn}
 
 -- a rig, with what an outcome posts and receives
@@ -36,7 +35,8 @@ module _ (r : System) where
 
   -- two tasks
   both-written : (a b : TaskId) (x y : Task) → withTask (withTask r a x) b y ≡ withTasks r (taskStored (taskStored (r .tasks) a x) b y)
-  both-written a b x y = ap (λ (q : System). withTask q b y) (task-written r a x) ∙ task-written (withTasks r (taskStored (r .tasks) a x)) b y
+  unfolding withTask
+  both-written a b x y = refl
 
   module _ (d : ProcessorId) (o : Outcome) where
     -- where there is no channel
@@ -47,7 +47,7 @@ module _ (r : System) where
 
     -- a task alone
     pub alone-effect : (t : TaskId) (w : Sweep) → effectOf r (change (alone t d) o w) ≡ with-outcome (sweptIn (withTask r t (o .sender)) w) o
-    unfolding withTask
+    unfolding withTask taskStored
     alone-effect t w = tasks-effect t (taskId 0) w
 
     -- a channel

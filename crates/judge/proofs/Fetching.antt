@@ -6,7 +6,7 @@ use Prim.Native.Nat.{ℕ, _+_, _-_, _≤_, _<_}
 use native.Mathlib.Omega.{arith}
 use native.Mathlib.Decide.{ℕ-discrete}
 use lib.Dec.{eqb, ltb}
-use lib.ListN.{length, set}
+use lib.ListN.{length}
 use borrow.Author.Tests.{ltb-true, eq-eqb, ne-eqb}
 use Rattle.base.specs.Choice.{pick}
 use Rattle.plan.specs.declared.Plan.{Plan}
@@ -22,30 +22,15 @@ use Rattle.rules.specs.declared.task.TaskState.{TaskState}
 use Rattle.rules.specs.declared.task.TaskState.the-variants.{Ready, Sending, Receiving}
 use Rattle.rules.specs.declared.system.System.{System}
 use Rattle.rules.specs.Tasks.{isIn}
-use Rattle.rules.specs.Systems.{taskAt, withTask, withTasks, entryAt, channelAt, taskProgram}
+use Rattle.rules.specs.Systems.{taskAt, taskProgram, taskIn, storeIn, channelAt, entryAt}
 use Rattle.rules.specs.Places.{nextIn, lastIn, isOn}
 use Rattle.rules.specs.Effects.{siteAt}
 use Rattle.rules.specs.Runs.{nextOf}
 use Rattle.rules_sound.specs.Sound.{programIn, Holds}
 use Rattle.rules_sound.proofs.Born.{place-few}
 use Rattle.rules_sound.proofs.Settled.{settled}
-use Rattle.judge.specs.Store.{storeIn}
-use Rattle.judge.specs.Fetches.{taskIn, taskStored, slotAt, instructionIn, lastOf, isOnIn, cellOf, siteIn}
+use Rattle.judge.specs.Fetches.{slotAt, instructionIn, lastOf, isOnIn, cellOf, siteIn}
 use Rattle.judge.specs.Scopes.{scope}
-
--- a task
-module _ (r : System) (t : TaskId) where
-  pub task-read : taskIn (r .tasks) t ≡ taskAt r t
-  unfolding taskIn taskAt
-  task-read = refl
-
-  pub task-written : (x : Task) → withTask r t x ≡ withTasks r (taskStored (r .tasks) t x)
-  unfolding withTask taskStored
-  task-written x = go (eqb (t .0) 0)
-    where
-      go : (b : Bool) → pick b r (withTasks r (set (r .tasks) (t .0 - 1) x)) ≡ withTasks r (pick b (r .tasks) (set (r .tasks) (t .0 - 1) x))
-      go true = refl
-      go false = refl
 
 -- an instruction of task t's program, from 0
 module _ (p : Plan) (t : TaskId) (l : 1 ≤ t .0) (h : t .0 ≤ p .tasks) where
@@ -80,7 +65,7 @@ module _ (r : System) (o : Holds (r .processors) (r .plan) r) where
   last-read t h = by-cases (ℕ-discrete (t .0) 0) none some
     where
       none : t .0 ≡ 0 → lastOf (r .plan .operands) t (taskAt r t .pc) ≡ lastIn (taskProgram r t) (taskAt r t) .operand
-      none e = unfold taskAt lastOf lastIn in rw (eq-eqb (t .0) 0 e) refl
+      none e = unfold taskIn lastOf lastIn in rw (eq-eqb (t .0) 0 e) refl
 
       some : (t .0 ≡ 0 → ⊥) → lastOf (r .plan .operands) t (taskAt r t .pc) ≡ lastIn (taskProgram r t) (taskAt r t) .operand
       some e =
@@ -97,4 +82,4 @@ module _ (r : System) (o : Holds (r .processors) (r .plan) r) where
       → siteIn (r .plan .operands) (r .tasks) (storeIn r) (scope a b c d) ≡ siteAt r a b c d
   unfolding siteIn siteAt cellOf entryAt channelAt
   site-read a b c d ah bh cl =
-      rw (ne-eqb (c .0) 0 (λ e. omega arith), task-read r a, task-read r b, on-read Sending a c ah, on-read Receiving b c bh) refl
+      rw (ne-eqb (c .0) 0 (λ e. omega arith), on-read Sending a c ah, on-read Receiving b c bh) refl

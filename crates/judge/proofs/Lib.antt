@@ -1,5 +1,4 @@
 -- What is computed on the parts of a rig is what the rules say of the rig.
-pub mod StoreLaws
 pub mod Sweeping
 pub mod Sweeps
 pub mod Fetching

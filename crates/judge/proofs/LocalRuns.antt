@@ -22,7 +22,6 @@ use Rattle.judge.specs.Fetches.{siteIn}
 use Rattle.judge.specs.Scopes.{runScope}
 use Rattle.judge.specs.RunVerdicts.{runChange, ranIn}
 use Rattle.judge.specs.Effects.{effectOf, ranOf}
-use Rattle.judge.proofs.Fetching.{task-read}
 use Rattle.judge.proofs.Names.{parent-named}
 use Rattle.judge.proofs.Effects.{tasks-effect, alone-effect}
 use Rattle.judge.proofs.Sweeps.{birth-swept}
@@ -33,21 +32,21 @@ module _ (r : System) (t : TaskId) (i : Instruction) where
   create-ran e =
       let u = taskId (i .operand) in
       let d = taskAt r t .processor in
-      rw (e, task-read r t, birth-swept (withTask (withTask r t (createRule (taskAt r t) u)) u (born d)) u d) (sym (tasks-effect r d _ t u (Birth u d)))
+      rw (e, birth-swept (withTask (withTask r t (createRule (taskAt r t) u)) u (born d)) u d) (sym (tasks-effect r d _ t u (Birth u d)))
 
   pub sync-ran : i .opcode ≡ opSync → executed r t i ≡ effectOf r (ranOf r t i)
   unfolding executed ranIn runScope runChange siteIn
-  sync-ran e = rw (e, task-read r t) (sym (alone-effect r (taskAt r t .processor) _ t Nothing))
+  sync-ran e = rw (e) (sym (alone-effect r (taskAt r t .processor) _ t Nothing))
 
   pub finish-ran : t .0 ≤ 128 → i .opcode ≡ opFinish → executed r t i ≡ effectOf r (ranOf r t i)
   unfolding executed ranIn runScope runChange siteIn ranFinish
   finish-ran h e =
       let p = parentOf (meaning r) t in
-      rw (e, parent-named (r .plan) t h, task-read r t, task-read r p) (sym (tasks-effect r (taskAt r t .processor) _ p t Nothing))
+      rw (e, parent-named (r .plan) t h) (sym (tasks-effect r (taskAt r t .processor) _ p t Nothing))
 
   pub set-ran : i .opcode ≡ opSet → executed r t i ≡ effectOf r (ranOf r t i)
   unfolding executed ranIn runScope runChange siteIn
-  set-ran e = rw (e, task-read r t) (sym (alone-effect r (taskAt r t .processor) _ t Nothing))
+  set-ran e = rw (e) (sym (alone-effect r (taskAt r t .processor) _ t Nothing))
 
   -- the last choice
   pub add-ran : ((k : ℕ) → 1 ≤ k → k ≤ 6 → i .opcode ≢ k) → executed r t i ≡ effectOf r (ranOf r t i)
@@ -61,6 +60,5 @@ module _ (r : System) (t : TaskId) (i : Instruction) where
         none 4 (omega arith) (omega arith),
         none 5 (omega arith) (omega arith),
         none 6 (omega arith) (omega arith),
-        task-read r t,
       )
       (sym (alone-effect r (taskAt r t .processor) _ t Nothing))

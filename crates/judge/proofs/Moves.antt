@@ -13,7 +13,6 @@ use Rattle.judge.specs.declared.sweep.Sweep.the-variants.{Departure}
 use Rattle.judge.specs.MoveVerdicts.{moveChange, moveRefusal, judgedMove}
 use Rattle.judge.specs.Effects.{effectOf}
 use Rattle.judge.specs.Answers.{verdictOf}
-use Rattle.judge.proofs.Fetching.{task-read}
 use Rattle.judge.proofs.Effects.{alone-effect}
 use Rattle.judge.proofs.Sweeps.{departure-swept}
 
@@ -28,4 +27,4 @@ module _ (r : System) (t : TaskId) (e : ProcessorId) where
 
   pub move-answer : judgedMove (r .plan .tasks) (r .processors) (r .tasks) (r .network .used) t e ≡ verdictOf (moveChange t (taskAt r t) e) (moveAnswer r t e)
   unfolding judgedMove moveRefusal moveAnswer fits effectOf
-  move-answer = rw (task-read r t, move-effect) refl
+  move-answer = rw (move-effect) refl

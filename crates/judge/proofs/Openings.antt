@@ -17,7 +17,7 @@ use Rattle.rules.specs.declared.rule.Outcome.{Outcome}
 use Rattle.rules.specs.declared.system.System.{System}
 use Rattle.rules.specs.Numbers.{channelNumberOk, processorOk, taskNumberOk}
 use Rattle.rules.specs.Tasks.{isIn, arrived}
-use Rattle.rules.specs.Systems.{taskAt, withTask, meaning}
+use Rattle.rules.specs.Systems.{taskAt, withTask, meaning, storeIn}
 use Rattle.rules.specs.Effects.{changed}
 use Rattle.rules.specs.Offers.{offerRule, advertRule}
 use Rattle.rules.specs.Calls.{callRule, dataRule}
@@ -29,14 +29,12 @@ use Rattle.rules_sound.specs.Sound.{Startable, Holds}
 use Rattle.rules_sound.proofs.Frames.{user-in, tasks-few}
 use Rattle.ends.specs.Derived.{endsOf}
 use Rattle.judge.specs.declared.sweep.Sweep.the-variants.{Nothing, Arrival}
-use Rattle.judge.specs.Store.{storeIn}
 use Rattle.judge.specs.Facts.{factsOf}
 use Rattle.judge.specs.Fetches.{siteIn}
 use Rattle.judge.specs.Scopes.{channelScope}
 use Rattle.judge.specs.RunVerdicts.{change}
 use Rattle.judge.specs.Openings.{openedIn}
 use Rattle.judge.specs.Effects.{effectOf}
-use Rattle.judge.proofs.Fetching.{task-read}
 use Rattle.judge.proofs.Names.{sender-named, receiver-named, parent-named}
 use Rattle.judge.proofs.Effects.{alone-effect, applied-effect}
 use Rattle.judge.proofs.Sweeps.{arrival-swept}
@@ -48,7 +46,7 @@ module _ (r : System) where
   unfolding opened openedIn siteIn gotTerminated
   terminated-opened d t h =
       let p = parentOf (meaning r) t in
-      rw (parent-named (r .plan) t h, task-read r p) (sym (alone-effect r d _ p Nothing))
+      rw (parent-named (r .plan) t h) (sym (alone-effect r d _ p Nothing))
 
   -- the mover letter of task t, which is moving or is not
   module _ (d : ProcessorId) (t : TaskId) where
@@ -59,11 +57,11 @@ module _ (r : System) where
     unfolding opened openedIn siteIn gotMigration arrival
     moving-opened e =
         let x = taskAt r t in
-        rw (task-read r t, e, arrival-swept (withTask r t (arrived x d)) t d (x .moves)) (sym (alone-effect r d _ t (Arrival t d (x .moves))))
+        rw (e, arrival-swept (withTask r t (arrived x d)) t d (x .moves)) (sym (alone-effect r d _ t (Arrival t d (x .moves))))
 
     still-opened : isIn Moving (taskAt r t) ≡ false → Same
     unfolding opened openedIn siteIn gotMigration
-    still-opened e = rw (task-read r t, e) (ap changed (sym (withTask-taskAt r t)) ∙ sym (alone-effect r d _ t Nothing))
+    still-opened e = rw (e) (ap changed (sym (withTask-taskAt r t)) ∙ sym (alone-effect r d _ t Nothing))
 
     migration-opened : Same
     migration-opened = go (isIn Moving (taskAt r t)) refl

@@ -18,7 +18,7 @@ use Rattle.rules.specs.Numbers.{mostMoves}
 use Rattle.rules.specs.Answers.{isAccepted}
 use Rattle.rules.specs.Tasks.{isIn, isAt, isChildless}
 use Rattle.rules.specs.Networks.{lettersOf}
-use Rattle.judge.specs.Fetches.{taskIn}
+use Rattle.rules.specs.Systems.{taskIn}
 use Rattle.judge.specs.RunVerdicts.{runRefusal}
 use Rattle.judge.specs.MoveVerdicts.{moveRefusal}
 use Rattle.judge.proofs.Answers.{passed}

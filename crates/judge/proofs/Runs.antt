@@ -18,20 +18,19 @@ use Rattle.rules.specs.declared.task.TaskState.the-variants.{Ready}
 use Rattle.rules.specs.declared.step.StepAnswer.the-variants.{Accepted, NoTask, NotReady, FinishWithChildren, NetworkFull}
 use Rattle.rules.specs.declared.system.System.{System}
 use Rattle.rules.specs.Tasks.{isIn, isChildless}
-use Rattle.rules.specs.Systems.{taskAt}
+use Rattle.rules.specs.Systems.{taskAt, storeIn}
 use Rattle.rules.specs.Places.{nextIn}
 use Rattle.rules.specs.Runs.{nextOf, ran, fits, finishesEarly, runAnswer}
 use Rattle.rules_sound.specs.Sound.{programIn, Sound}
 use Rattle.rules_sound.proofs.Settled.{settled}
 use Rattle.rules_sound.proofs.Frames.{tasks-few, in-plan}
-use Rattle.judge.specs.Store.{storeIn}
 use Rattle.judge.specs.declared.change.Verdict.{Verdict}
 use Rattle.judge.specs.declared.change.Verdict.the-variants.{Accepted as Allowed}
 use Rattle.judge.specs.Facts.{factsOf}
 use Rattle.judge.specs.RunVerdicts.{fittingIn, runRefusal, judgedRun}
 use Rattle.judge.specs.Effects.{effectOf, ranOf}
 use Rattle.judge.specs.Answers.{unlessRefused, verdictOf}
-use Rattle.judge.proofs.Fetching.{task-read, next-read}
+use Rattle.judge.proofs.Fetching.{next-read}
 use Rattle.judge.proofs.LocalRuns.{create-ran, sync-ran, finish-ran, set-ran, add-ran}
 use Rattle.judge.proofs.ChannelRuns.{send-ran, receive-ran}
 use Rattle.judge.proofs.Answers.{refused-unless, fitting-answer}
@@ -91,10 +90,9 @@ module _ (r : System) (f : Sound r) (t : TaskId) where
   run-answer =
       let k = ranOf r t (nextOf r t) in
       let m = r .plan .tasks in
-      rw (task-read r t)
-      (refused-unless _ (Allowed k) (within 1 m (t .0)) NoTask _ _ refl
+      refused-unless _ (Allowed k) (within 1 m (t .0)) NoTask _ _ refl
       (λ w.
       let l = within-low 1 m (t .0) w in
       let h = within-high 1 m (t .0) w in
       refused-unless _ (Allowed k) (isIn Ready (taskAt r t)) NotReady _ _ refl
-      (λ ready. ap (judgedNext r t) (next-read r (f .rig) t l h ready) ∙ ready-judged l h ready)))
+      (λ ready. ap (judgedNext r t) (next-read r (f .rig) t l h ready) ∙ ready-judged l h ready))

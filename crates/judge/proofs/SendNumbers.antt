@@ -17,7 +17,7 @@ use Rattle.rules.specs.declared.task.TaskState.the-variants.{Ready, Sending}
 use Rattle.rules.specs.declared.rule.Site.{Site}
 use Rattle.rules.specs.declared.system.System.{System}
 use Rattle.rules.specs.Tasks.{stateNumber, isIn, isAt}
-use Rattle.rules.specs.Systems.{taskAt, taskProgram}
+use Rattle.rules.specs.Systems.{taskAt, taskProgram, taskIn}
 use Rattle.rules.specs.Places.{nextIn, lastIn, isOn, sendNumber}
 use Rattle.rules.specs.Receive.{receiveRule}
 use Rattle.rules.specs.Runs.{nextOf}
@@ -57,7 +57,7 @@ module _ (r : System) (f : Sound r) (t : TaskId) (h : t .0 ≤ r .plan .tasks) (
     waits = and-left (isIn Sending (taskAt r t)) (eqb (lastIn (taskProgram r t) (taskAt r t) .operand) (c .0)) sending
 
     some : 1 ≤ t .0
-    unfolding taskAt
+    unfolding taskIn
     some = by-contra 1 (t .0) (λ q. let e : eqb (t .0) 0 ≡ true = eq-eqb (t .0) 0 (omega arith) in true≢false (sym (rw e at waits)))
 
     last-send : isUse opSend (c .0) (lastIn (taskProgram r t) (taskAt r t)) ≡ true

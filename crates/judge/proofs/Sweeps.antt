@@ -6,8 +6,8 @@ use Rattle.plan.specs.declared.TaskId.{TaskId}
 use Rattle.plan.specs.declared.ProcessorId.{ProcessorId}
 use Rattle.rules.specs.declared.channel.Hint.{Hint}
 use Rattle.rules.specs.declared.system.System.{System}
-use Rattle.rules.specs.Systems.{meaning}
-use Rattle.rules.specs.Effects.{receivesOn, sendsOn, forReceiving, forSending}
+use Rattle.rules.specs.Systems.{meaning, storeIn, withStore}
+use Rattle.rules.specs.Effects.{forChannels, receivesOn, sendsOn, forReceiving, forSending}
 use Rattle.rules.specs.Starts.{located}
 use Rattle.rules.specs.Arrivals.{arrivalReceiving, arrivalSending}
 use Rattle.rules.specs.Moves.{departureSending}
@@ -17,21 +17,21 @@ use Rattle.judge.specs.declared.sweep.CellRule.{CellRule}
 use Rattle.judge.specs.declared.sweep.CellRule.the-variants.{Locate, ArriveReceiving, ArriveSending, DepartSending}
 use Rattle.judge.specs.declared.sweep.Sweep.{Sweep}
 use Rattle.judge.specs.declared.sweep.Sweep.the-variants.{Birth, Departure, Arrival}
-use Rattle.judge.specs.Store.{storeIn, withStore, ruleOf, endIs, forEnds, swept}
-use Rattle.judge.proofs.StoreLaws.{for-channels, for-cells-same}
+use Rattle.judge.specs.Sweeps.{ruleOf, endIs, forEnds, swept}
+use Rattle.judge.proofs.Sweeping.{for-cells-same}
 
 module _ (r : System) (t : TaskId) (d : ProcessorId) (rule : CellRule) where
   pub for-receiving : forReceiving r t d (ruleOf rule) ≡ withStore r (forEnds (endsOf (r .plan) .receivers) t d rule (storeIn r))
+  unfolding forChannels
   for-receiving =
-      for-channels (ruleOf rule) d 128 (receivesOn (meaning r) t) r
-      ∙ ap (withStore r)
+      ap (withStore r)
       (for-cells-same (ruleOf rule) d 128 (receivesOn (meaning r) t) (endIs (endsOf (r .plan) .receivers) t) (storeIn r)
       (λ k h. ap (λ n. eqb n (t .0)) (sym (receiver-at (r .plan) (suc k) h))))
 
   pub for-sending : forSending r t d (ruleOf rule) ≡ withStore r (forEnds (endsOf (r .plan) .senders) t d rule (storeIn r))
+  unfolding forChannels
   for-sending =
-      for-channels (ruleOf rule) d 128 (sendsOn (meaning r) t) r
-      ∙ ap (withStore r)
+      ap (withStore r)
       (for-cells-same (ruleOf rule) d 128 (sendsOn (meaning r) t) (endIs (endsOf (r .plan) .senders) t) (storeIn r)
       (λ k h. ap (λ n. eqb n (t .0)) (sym (sender-at (r .plan) (suc k) h))))
 

@@ -1,26 +1,34 @@
--- What a change makes of a rig: what carrying it out leaves in the rig's parts, before its letters join the mail.
+-- What a change leaves of the parts of a rig, before its letters join the mail.
+use mathlib.Core.List.{List}
+use Prim.Native.Nat.{ℕ}
 use Rattle.plan.specs.declared.TaskId.{TaskId}
 use Rattle.plan.specs.declared.Instruction.{Instruction}
+use Rattle.rules.specs.declared.task.Task.{Task}
+use Rattle.rules.specs.declared.system.Store.{Store}
 use Rattle.rules.specs.declared.system.System.{System}
-use Rattle.rules.specs.Systems.{withTasks}
+use Rattle.rules.specs.Systems.{withTasks, storeIn, withStore, taskStored}
 use Rattle.rules.specs.Effects.{Effect}
-use Rattle.judge.specs.Store.{storeIn, withStore, swept}
+use Rattle.judge.specs.Sweeps.{swept}
 use Rattle.judge.specs.declared.change.Change.{Change}
 use Rattle.judge.specs.Facts.{factsOf}
-use Rattle.judge.specs.Fetches.{taskStored, cellPut}
+use Rattle.judge.specs.Fetches.{cellPut}
 use Rattle.judge.specs.RunVerdicts.{ranIn}
 
+-- what a change leaves of the tasks, and of what is kept for channels
+abbrev pub changedTasks : Change → List Task → List Task
+changedTasks k ts = taskStored (taskStored ts (k .scope .sender) (k .outcome .sender)) (k .scope .receiver) (k .outcome .receiver)
+
+abbrev pub changedStore : List ℕ → List ℕ → Change → Store → Store
+changedStore senders receivers k s = swept senders receivers (k .sweep) (cellPut (k .scope) (k .outcome .cell) s)
+
+-- of a rig
 unfoldable pub effectOf : System → Change → Effect
 effectOf r k =
     let f = factsOf (r .plan) in
-    let a = k .scope in
-    let o = k .outcome in
     record {
-      system =
-          withStore (withTasks r (taskStored (taskStored (r .tasks) (a .sender) (o .sender)) (a .receiver) (o .receiver)))
-          (swept (f .senders) (f .receivers) (k .sweep) (cellPut a (o .cell) (storeIn r)));
-      posting = o .posting;
-      received = o .received;
+      system = withStore (withTasks r (changedTasks k (r .tasks))) (changedStore (f .senders) (f .receivers) k (storeIn r));
+      posting = k .outcome .posting;
+      received = k .outcome .received;
     }
 
 -- what instruction i of task t would change, by the parts of the rig

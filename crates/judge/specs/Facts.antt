@@ -6,11 +6,11 @@ use Prim.Native.Nat.{ℕ}
 use Rattle.plan.specs.declared.Plan.{Plan}
 use Rattle.rules.specs.declared.task.Task.{Task}
 use Rattle.rules.specs.declared.system.System.{System}
+use Rattle.rules.specs.declared.system.Store.{Store}
 use Rattle.rules.specs.Sound.{systemOk}
+use Rattle.rules.specs.Systems.{storeIn}
 use Rattle.rules_laws.specs.Shapes.{Shaped}
 use Rattle.ends.specs.Derived.{endsOf}
-use Rattle.judge.specs.declared.store.Store.{Store}
-use Rattle.judge.specs.Store.{storeIn}
 
 pub record Facts : Type 0 where
   pub tasks : ℕ

@@ -3,7 +3,7 @@ use mathlib.Core.Bool.{Bool, _&&_, _||_, false}
 use mathlib.Core.List.{List}
 use Prim.Native.Nat.{ℕ, _+_, _-_, _*_}
 use lib.Dec.{eqb, ltb, leb}
-use lib.ListN.{getD, set}
+use lib.ListN.{getD}
 use Rattle.base.specs.Choice.{pick, within}
 use Rattle.plan.specs.declared.TaskId.{TaskId}
 use Rattle.plan.specs.declared.ChannelId.{ChannelId}
@@ -13,19 +13,12 @@ use Rattle.rules.specs.declared.task.TaskState.{TaskState}
 use Rattle.rules.specs.declared.task.TaskState.the-variants.{Sending, Receiving}
 use Rattle.rules.specs.declared.channel.Cell.{Cell}
 use Rattle.rules.specs.declared.rule.Site.{Site}
+use Rattle.rules.specs.declared.system.Store.{Store}
 use Rattle.rules.specs.Numbers.{noProcessor}
-use Rattle.rules.specs.Tasks.{noTask, isIn}
+use Rattle.rules.specs.Tasks.{isIn}
 use Rattle.rules.specs.Cells.{unknown, noOffer}
-use Rattle.judge.specs.declared.store.Store.{Store}
-use Rattle.judge.specs.Store.{cellIn, cellStored}
+use Rattle.rules.specs.Systems.{taskIn, cellIn, cellStored}
 use Rattle.judge.specs.declared.change.Scope.{Scope}
-
--- task t of the tasks; 0 is none
-unfoldable pub taskIn : List Task → TaskId → Task
-taskIn ts t = pick (eqb (t .0) 0) noTask (getD ts (t .0 - 1) noTask)
-
-unfoldable pub taskStored : List Task → TaskId → Task → List Task
-taskStored ts t x = pick (eqb (t .0) 0) ts (set ts (t .0 - 1) x)
 
 -- the slot of task t's instruction i + 1
 abbrev pub slotAt : TaskId → ℕ → ℕ

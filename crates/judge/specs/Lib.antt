@@ -1,5 +1,5 @@
 -- What a step would do, said of the parts of a rig: what its functions compute, one by one.
-pub mod Store
+pub mod Sweeps
 pub mod Facts
 pub mod Fetches
 pub mod Scopes

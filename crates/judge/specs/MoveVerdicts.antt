@@ -1,11 +1,9 @@
 -- The verdict on a move.
 use mathlib.Core.Path.{_≡_}
-use mathlib.Core.Bool.{true, not}
+use mathlib.Core.Bool.{true}
 use mathlib.Core.List.{List}
 use Prim.Native.Nat.{ℕ, _+_, _≤_}
-use lib.Dec.{eqb, leb}
-use lib.ListN.{length}
-use Rattle.base.specs.Choice.{unless, within}
+use Rattle.base.specs.Choice.{within}
 use Rattle.plan.specs.declared.TaskId.{TaskId}
 use Rattle.plan.specs.declared.ProcessorId.{ProcessorId}
 use Rattle.rules.specs.declared.task.Task.{Task}
@@ -14,15 +12,16 @@ use Rattle.rules.specs.declared.message.Message.the-variants.{Migration}
 use Rattle.rules.specs.declared.rule.Posting.the-variants.{Letter}
 use Rattle.rules.specs.declared.rule.Received.the-variants.{Nothing as NoWord}
 use Rattle.rules.specs.declared.step.StepAnswer.{StepAnswer}
-use Rattle.rules.specs.declared.step.StepAnswer.the-variants.{Accepted, NoTask, NotReady, NetworkFull, NoProcessor, AlreadyThere, MoveWithChildren, MovesSpent}
-use Rattle.rules.specs.Numbers.{taskNumberOk, processorOk, mostMoves, mailSize}
-use Rattle.rules.specs.Tasks.{isIn, isAt, isChildless, departed, noTask}
+use Rattle.rules.specs.Numbers.{mostMoves}
+use Rattle.rules.specs.Tasks.{isIn, departed, noTask}
 use Rattle.rules.specs.Cells.{hint}
-use Rattle.rules.specs.Networks.{lettersOf}
+use Rattle.rules.specs.Networks.{fitsIn}
+use Rattle.rules.specs.Systems.{taskIn}
+use Rattle.rules.specs.Moves.{moveTests}
 use Rattle.judge.specs.declared.sweep.Sweep.the-variants.{Departure}
 use Rattle.judge.specs.declared.change.Change.{Change}
 use Rattle.judge.specs.declared.change.Verdict.{Verdict}
-use Rattle.judge.specs.Fetches.{taskIn, noCell}
+use Rattle.judge.specs.Fetches.{noCell}
 use Rattle.judge.specs.Scopes.{alone}
 use Rattle.judge.specs.Answers.{verdictOf}
 use Rattle.judge.specs.RunVerdicts.{change}
@@ -40,15 +39,7 @@ readyCounts m ts t = within 1 m (t .0) ≡ true → isIn Ready (taskIn ts t) ≡
 
 -- the tests of a move in their order, of so many tasks, desks and letters
 unfoldable pub moveRefusal : ℕ → ℕ → List Task → ℕ → TaskId → ProcessorId → StepAnswer
-moveRefusal m n ts used t e =
-    let x = taskIn ts t in
-    unless (taskNumberOk m t) NoTask
-    (unless (processorOk n e) NoProcessor
-    (unless (isIn Ready x) NotReady
-    (unless (not (isAt e x)) AlreadyThere
-    (unless (isChildless x) MoveWithChildren
-    (unless (not (eqb (x .moves) mostMoves)) MovesSpent
-    (unless (leb (used + length (lettersOf n (Letter (Migration e t)))) mailSize) NetworkFull Accepted))))))
+moveRefusal m n ts used t e = moveTests m n t (taskIn ts t) e (fitsIn n (Letter (Migration e t)) used)
 
 -- the departure, where they refuse nothing
 unfoldable pub judgedMove : ℕ → ℕ → List Task → ℕ → TaskId → ProcessorId → Verdict

@@ -9,13 +9,13 @@ use Rattle.rules.specs.declared.task.TaskState.the-variants.{Moving}
 use Rattle.rules.specs.declared.message.Message.{Message}
 use Rattle.rules.specs.declared.message.Message.the-variants.{Empty, Offered, Advert, ReadyToReceive, Data, Terminated, Migration}
 use Rattle.rules.specs.declared.rule.Site.{Site}
+use Rattle.rules.specs.declared.system.Store.{Store}
 use Rattle.rules.specs.Tasks.{isIn, arrived}
 use Rattle.rules.specs.Offers.{offerRule, advertRule}
 use Rattle.rules.specs.Calls.{callRule, dataRule}
 use Rattle.rules.specs.Arrivals.{terminatedRule}
 use Rattle.letters.specs.Letters.{childOf}
 use Rattle.judge.specs.declared.sweep.Sweep.the-variants.{Nothing, Arrival}
-use Rattle.judge.specs.declared.store.Store.{Store}
 use Rattle.judge.specs.declared.change.Scope.{Scope}
 use Rattle.judge.specs.declared.change.Change.{Change}
 use Rattle.judge.specs.Facts.{Facts}

@@ -5,8 +5,8 @@ use Prim.Native.Nat.{ℕ}
 use lib.Dec.{eqb}
 use Rattle.base.specs.Range.{upTo}
 use Rattle.rules.specs.declared.task.Task.{Task}
+use Rattle.rules.specs.declared.system.Store.{Store}
 use Rattle.rules.specs.Numbers.{taskId}
-use Rattle.judge.specs.declared.store.Store.{Store}
 use Rattle.judge.specs.declared.change.Verdict.{Verdict}
 use Rattle.judge.specs.declared.change.Verdict.the-variants.{Refused, Accepted}
 use Rattle.judge.specs.Facts.{Facts}

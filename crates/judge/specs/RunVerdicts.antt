@@ -1,37 +1,38 @@
 -- The verdict on a run.
-use mathlib.Core.Bool.{not, _&&_}
+use mathlib.Core.Bool.{true}
 use mathlib.Core.List.{List}
-use Prim.Native.Nat.{ℕ, _+_, _-_}
-use lib.Dec.{eqb, leb}
-use lib.ListN.{getD, length}
+use Prim.Native.Nat.{ℕ, _-_}
+use lib.Dec.{eqb}
+use lib.ListN.{getD}
 use Rattle.base.specs.Choice.{pick, unless}
 use Rattle.plan.specs.declared.TaskId.{TaskId}
 use Rattle.plan.specs.declared.Instruction.{Instruction}
-use Rattle.plan.specs.Kinds.{opCreate, opSync, opFinish, opSend, opReceive, opSet, isFinish}
+use Rattle.plan.specs.Kinds.{opSend, opReceive}
 use Rattle.rules.specs.declared.task.Task.{Task}
-use Rattle.rules.specs.declared.task.TaskState.the-variants.{Ready}
 use Rattle.rules.specs.declared.rule.Site.{Site}
 use Rattle.rules.specs.declared.rule.Outcome.{Outcome}
 use Rattle.rules.specs.declared.rule.Posting.{Posting}
 use Rattle.rules.specs.declared.rule.Posting.the-variants.{Nothing as NoPosting}
 use Rattle.rules.specs.declared.rule.Received.the-variants.{Nothing as NoWord}
 use Rattle.rules.specs.declared.step.StepAnswer.{StepAnswer}
-use Rattle.rules.specs.declared.step.StepAnswer.the-variants.{Accepted as Unrefused, NoTask, NotReady, FinishWithChildren, NetworkFull}
-use Rattle.rules.specs.Numbers.{taskId, channelId, taskNumberOk, mailSize}
-use Rattle.rules.specs.Tasks.{isIn, isChildless, born}
-use Rattle.rules.specs.Networks.{lettersOf}
+use Rattle.rules.specs.declared.step.StepAnswer.the-variants.{NetworkFull}
+use Rattle.rules.specs.declared.system.Store.{Store}
+use Rattle.rules.specs.Numbers.{taskId, channelId}
+use Rattle.rules.specs.Tasks.{born}
+use Rattle.rules.specs.Networks.{fitsIn}
 use Rattle.rules.specs.Local.{createRule, syncRule, finishRule, setRule, addRule}
 use Rattle.rules.specs.Send.{sendRule}
+use Rattle.rules.specs.Systems.{taskIn}
 use Rattle.rules.specs.Receive.{receiveRule}
+use Rattle.rules.specs.Runs.{byOpcode, runTests}
 use Rattle.judge.specs.declared.sweep.Sweep.{Sweep}
 use Rattle.judge.specs.declared.sweep.Sweep.the-variants.{Nothing, Birth}
-use Rattle.judge.specs.declared.store.Store.{Store}
 use Rattle.judge.specs.declared.change.Scope.{Scope}
 use Rattle.judge.specs.declared.change.Change.{Change}
 use Rattle.judge.specs.declared.change.Verdict.{Verdict}
 use Rattle.judge.specs.declared.change.Verdict.the-variants.{Refused, Accepted}
 use Rattle.judge.specs.Facts.{Facts}
-use Rattle.judge.specs.Fetches.{taskIn, instructionIn, slotAt, lastOf, siteIn}
+use Rattle.judge.specs.Fetches.{instructionIn, slotAt, lastOf, siteIn}
 use Rattle.judge.specs.Scopes.{runScope}
 use Rattle.judge.specs.Answers.{unlessRefused}
 
@@ -61,13 +62,14 @@ taskChange k x y = change k (tasksOnly x y (x .receiver) NoPosting) Nothing
 -- instruction i of task t at a site; w is the number of the send
 unfoldable pub runChange : Scope → TaskId → Instruction → ℕ → Site → Change
 runChange k t i w x =
-    pick (eqb (i .opcode) opCreate) (createChange k x i)
-    (pick (eqb (i .opcode) opSync) (taskChange k x (syncRule (x .sender)))
-    (pick (eqb (i .opcode) opFinish) (finishChange k x t)
-    (pick (eqb (i .opcode) opSend) (change k (sendRule x (channelId (i .operand)) w) Nothing)
-    (pick (eqb (i .opcode) opReceive) (change k (receiveRule x (channelId (i .operand)) w) Nothing)
-    (pick (eqb (i .opcode) opSet) (taskChange k x (setRule (x .sender) i))
-    (taskChange k x (addRule (x .sender) i)))))))
+    byOpcode i
+    (createChange k x i)
+    (taskChange k x (syncRule (x .sender)))
+    (finishChange k x t)
+    (change k (sendRule x (channelId (i .operand)) w) Nothing)
+    (change k (receiveRule x (channelId (i .operand)) w) Nothing)
+    (taskChange k x (setRule (x .sender) i))
+    (taskChange k x (addRule (x .sender) i))
 
 -- the number of the send that instruction i of task t is, or of the last one that the channel's sender executed
 unfoldable pub sendIn : List ℕ → TaskId → Instruction → Scope → Site → ℕ
@@ -78,7 +80,7 @@ sendIn numbers t i k x =
 
 -- 13, unless its letters fit
 abbrev pub fittingIn : ℕ → ℕ → Change → Verdict
-fittingIn n used k = unless (leb (used + length (lettersOf n (k .outcome .posting))) mailSize) (Refused NetworkFull) (Accepted k)
+fittingIn n used k = unless (fitsIn n (k .outcome .posting) used) (Refused NetworkFull) (Accepted k)
 
 -- what instruction i of task t would do
 unfoldable pub ranIn : Facts → List Task → Store → TaskId → Instruction → Change
@@ -87,14 +89,11 @@ ranIn f ts s t i =
     let x = siteIn (f .operands) ts s k in
     runChange k t i (sendIn (f .numbers) t i k x) x
 
--- 10, no such task; 11, not ready; 12, a finish with living children
+-- the tests of a run but the last: 10, 11, 12
 unfoldable pub runRefusal : List ℕ → List ℕ → ℕ → List Task → TaskId → StepAnswer
 runRefusal opcodes operands count ts t =
     let x = taskIn ts t in
-    unless (taskNumberOk count t) NoTask
-    (unless (isIn Ready x) NotReady
-    (unless (not (isFinish (instructionIn opcodes operands t (x .pc)) && not (isChildless x))) FinishWithChildren
-    Unrefused))
+    runTests count t x (instructionIn opcodes operands t (x .pc)) true
 
 -- what the instruction does, where they refuse nothing and its letters fit
 unfoldable pub judgedRun : Facts → ℕ → List Task → Store → ℕ → TaskId → Verdict

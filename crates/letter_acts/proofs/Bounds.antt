@@ -20,10 +20,10 @@ use Rattle.rules.specs.declared.channel.Offer.{Offer}
 use Rattle.rules.specs.declared.message.Message.{Message}
 use Rattle.rules.specs.declared.message.Message.the-variants.{Offered, Advert, ReadyToReceive, Data}
 use Rattle.rules.specs.Numbers.{channelNumberOk, processorOk}
-use Rattle.rules.specs.Systems.{readChannel}
+use Rattle.rules.specs.Systems.{readChannel, taskIn}
 use Rattle.rules.specs.Sound.{madeOk, knownOk, messageOk}
 use Rattle.judge.specs.Facts.{Facts}
-use Rattle.judge.specs.Fetches.{taskIn, cellOf}
+use Rattle.judge.specs.Fetches.{cellOf}
 use Rattle.judge.specs.Scopes.{namedIn, channelScope}
 use Rattle.judge.proofs.Names.{sender-named, receiver-named}
 use Rattle.judge.proofs.BoundsParts.{within-wider, rig-sound, count-few, processors-few, sender-few, receiver-few}

@@ -10,9 +10,9 @@ use Rattle.rules.specs.declared.task.TaskState.the-variants.{Sending, Receiving
 use Rattle.rules.specs.declared.message.Message.{Message}
 use Rattle.rules.specs.declared.rule.Site.{Site}
 use Rattle.rules.specs.declared.rule.Outcome.{Outcome}
+use Rattle.rules.specs.Systems.{cellIn, cellStored, taskIn, taskStored}
 use Rattle.judge.specs.declared.sweep.Sweep.the-variants.{Nothing}
-use Rattle.judge.specs.Store.{cellIn, cellStored}
-use Rattle.judge.specs.Fetches.{taskIn, taskStored, isOnIn, cellOf, cellPut, siteIn}
+use Rattle.judge.specs.Fetches.{isOnIn, cellOf, cellPut, siteIn}
 use Rattle.judge.specs.Scopes.{letterScope}
 use Rattle.judge.specs.RunVerdicts.{change}
 use Rattle.judge.specs.Openings.{openedIn}

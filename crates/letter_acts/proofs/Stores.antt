@@ -9,8 +9,7 @@ use Rattle.plan.specs.declared.ChannelId.{ChannelId}
 use Rattle.rules.specs.declared.channel.Hint.{Hint}
 use Rattle.rules.specs.declared.channel.Channel.{Channel}
 use Rattle.rules.specs.declared.system.Channels.{Channels}
-use Rattle.rules.specs.Systems.{entryIndex, readChannel, writeChannel}
-use Rattle.judge.specs.Store.{cellStored}
+use Rattle.rules.specs.Systems.{entryIndex, readChannel, writeChannel, cellStored}
 use Rattle.board.specs.Lent.{lent, channelsOn, storeOf, hintIn, heldIn, noteIn}
 use Rattle.board.proofs.Stores.{columns-stored, note-stored}
 

@@ -1,12 +1,8 @@
 -- What a letter about a task, and one that is none, does where it goes to.
 use mathlib.Core.Path.{_≡_, refl, sym, _∙_}
-use mathlib.Core.Bool.{Bool, true, false}
+use mathlib.Core.Bool.{true, false}
 use mathlib.Core.List.{List}
 use Prim.Native.Nat.{ℕ, _-_, _≤_}
-use lib.Dec.{eqb}
-use lib.ListN.{getD, set}
-use lib.Seq.{set-getD}
-use Rattle.base.specs.Choice.{pick}
 use Rattle.base.proofs.Tests.{within-low, within-high}
 use Rattle.plan.specs.declared.ProcessorId.{ProcessorId}
 use Rattle.plan.specs.declared.TaskId.{TaskId}
@@ -16,16 +12,18 @@ use Rattle.rules.specs.declared.message.Message.{Message}
 use Rattle.rules.specs.declared.message.Message.the-variants.{Empty, Terminated, Migration}
 use Rattle.rules.specs.declared.rule.Site.{Site}
 use Rattle.rules.specs.declared.rule.Posting.the-variants.{Nothing as NoPosting}
-use Rattle.rules.specs.Tasks.{noTask, isIn}
+use Rattle.rules.specs.Tasks.{isIn}
 use Rattle.rules.specs.Arrivals.{terminatedRule}
 use Rattle.rules.specs.Sound.{messageOk}
+use Rattle.rules.specs.Systems.{taskIn, taskStored}
+use Rattle.rules_laws.proofs.TaskAt.{taskStored-own}
 use Rattle.letters.specs.Letters.{onMigration}
 use Rattle.judge.specs.declared.sweep.Sweep.{Sweep}
 use Rattle.judge.specs.declared.sweep.Sweep.the-variants.{Nothing, Arrival}
 use Rattle.judge.specs.declared.change.Change.{Change}
 use Rattle.judge.specs.declared.change.Verdict.the-variants.{Accepted as Allowed}
-use Rattle.judge.specs.Store.{swept}
-use Rattle.judge.specs.Fetches.{taskIn, taskStored, cellPut, siteIn}
+use Rattle.judge.specs.Sweeps.{swept}
+use Rattle.judge.specs.Fetches.{cellPut, siteIn}
 use Rattle.judge.specs.Scopes.{alone, namedIn}
 use Rattle.judge.specs.RunVerdicts.{change, tasksOnly}
 use Rattle.judge.specs.Openings.{openedIn}
@@ -49,15 +47,6 @@ module _ {operands users : List ℕ} {l : Lent} {m : Message} (g : Opens operand
       let ok : messageOk (g .size .processors) (g .size .tasks) (Migration d t) ≡ true = rw e at (g .ok) in
       let reached = letter-reached (g .rig .parts) (Migration d t) ok in
       (reached .sender, within-low 1 6 (d .0) (reached .desk), within-high 1 6 (d .0) (reached .desk))
-
--- a task stored as it is
-task-kept : (ts : List Task) (t : TaskId) → taskStored ts t (taskIn ts t) ≡ ts
-unfolding taskStored taskIn
-task-kept ts t = go (eqb (t .0) 0)
-  where
-    go : (b : Bool) → pick b ts (set ts (t .0 - 1) (pick b noTask (getD ts (t .0 - 1) noTask))) ≡ ts
-    go true = refl
-    go false = set-getD ts (t .0 - 1) noTask
 
 -- task u, at desk d, becomes y, and its channels are swept over
 alone-acted : (senders receivers : List ℕ) (before after : Lent) {k : Change} {r : Act} (u : TaskId) (d : ProcessorId) (x : Site) (y : Task) (w : Sweep)
@@ -107,7 +96,7 @@ module _ (operands users hintprocessors hintmoves heldprocessors heldnumbers not
     stayed-opened d t e ex still z = λ count opcodes numbers.
         let q = taskIn (tasksOn board) t in
         let is : isIn Moving q ≡ false = rw ex at still in
-        alone-acted (sendersOf users) (receiversOf users) from from t d (at t d) q Nothing (rw (e, is) refl) a z (sym (task-kept (tasksOn board) t)) refl
+        alone-acted (sendersOf users) (receiversOf users) from from t d (at t d) q Nothing (rw (e, is) refl) a z (sym (taskStored-own (tasksOn board) t)) refl
 
     -- no letter
     pub none-opened : m ≡ Empty → Whole board → Opened operands users m from r from

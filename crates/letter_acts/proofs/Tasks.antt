@@ -11,24 +11,17 @@ use borrow.Author.Tests.{eq-eqb, ne-eqb}
 use Rattle.plan.specs.declared.TaskId.{TaskId}
 use Rattle.rules.specs.declared.task.Task.{Task}
 use Rattle.rules.specs.Tasks.{noTask}
-use Rattle.judge.specs.Fetches.{taskIn, taskStored}
+use Rattle.rules.specs.Systems.{taskIn, taskStored}
+use Rattle.rules_laws.proofs.TaskAt.{taskStored-own}
 
 module _ (ts : List Task) (s u : TaskId) where
-  -- a task that is stored as it is
-  stored-own : (t : TaskId) → taskStored ts t (taskIn ts t) ≡ ts
-  unfolding taskStored taskIn
-  stored-own t =
-      by-cases (ℕ-discrete (t .0) 0)
-      (λ (e : t .0 ≡ 0). rw (eq-eqb (t .0) 0 e) refl)
-      (λ (e : t .0 ≡ 0 → ⊥). rw (ne-eqb (t .0) 0 e) (set-getD ts (t .0 - 1) noTask))
-
   -- the sender stays
   pub sender-own : (b : Task) → taskStored (taskStored ts s (taskIn ts s)) u b ≡ taskStored ts u b
-  sender-own b = ap (λ (z : List Task). taskStored z u b) (stored-own s)
+  sender-own b = ap (λ (z : List Task). taskStored z u b) (taskStored-own ts s)
 
   -- both stay
   pub both-own : taskStored (taskStored ts s (taskIn ts s)) u (taskIn ts u) ≡ ts
-  both-own = sender-own (taskIn ts u) ∙ stored-own u
+  both-own = sender-own (taskIn ts u) ∙ taskStored-own ts u
 
   -- the receiver stays beside a sender that is another task
   pub receiver-own : (a : Task) → (1 ≤ s .0 → s .0 ≢ u .0) → taskStored (taskStored ts s a) u (taskIn ts u) ≡ taskStored ts s a

@@ -13,7 +13,8 @@ use Rattle.rules.specs.declared.rule.Outcome.{Outcome}
 use Rattle.rules.specs.Numbers.{noProcessor}
 use Rattle.rules.specs.Tasks.{noTask}
 use Rattle.rules.specs.Cells.{unknown, noOffer, withHint, withHeld, withNoted}
-use Rattle.judge.specs.Fetches.{taskIn, isOnIn, siteIn, noCell}
+use Rattle.rules.specs.Systems.{taskIn}
+use Rattle.judge.specs.Fetches.{isOnIn, siteIn, noCell}
 use Rattle.judge.specs.Scopes.{namedIn, letterScope}
 use Rattle.user_table.specs.Users.{sendersOf, receiversOf, parentsOf}
 use Rattle.board.specs.Lent.{Lent, tasksOn, tasksOf, storeOf}

@@ -11,11 +11,11 @@ use borrow.Author.Tests.{ne-eqb, le-leb}
 use Rattle.base.proofs.Folds.{fold-same}
 use Rattle.plan.specs.declared.TaskId.{TaskId}
 use Rattle.rules.specs.declared.task.Task.{Task}
+use Rattle.rules.specs.declared.system.Store.{Store}
 use Rattle.rules.specs.Numbers.{taskId}
 use Rattle.rules.specs.Answers.{isAccepted}
 use Rattle.rules.specs.Networks.{lettersOf}
 use Rattle.rules_laws.proofs.Letters.{few-letters}
-use Rattle.judge.specs.declared.store.Store.{Store}
 use Rattle.judge.specs.declared.change.Change.{Change}
 use Rattle.judge.specs.Facts.{Facts, PartsOf}
 use Rattle.judge.specs.RunVerdicts.{runRefusal, judgedRun, fittingIn, ranIn}

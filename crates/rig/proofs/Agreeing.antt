@@ -12,11 +12,10 @@ use Rattle.base.proofs.Tables.{length-table}
 use Rattle.rules.specs.declared.channel.Channel.{Channel}
 use Rattle.rules.specs.declared.system.Channels.{Channels}
 use Rattle.rules.specs.declared.task.Task.{Task}
-use Rattle.rules.specs.Systems.{readChannel, writeChannel}
+use Rattle.rules.specs.Systems.{readChannel, writeChannel, taskIn, taskStored}
 use borrow.Author.Tests.{ne-eqb}
 use Rattle.rules.specs.Numbers.{taskId}
 use Rattle.rules.specs.Tasks.{noTask}
-use Rattle.judge.specs.Fetches.{taskIn, taskStored}
 use Rattle.board.specs.Lent.{channelColumn, channelsOn, tasksOn}
 
 -- xs and ys have n entries, and their first k agree

@@ -10,8 +10,8 @@ use Rattle.rules.specs.declared.message.Network.{Network}
 use Rattle.rules.specs.declared.step.Report.{Report}
 use Rattle.rules.specs.declared.step.Step.{Step}
 use Rattle.rules.specs.declared.system.Channels.{Channels}
+use Rattle.rules.specs.declared.system.Store.{Store}
 use Rattle.rules.specs.StepFiles.{stepAt, fileSteps}
-use Rattle.judge.specs.declared.store.Store.{Store}
 use Rattle.rules_sound.proofs.Sound.{sound}
 use Rattle.judge.specs.Facts.{Facts, facts, PartsOf}
 use Rattle.core.specs.Turns.{Rig, turnOf, turned}

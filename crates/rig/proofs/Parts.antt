@@ -6,8 +6,8 @@ use Rattle.rules.specs.declared.step.StepAnswer.the-variants.{BadSystem}
 use Rattle.rules.specs.declared.system.System.{System}
 use Rattle.rules.specs.Sound.{systemOk}
 use Rattle.rules.specs.Steps.{stepAnswer, refused, answered, step}
+use Rattle.rules.specs.Systems.{storeIn}
 use Rattle.rules_laws.specs.Shapes.{Shaped}
-use Rattle.judge.specs.Store.{storeIn}
 use Rattle.ends.specs.declared.Ends.{Ends}
 use Rattle.ends.specs.Derived.{endsOf}
 use Rattle.judge.specs.Facts.{Facts, facts}

@@ -5,8 +5,8 @@ use Prim.Native.Nat.{ℕ}
 use Rattle.rules.specs.declared.task.Task.{Task}
 use Rattle.rules.specs.declared.message.Network.{Network}
 use Rattle.rules.specs.declared.step.Step.{Step}
+use Rattle.rules.specs.declared.system.Store.{Store}
 use Rattle.rules.specs.Networks.{letterAt, dequeued}
-use Rattle.judge.specs.declared.store.Store.{Store}
 use Rattle.judge.specs.declared.change.Verdict.{Verdict}
 use Rattle.judge.specs.declared.change.Verdict.the-variants.{Refused, Accepted}
 use Rattle.judge.specs.Facts.{Facts, PartsOf}

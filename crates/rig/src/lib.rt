@@ -4,12 +4,12 @@ mod turn;
 
 ghost use mathlib.Core.Path.{_≡_};
 ghost use Rattle.rules.specs.Steps.{step, refused};
-use judge::store::Store;
 use rules::rule::Received;
 use rules::step::Report;
 use rules::step::Step;
 use rules::step::StepAnswer;
 use rules::step::Stepped;
+use rules::system::Store;
 use rules::system::System;
 use turn::turn;
 

@@ -15,11 +15,12 @@ use Rattle.rules.specs.declared.rule.Posting.{Posting}
 use Rattle.rules.specs.declared.rule.Posting.the-variants.{Nothing}
 use Rattle.rules.specs.declared.rule.Received.{Received}
 use Rattle.rules.specs.declared.rule.Received.the-variants.{Nothing as NoWord}
+use Rattle.rules.specs.declared.system.Store.{Store}
 use Rattle.rules.specs.declared.system.System.{System}
 use Rattle.rules.specs.Numbers.{channelId, sameTask}
 use Rattle.rules.specs.Places.{isOn}
-use Rattle.rules.specs.Networks.{enqueuedAll, lettersOf}
-use Rattle.rules.specs.Systems.{withNetwork, taskAt, withTask, cellAt, withCell, taskProgram, meaning}
+use Rattle.rules.specs.Networks.{posted}
+use Rattle.rules.specs.Systems.{storeIn, withStore, withNetwork, taskAt, withTask, cellIn, cellStored, cellAt, withCell, taskProgram, meaning}
 
 -- what a step does, before its letters join the mail
 pub record Effect : Type 0 where
@@ -36,7 +37,7 @@ changedPosting r p = record { system = r; posting = p; received = NoWord }
 
 -- the rig then, with the letters in its mail
 unfoldable pub completed : Effect → System
-completed e = withNetwork (e .system) (enqueuedAll (e .system .network) (lettersOf (e .system .processors) (e .posting)))
+completed e = withNetwork (e .system) (posted (e .system .processors) (e .posting) (e .system .network))
 
 -- channel c at desk d, from task s to task u
 unfoldable pub siteAt : System → TaskId → TaskId → ChannelId → ProcessorId → Site
@@ -61,12 +62,20 @@ withOutcome r s u c d o =
 abbrev pub applied : System → TaskId → TaskId → ChannelId → ProcessorId → (Site → Outcome) → Effect
 applied r s u c d rule = withOutcome r s u c d (rule (siteAt r s u c d))
 
--- a rule for one channel, applied at desk d to each of the channels 1 .. n of which the test holds
+-- a rule for one channel, applied at desk d to channel c of a store
+abbrev pub cellRuled : (Cell → Cell) → ProcessorId → ChannelId → Store → Store
+cellRuled rule d c s = cellStored s d c (rule (cellIn s d c))
+
+-- the same for each of the channels 1 .. n of which the test holds
+unfoldable pub forCells : ℕ → (ChannelId → Bool) → (Cell → Cell) → ProcessorId → Store → Store
+forCells zero test rule d s = s
+forCells (suc n) test rule d s =
+    let q = forCells n test rule d s in
+    pick (test (channelId (suc n))) (cellRuled rule d (channelId (suc n)) q) q
+
+-- of the rig
 unfoldable pub forChannels : ℕ → (ChannelId → Bool) → (Cell → Cell) → ProcessorId → System → System
-forChannels zero test rule d r = r
-forChannels (suc n) test rule d r =
-    let q = forChannels n test rule d r in
-    pick (test (channelId (suc n))) (withCell q d (channelId (suc n)) (rule (cellAt q d (channelId (suc n))))) q
+forChannels n test rule d r = withStore r (forCells n test rule d (storeIn r))
 
 -- each channel that a task receives on, and each that it sends on
 abbrev pub receivesOn : Programs → TaskId → ChannelId → Bool

@@ -1,10 +1,11 @@
 -- "Move: a ready task from d to e".
-use mathlib.Core.Bool.{not}
-use Prim.Native.Nat.{_+_}
+use mathlib.Core.Bool.{Bool, not}
+use Prim.Native.Nat.{ℕ, _+_}
 use lib.Dec.{eqb}
 use Rattle.base.specs.Choice.{unless}
 use Rattle.plan.specs.declared.TaskId.{TaskId}
 use Rattle.plan.specs.declared.ProcessorId.{ProcessorId}
+use Rattle.rules.specs.declared.task.Task.{Task}
 use Rattle.rules.specs.declared.task.TaskState.the-variants.{Ready}
 use Rattle.rules.specs.declared.channel.Cell.{Cell}
 use Rattle.rules.specs.declared.message.Message.the-variants.{Migration}
@@ -34,14 +35,19 @@ moved r t e =
     (forSending (forReceiving (withTask r t (departed x)) t d (located e (x .moves + 1))) t d departureSending)
     (Letter (Migration e t))
 
--- "Move: 10; 15, desk outside the rig; 11; 16, already there; 17, living children; 18, move count 9,999; 13."
-unfoldable pub moveAnswer : System → TaskId → ProcessorId → StepAnswer
-moveAnswer r t e =
-    unless (taskNumberOk (r .plan .tasks) t) NoTask
-    (unless (processorOk (r .processors) e) NoProcessor
-    (unless (isIn Ready (taskAt r t)) NotReady
-    (unless (not (isAt e (taskAt r t))) AlreadyThere
-    (unless (isChildless (taskAt r t)) MoveWithChildren
-    (unless (not (eqb (taskAt r t .moves) mostMoves)) MovesSpent
-    (unless (fits r (moved r t e)) NetworkFull
+-- "Move: 10; 15, desk outside the rig; 11; 16, already there; 17, living children; 18, move count 9,999; 13.": task t of so many, with record
+-- x, would leave for desk e of so many
+abbrev pub moveTests : ℕ → ℕ → TaskId → Task → ProcessorId → Bool → StepAnswer
+moveTests tasks desks t x e fitting =
+    unless (taskNumberOk tasks t) NoTask
+    (unless (processorOk desks e) NoProcessor
+    (unless (isIn Ready x) NotReady
+    (unless (not (isAt e x)) AlreadyThere
+    (unless (isChildless x) MoveWithChildren
+    (unless (not (eqb (x .moves) mostMoves)) MovesSpent
+    (unless fitting NetworkFull
     Accepted))))))
+
+-- of the rig
+unfoldable pub moveAnswer : System → TaskId → ProcessorId → StepAnswer
+moveAnswer r t e = moveTests (r .plan .tasks) (r .processors) t (taskAt r t) e (fits r (moved r t e))

@@ -1,8 +1,9 @@
 -- The mail.
+use mathlib.Core.Bool.{Bool}
 use mathlib.Core.List.{List, [], _∷_, _++_, map}
 use Prim.Native.Nat.{ℕ, suc, _+_, _-_}
-use lib.Dec.{eqb}
-use lib.ListN.{getD, set, take, drop}
+use lib.Dec.{eqb, leb}
+use lib.ListN.{length, getD, set, take, drop}
 use Rattle.base.specs.Choice.{pick}
 use Rattle.base.specs.Range.{joined}
 use Rattle.rules.specs.declared.message.Message.{Message}
@@ -11,7 +12,7 @@ use Rattle.rules.specs.declared.message.Slot.{Slot}
 use Rattle.rules.specs.declared.message.Network.{Network}
 use Rattle.rules.specs.declared.rule.Posting.{Posting}
 use Rattle.rules.specs.declared.rule.Posting.the-variants.{Nothing, Letter, Adverts}
-use Rattle.rules.specs.Numbers.{processorId}
+use Rattle.rules.specs.Numbers.{processorId, mailSize}
 
 abbrev pub slot : Message → Slot
 slot m = record { message = m }
@@ -49,3 +50,11 @@ unfoldable pub lettersOf : ℕ → Posting → List Message
 lettersOf n Nothing = []
 lettersOf n (Letter m) = m ∷ []
 lettersOf n (Adverts c d) = joined n (λ k. pick (eqb (suc k) (d .0)) [] (Advert c (processorId (suc k)) d ∷ []))
+
+-- they join the mail
+abbrev pub posted : ℕ → Posting → Network → Network
+posted n p k = enqueuedAll k (lettersOf n p)
+
+-- "the letters needed" fit in a mail that has so many
+abbrev pub fitsIn : ℕ → Posting → ℕ → Bool
+fitsIn n p used = leb (used + length (lettersOf n p)) mailSize

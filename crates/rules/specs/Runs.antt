@@ -1,21 +1,21 @@
 -- "Run: one instruction of a ready task at desk d".
 use mathlib.Core.Bool.{Bool, not, _&&_}
-use Prim.Native.Nat.{_+_, _-_}
-use lib.Dec.{eqb, leb}
-use lib.ListN.{length}
+use Prim.Native.Nat.{ℕ, _-_}
+use lib.Dec.{eqb}
 use Rattle.base.specs.Choice.{pick, unless}
 use Rattle.plan.specs.declared.TaskId.{TaskId}
 use Rattle.plan.specs.declared.ChannelId.{ChannelId}
 use Rattle.plan.specs.declared.Instruction.{Instruction}
 use Rattle.plan.specs.Kinds.{opCreate, opSync, opFinish, opSend, opReceive, opSet, isFinish}
 use Rattle.plan.specs.Users.{senderOf, receiverOf, parentOf}
+use Rattle.rules.specs.declared.task.Task.{Task}
 use Rattle.rules.specs.declared.task.TaskState.the-variants.{Ready}
 use Rattle.rules.specs.declared.step.StepAnswer.{StepAnswer}
 use Rattle.rules.specs.declared.step.StepAnswer.the-variants.{Accepted, NoTask, NotReady, FinishWithChildren, NetworkFull}
 use Rattle.rules.specs.declared.system.System.{System}
-use Rattle.rules.specs.Numbers.{taskId, channelId, taskNumberOk, mailSize}
+use Rattle.rules.specs.Numbers.{taskId, channelId, taskNumberOk}
 use Rattle.rules.specs.Tasks.{isIn, isChildless}
-use Rattle.rules.specs.Networks.{lettersOf}
+use Rattle.rules.specs.Networks.{fitsIn}
 use Rattle.rules.specs.Systems.{taskAt, withTask, meaning, taskProgram}
 use Rattle.rules.specs.Places.{nextIn, sendNumber}
 use Rattle.rules.specs.Effects.{Effect, changed, changedPosting, applied}
@@ -45,16 +45,28 @@ ranReceive r t c =
     let s = senderOf (meaning r) c in
     applied r s t c (taskAt r t .processor) (λ x. receiveRule x c (sendNumber (taskProgram r s) c (x .sender .pc - 1)))
 
--- instruction i of task t; the last choice is add, since an accepted plan has no other kind
+-- one of seven, by the kind of an instruction; the last choice is add, since an accepted plan has no other kind
+abbrev pub byOpcode : {A : Type 0} → Instruction → A → A → A → A → A → A → A → A
+byOpcode i create sync finish send receive set add =
+    pick (eqb (i .opcode) opCreate) create
+    (pick (eqb (i .opcode) opSync) sync
+    (pick (eqb (i .opcode) opFinish) finish
+    (pick (eqb (i .opcode) opSend) send
+    (pick (eqb (i .opcode) opReceive) receive
+    (pick (eqb (i .opcode) opSet) set
+    add)))))
+
+-- instruction i of task t
 unfoldable pub executed : System → TaskId → Instruction → Effect
 executed r t i =
-    pick (eqb (i .opcode) opCreate) (ranCreate r t (taskId (i .operand)))
-    (pick (eqb (i .opcode) opSync) (changed (withTask r t (syncRule (taskAt r t))))
-    (pick (eqb (i .opcode) opFinish) (ranFinish r t)
-    (pick (eqb (i .opcode) opSend) (ranSend r t (channelId (i .operand)))
-    (pick (eqb (i .opcode) opReceive) (ranReceive r t (channelId (i .operand)))
-    (pick (eqb (i .opcode) opSet) (changed (withTask r t (setRule (taskAt r t) i)))
-    (changed (withTask r t (addRule (taskAt r t) i))))))))
+    byOpcode i
+    (ranCreate r t (taskId (i .operand)))
+    (changed (withTask r t (syncRule (taskAt r t))))
+    (ranFinish r t)
+    (ranSend r t (channelId (i .operand)))
+    (ranReceive r t (channelId (i .operand)))
+    (changed (withTask r t (setRule (taskAt r t) i)))
+    (changed (withTask r t (addRule (taskAt r t) i)))
 
 -- the instruction that task t runs next
 abbrev pub nextOf : System → TaskId → Instruction
@@ -64,19 +76,27 @@ nextOf r t = nextIn (taskProgram r t) (taskAt r t)
 unfoldable pub ran : System → TaskId → Effect
 ran r t = executed r t (nextOf r t)
 
--- "the letters needed" fit in the mail
+-- its letters fit in the rig's mail
 unfoldable pub fits : System → Effect → Bool
-fits r e = leb (r .network .used + length (lettersOf (r .processors) (e .posting))) mailSize
+fits r e = fitsIn (r .processors) (e .posting) (r .network .used)
 
--- "finish with living children": task t is about to
-abbrev pub finishesEarly : System → TaskId → Bool
-finishesEarly r t = isFinish (nextOf r t) && not (isChildless (taskAt r t))
+-- "finish with living children": instruction i of a task with record x
+abbrev pub endsEarly : Task → Instruction → Bool
+endsEarly x i = isFinish i && not (isChildless x)
 
--- "Then run: 10, no such task; 11, not ready; 12, finish with living children; 13, the letters needed don't fit in the mail."
-unfoldable pub runAnswer : System → TaskId → StepAnswer
-runAnswer r t =
-    unless (taskNumberOk (r .plan .tasks) t) NoTask
-    (unless (isIn Ready (taskAt r t)) NotReady
-    (unless (not (finishesEarly r t)) FinishWithChildren
-    (unless (fits r (ran r t)) NetworkFull
+-- "Then run: 10, no such task; 11, not ready; 12, finish with living children; 13, the letters needed don't fit in the mail.": task t of so
+-- many, with record x, would run instruction i
+abbrev pub runTests : ℕ → TaskId → Task → Instruction → Bool → StepAnswer
+runTests tasks t x i fitting =
+    unless (taskNumberOk tasks t) NoTask
+    (unless (isIn Ready x) NotReady
+    (unless (not (endsEarly x i)) FinishWithChildren
+    (unless fitting NetworkFull
     Accepted)))
+
+-- of the rig
+abbrev pub finishesEarly : System → TaskId → Bool
+finishesEarly r t = endsEarly (taskAt r t) (nextOf r t)
+
+unfoldable pub runAnswer : System → TaskId → StepAnswer
+runAnswer r t = runTests (r .plan .tasks) t (taskAt r t) (nextOf r t) (fits r (ran r t))

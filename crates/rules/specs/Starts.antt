@@ -1,11 +1,16 @@
 -- "Rig at the start".
 use mathlib.Core.Bool.{false}
+use mathlib.Core.List.{List}
 use Prim.Native.Nat.{ℕ}
 use lib.ListN.{replicate}
 use Rattle.plan.specs.declared.Plan.{Plan}
 use Rattle.plan.specs.declared.TaskId.{TaskId}
 use Rattle.plan.specs.declared.ProcessorId.{ProcessorId}
+use Rattle.rules.specs.declared.task.Task.{Task}
 use Rattle.rules.specs.declared.channel.Cell.{Cell}
+use Rattle.rules.specs.declared.message.Network.{Network}
+use Rattle.rules.specs.declared.system.Tables.{Tables}
+use Rattle.rules.specs.declared.system.Channels.{Channels}
 use Rattle.rules.specs.declared.system.System.{System}
 use Rattle.rules.specs.Numbers.{taskId, processorId}
 use Rattle.rules.specs.Tasks.{unborn, born}
@@ -23,32 +28,40 @@ located d n x = withHint x (hint d n)
 unfoldable pub birth : System → TaskId → ProcessorId → System
 birth r t d = forReceiving (withTask r t (born d)) t d (located d 1)
 
--- "the rest are unborn"; "768 entries each, none at the start"; "one carried offer and one travelling pointer, none at the start"
-unfoldable pub blank : ℕ → Plan → System
-blank n p =
+-- "the rest are unborn"
+abbrev pub unbornTasks : List Task
+unbornTasks = replicate 64 unborn
+
+-- "a pointer .., a held offer and a noted advert: .. 768 entries each, none at the start"
+abbrev pub noTables : Tables
+noTables =
     record {
-      processors = n;
-      plan = p;
-      tasks = replicate 64 unborn;
-      tables =
-          record {
-            hintprocessors = replicate 768 0;
-            hintmoves = replicate 768 0;
-            heldprocessors = replicate 768 0;
-            heldnumbers = replicate 768 0;
-            notes = replicate 768 0;
-          };
-      channels =
-          record {
-            granted = replicate 128 0;
-            awaiting = replicate 128 false;
-            carriedprocessors = replicate 128 0;
-            carriednumbers = replicate 128 0;
-            travellingprocessors = replicate 128 0;
-            travellingmoves = replicate 128 0;
-          };
-      network = record { slots = replicate 256 noSlot; used = 0 };
+      hintprocessors = replicate 768 0;
+      hintmoves = replicate 768 0;
+      heldprocessors = replicate 768 0;
+      heldnumbers = replicate 768 0;
+      notes = replicate 768 0;
     }
+
+-- "one carried offer and one travelling pointer, none at the start"; no number is called
+abbrev pub noChannels : Channels
+noChannels =
+    record {
+      granted = replicate 128 0;
+      awaiting = replicate 128 false;
+      carriedprocessors = replicate 128 0;
+      carriednumbers = replicate 128 0;
+      travellingprocessors = replicate 128 0;
+      travellingmoves = replicate 128 0;
+    }
+
+-- no letter
+abbrev pub noLetters : Network
+noLetters = record { slots = replicate 256 noSlot; used = 0 }
+
+-- a rig before the birth of task 1
+unfoldable pub blank : ℕ → Plan → System
+blank n p = record { processors = n; plan = p; tasks = unbornTasks; tables = noTables; channels = noChannels; network = noLetters }
 
 -- "Task 1 is ready at desk 1"; "its start is a birth at desk 1"
 unfoldable pub started : ℕ → Plan → System

@@ -33,19 +33,21 @@ isDeliver s = eqb (s .kind) 2
 abbrev pub isMove : Step → Bool
 isMove s = eqb (s .kind) 3
 
+-- one of three, by the kind of a step
+abbrev pub byKind : {A : Type 0} → Step → A → A → A → A
+byKind s run deliver move = pick (isRun s) run (pick (isDeliver s) deliver move)
+
 -- "19, kind not 1..3 or an unused field not zero": "Run: number 0. Deliver: task 0, number the position. Move: number the desk."
 unfoldable pub wellFormed : Step → Bool
-wellFormed s =
-    pick (isRun s) (eqb (s .number) 0)
-    (pick (isDeliver s) (eqb (s .task) 0)
-    (isMove s))
+wellFormed s = byKind s (eqb (s .number) 0) (eqb (s .task) 0) (isMove s)
 
 -- the answer of a rig that 9 does not refuse to a step that 19 does not refuse
 unfoldable pub kindAnswer : System → Step → StepAnswer
 kindAnswer r s =
-    pick (isRun s) (runAnswer r (taskId (s .task)))
-    (pick (isDeliver s) (deliverAnswer r (s .number))
-    (moveAnswer r (taskId (s .task)) (processorId (s .number))))
+    byKind s
+    (runAnswer r (taskId (s .task)))
+    (deliverAnswer r (s .number))
+    (moveAnswer r (taskId (s .task)) (processorId (s .number)))
 
 -- "Step: 9, ..; 19, .. Then run: .. Deliver: .. Move: .."
 unfoldable pub ruledAnswer : System → Step → StepAnswer
@@ -57,9 +59,10 @@ stepAnswer r s = unless (systemOk r) BadSystem (ruledAnswer r s)
 -- what an accepted step does
 unfoldable pub performed : System → Step → Effect
 performed r s =
-    pick (isRun s) (ran r (taskId (s .task)))
-    (pick (isDeliver s) (delivered r (s .number))
-    (moved r (taskId (s .task)) (processorId (s .number))))
+    byKind s
+    (ran r (taskId (s .task)))
+    (delivered r (s .number))
+    (moved r (taskId (s .task)) (processorId (s .number)))
 
 -- a refused step: "The rig stays as it was."
 abbrev pub refused : System → StepAnswer → Stepped

@@ -1,4 +1,5 @@
--- The rig read and changed: a task, a cell, the mail. Nothing above looks into an array.
+-- The rig read and changed: a task, a cell, the mail; each in the part of the rig that it is in, then in the rig. Nothing above looks into
+-- an array.
 use mathlib.Core.Bool.{false}
 use mathlib.Core.List.{List}
 use Prim.Native.Nat.{ℕ, _+_, _-_, _*_}
@@ -16,30 +17,43 @@ use Rattle.rules.specs.declared.channel.Cell.{Cell}
 use Rattle.rules.specs.declared.message.Network.{Network}
 use Rattle.rules.specs.declared.system.Tables.{Tables}
 use Rattle.rules.specs.declared.system.Channels.{Channels}
+use Rattle.rules.specs.declared.system.Store.{Store}
 use Rattle.rules.specs.declared.system.System.{System}
 use Rattle.rules.specs.Numbers.{processorId}
 use Rattle.rules.specs.Tasks.{noTask}
 use Rattle.rules.specs.Cells.{hint, offer}
 
+-- what a rig keeps for channels, at desks and for the channels themselves
+abbrev pub store : Tables → Channels → Store
+store t k = record { tables = t; channels = k }
+
+abbrev pub storeIn : System → Store
+storeIn r = store (r .tables) (r .channels)
+
 -- the rig with one part changed
 abbrev pub withTasks : System → List Task → System
 withTasks r x = record { processors = r .processors; plan = r .plan; tasks = x; tables = r .tables; channels = r .channels; network = r .network }
 
-abbrev pub withTables : System → Tables → System
-withTables r x = record { processors = r .processors; plan = r .plan; tasks = r .tasks; tables = x; channels = r .channels; network = r .network }
-
-abbrev pub withChannels : System → Channels → System
-withChannels r x = record { processors = r .processors; plan = r .plan; tasks = r .tasks; tables = r .tables; channels = x; network = r .network }
+abbrev pub withStore : System → Store → System
+withStore r s =
+    record { processors = r .processors; plan = r .plan; tasks = r .tasks; tables = s .tables; channels = s .channels; network = r .network }
 
 abbrev pub withNetwork : System → Network → System
 withNetwork r x = record { processors = r .processors; plan = r .plan; tasks = r .tasks; tables = r .tables; channels = r .channels; network = x }
 
--- task t; "0 means none"
-unfoldable pub taskAt : System → TaskId → Task
-taskAt r t = pick (eqb (t .0) 0) noTask (getD (r .tasks) (t .0 - 1) noTask)
+-- task t of the tasks; "0 means none"
+unfoldable pub taskIn : List Task → TaskId → Task
+taskIn ts t = pick (eqb (t .0) 0) noTask (getD ts (t .0 - 1) noTask)
+
+unfoldable pub taskStored : List Task → TaskId → Task → List Task
+taskStored ts t x = pick (eqb (t .0) 0) ts (set ts (t .0 - 1) x)
+
+-- of the rig
+abbrev pub taskAt : System → TaskId → Task
+taskAt r t = taskIn (r .tasks) t
 
 unfoldable pub withTask : System → TaskId → Task → System
-withTask r t x = pick (eqb (t .0) 0) r (withTasks r (set (r .tasks) (t .0 - 1) x))
+withTask r t x = withTasks r (taskStored (r .tasks) t x)
 
 -- "six desks by 128 channels, 768 entries each": where the entry of desk d and channel c is, both from 1
 abbrev pub entryIndex : ProcessorId → ChannelId → ℕ
@@ -64,8 +78,8 @@ writeEntry x i e =
     }
 
 -- desk d's entry for channel c
-unfoldable pub entryAt : System → ProcessorId → ChannelId → Entry
-entryAt r d c = readEntry (r .tables) (entryIndex d c)
+abbrev pub entryIn : Tables → ProcessorId → ChannelId → Entry
+entryIn x d c = readEntry x (entryIndex d c)
 
 abbrev pub readChannel : Channels → ℕ → Channel
 readChannel x i =
@@ -88,16 +102,28 @@ writeChannel x i k =
     }
 
 -- channel c's own entry
-unfoldable pub channelAt : System → ChannelId → Channel
-channelAt r c = readChannel (r .channels) (c .0 - 1)
+abbrev pub channelIn : Channels → ChannelId → Channel
+channelIn x c = readChannel x (c .0 - 1)
 
--- both
+-- both: the cell of desk d and channel c
+abbrev pub cellIn : Store → ProcessorId → ChannelId → Cell
+cellIn s d c = record { entry = entryIn (s .tables) d c; channel = channelIn (s .channels) c }
+
+abbrev pub cellStored : Store → ProcessorId → ChannelId → Cell → Store
+cellStored s d c x = store (writeEntry (s .tables) (entryIndex d c) (x .entry)) (writeChannel (s .channels) (c .0 - 1) (x .channel))
+
+-- of the rig
+unfoldable pub entryAt : System → ProcessorId → ChannelId → Entry
+entryAt r d c = entryIn (r .tables) d c
+
+unfoldable pub channelAt : System → ChannelId → Channel
+channelAt r c = channelIn (r .channels) c
+
 abbrev pub cellAt : System → ProcessorId → ChannelId → Cell
 cellAt r d c = record { entry = entryAt r d c; channel = channelAt r c }
 
 unfoldable pub withCell : System → ProcessorId → ChannelId → Cell → System
-withCell r d c x =
-    withChannels (withTables r (writeEntry (r .tables) (entryIndex d c) (x .entry))) (writeChannel (r .channels) (c .0 - 1) (x .channel))
+withCell r d c x = withStore r (cellStored (storeIn r) d c x)
 
 -- what the rig's plan means, and the program of task t, from 1
 abbrev pub meaning : System → Programs

@@ -30,6 +30,12 @@ pub struct Channels {
     pub travellingmoves: [u16; 128],
 }
 
+// What a rig keeps for channels: both.
+pub struct Store {
+    pub tables: Tables,
+    pub channels: Channels,
+}
+
 // The rig: how many desks, the plan, task t at t - 1, the tables, the channels, the mail.
 pub struct System {
     pub processors: u8,

@@ -12,7 +12,7 @@ use Rattle.plan.specs.declared.ProcessorId.{ProcessorId}
 use Rattle.plan.specs.declared.ChannelId.{ChannelId}
 use Rattle.rules.specs.declared.channel.Cell.{Cell}
 use Rattle.rules.specs.declared.system.System.{System}
-use Rattle.rules.specs.Systems.{taskAt, entryIndex, entryAt, channelAt, cellAt, withCell}
+use Rattle.rules.specs.Systems.{taskAt, entryIndex, entryAt, channelAt, cellAt, withCell, taskIn}
 use Rattle.rules_laws.specs.Shapes.{Shaped}
 
 -- an element of a list of n, written and read
@@ -37,7 +37,7 @@ module _ (r : System) (d : ProcessorId) (c : ChannelId) (x : Cell) where
   withCell-network = refl
 
   pub withCell-taskAt : (t : TaskId) → taskAt (withCell r d c x) t ≡ taskAt r t
-  unfolding withCell taskAt
+  unfolding withCell taskIn
   withCell-taskAt t = refl
 
   pub withCell-shaped : Shaped r → Shaped (withCell r d c x)

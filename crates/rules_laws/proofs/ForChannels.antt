@@ -16,8 +16,8 @@ use Rattle.plan.specs.declared.ChannelId.{ChannelId}
 use Rattle.rules.specs.declared.channel.Cell.{Cell}
 use Rattle.rules.specs.declared.system.System.{System}
 use Rattle.rules.specs.Numbers.{channelId}
-use Rattle.rules.specs.Systems.{taskAt, entryAt, channelAt, cellAt, withCell}
-use Rattle.rules.specs.Effects.{forChannels}
+use Rattle.rules.specs.Systems.{storeIn, withStore, taskAt, entryAt, channelAt, cellAt, withCell}
+use Rattle.rules.specs.Effects.{cellRuled, forCells, forChannels}
 use Rattle.rules_laws.specs.Shapes.{Shaped}
 use Rattle.rules_laws.proofs.CellAt.{withCell-processors, withCell-plan, withCell-tasks, withCell-network, withCell-taskAt, withCell-shaped}
 use Rattle.rules_laws.proofs.CellAt.{entryAt-other-processor, cellAt-same, cellAt-other}
@@ -28,19 +28,33 @@ leb-step k n h =
     by-cases (decLe k n) (λ l. le-leb k n l ∙ sym (le-leb k (suc n) (omega arith))) (λ l. lt-leb k n (omega arith) ∙ sym (lt-leb k (suc n) (omega arith)))
 
 module _ (test : ChannelId → Bool) (rule : Cell → Cell) (d : ProcessorId) where
+  -- none, and one more
+  pub forChannels-zero : (r : System) → forChannels 0 test rule d r ≡ r
+  unfolding forChannels forCells
+  forChannels-zero r = refl
+
+  pub forChannels-suc : (n : ℕ) (r : System)
+      → let q = forChannels n test rule d r in
+      let c = channelId (suc n) in
+      forChannels (suc n) test rule d r ≡ pick (test c) (withCell q d c (rule (cellAt q d c))) q
+  unfolding forChannels forCells withCell entryAt channelAt
+  forChannels-suc n r =
+      let s = forCells n test rule d (storeIn r) in
+      let c = channelId (suc n) in
+      pick-under (withStore r) (test c) (cellRuled rule d c s) s
+
   -- what each change keeps
   pub forChannels-all : (P : System → Type 0) (n : ℕ) (r : System)
       → ((q : System) (k : ℕ) (x : Cell) → k < n → P q → P (withCell q d (channelId (suc k)) x))
       → P r
       → P (forChannels n test rule d r)
-  unfolding forChannels
-  forChannels-all P zero r each h = h
+  forChannels-all P zero r each h = rw (forChannels-zero r) h
   forChannels-all P (suc n) r each h =
       let q = forChannels n test rule d r in
       let c = channelId (suc n) in
       let x = rule (cellAt q d c) in
       let p = forChannels-all P n r (λ q k x l. each q k x (omega arith)) h in
-      pick-either P (test c) (withCell q d c x) q (each q n x (omega arith) p) p
+      rw (forChannels-suc n r) (pick-either P (test c) (withCell q d c x) q (each q n x (omega arith) p) p)
 
   pub forChannels-keeps : {A : Type 0} (f : System → A) (n : ℕ) (r : System)
       → ((q : System) (k : ℕ) (x : Cell) → k < n → f (withCell q d (channelId (suc k)) x) ≡ f q)
@@ -77,14 +91,14 @@ module _ (test : ChannelId → Bool) (rule : Cell → Cell) (d : ProcessorId) wh
 
   pub forChannels-cellAt : (n : ℕ) (r : System) (c : ChannelId) → Shaped r → n ≤ 128 → d .0 ≤ 6 → 1 ≤ c .0 → c .0 ≤ 128
       → cellAt (forChannels n test rule d r) d c ≡ pick (leb (c .0) n && test c) (rule (cellAt r d c)) (cellAt r d c)
-  unfolding forChannels
-  forChannels-cellAt zero r c s few dh cl ch = rw (lt-leb (c .0) 0 cl) refl
+  forChannels-cellAt zero r c s few dh cl ch = rw (forChannels-zero r, lt-leb (c .0) 0 cl) refl
   forChannels-cellAt (suc n) r c s few dh cl ch =
       let q = forChannels n test rule d r in
       let e = channelId (suc n) in
       let y = rule (cellAt q d e) in
       let before : cellAt q d c ≡ pick (leb (c .0) n && test c) (rule (cellAt r d c)) (cellAt r d c) = forChannels-cellAt n r c s (omega arith) dh cl ch in
-      by-cases
+      rw (forChannels-suc n r)
+      (by-cases
       (ℕ-discrete (c .0) (suc n))
       (λ (h : c .0 ≡ suc n).
       let was : cellAt q d c ≡ cellAt r d c = rw (lt-leb (c .0) n (omega arith)) at before in
@@ -94,7 +108,7 @@ module _ (test : ChannelId → Bool) (rule : Cell → Cell) (d : ProcessorId) wh
       (λ h.
       let same : leb (c .0) n ≡ leb (c .0) (suc n) = leb-step (c .0) n h in
       pick-either (λ p. cellAt p d c ≡ cellAt q d c) (test e) (withCell q d e y) q (cellAt-other q d e y d c (omega arith) (omega arith) cl ch (λ z. h (sym z))) refl
-      ∙ (rw same at before))
+      ∙ (rw same at before)))
 
   module _ (n : ℕ) (r : System) (c : ChannelId) (s : Shaped r) (few : n ≤ 128) (dh : d .0 ≤ 6) (cl : 1 ≤ c .0) (ch : c .0 ≤ 128) where
     pub forChannels-entryAt : entryAt (forChannels n test rule d r) d c ≡ pick (leb (c .0) n && test c) (rule (cellAt r d c) .entry) (entryAt r d c)

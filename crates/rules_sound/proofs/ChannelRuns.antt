@@ -14,7 +14,7 @@ use Rattle.plan.specs.Programs.{instructionAt}
 use Rattle.plan.specs.Users.{senderOf, receiverOf}
 use Rattle.rules.specs.Numbers.{channelNumberOk}
 use Rattle.rules.specs.declared.system.System.{System}
-use Rattle.rules.specs.Systems.{taskAt, meaning}
+use Rattle.rules.specs.Systems.{taskAt, meaning, taskIn}
 use Rattle.rules.specs.Places.{nextIn, sendNumber}
 use Rattle.rules.specs.Effects.{siteAt}
 use Rattle.rules.specs.Send.{sendRule}
@@ -58,7 +58,7 @@ module _ (r : System) (s : Startable (r .processors) (r .plan)) (w : Whole r) (t
 
   -- the number of the sends that a channel's sender has executed, or 0 where there is none
   sent-few : (v : TaskId) → v .0 ≤ r .plan .tasks → sendNumber (programIn (r .plan) v) c (taskAt r v .pc - 1) ≤ 64
-  unfolding taskAt
+  unfolding taskIn
   sent-few v vh =
       let g = programIn (r .plan) v in
       let x = taskAt r v in

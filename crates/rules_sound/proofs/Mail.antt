@@ -13,7 +13,7 @@ use Rattle.rules.specs.declared.message.Message.{Message}
 use Rattle.rules.specs.declared.message.Network.{Network}
 use Rattle.rules.specs.declared.system.System.{System}
 use Rattle.rules.specs.Networks.{letters, letterAt, enqueuedAll, dequeued, lettersOf}
-use Rattle.rules.specs.Systems.{withNetwork, taskAt, entryAt, channelAt}
+use Rattle.rules.specs.Systems.{withNetwork, channelAt, entryAt}
 use Rattle.rules.specs.Effects.{Effect, completed}
 use Rattle.rules.specs.Sound.{messageOk}
 use Rattle.rules_laws.proofs.Letters.{enqueuedAll-used, enqueuedAll-size, letters-enqueuedAll, letters-split, dequeued-used, letters-dequeued}
@@ -58,7 +58,7 @@ module _ (n : ℕ) (p : Plan) (k : Network) (size : length (k .slots) ≡ 256) (
 
 -- a rig with another mail
 pub network-stands : (n : ℕ) (p : Plan) (k : Network) (r : System) → Stands n p k r → (q : Network) → length (q .slots) ≡ 256 → Stands n p q (withNetwork r q)
-unfolding taskAt entryAt channelAt
+unfolding entryAt channelAt
 network-stands n p k r s q size =
     record {
       processors = s .processors;

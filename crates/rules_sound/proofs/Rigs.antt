@@ -19,6 +19,7 @@ use Rattle.rules.specs.Systems.{withTask, cellAt, withCell, meaning}
 use Rattle.rules.specs.Effects.{forChannels, receivesOn, sendsOn, forReceiving, forSending}
 use Rattle.rules.specs.Sound.{taskOk}
 use Rattle.rules_laws.proofs.TaskAt.{withTask-processors, withTask-plan, withTask-network, withTask-entryAt, withTask-channelAt, withTask-shaped, taskAt-same, taskAt-other}
+use Rattle.rules_laws.proofs.ForChannels.{forChannels-zero, forChannels-suc}
 use Rattle.rules_laws.proofs.CellAt.{withCell-processors, withCell-plan, withCell-network, withCell-taskAt, withCell-shaped, entryAt-same, entryAt-other-processor, entryAt-other-channel, channelAt-same, channelAt-other}
 use Rattle.rules_sound.specs.Fine.{FineCell}
 use Rattle.rules_sound.specs.Sound.{programIn}
@@ -90,15 +91,15 @@ module _ (n : ℕ) (p : Plan) (k : Network) where
   -- a rule that leaves fine cells, at desk d
   module _ (rule : Cell → Cell) (keeps : (x : Cell) → FineCell n x → FineCell n (rule x)) (d : ProcessorId) (dl : 1 ≤ d .0) (dh : d .0 ≤ 6) where
     channels-stand : (test : ChannelId → Bool) (b : ℕ) → b ≤ 128 → (r : System) → Stands n p k r → Stands n p k (forChannels b test rule d r)
-    unfolding forChannels
-    channels-stand test zero h r s = s
+    channels-stand test zero h r s = rw (forChannels-zero test rule d r) s
     channels-stand test (suc b) h r s =
         let q = forChannels b test rule d r in
         let c = channelId (suc b) in
         let t = channels-stand test b (omega arith) r s in
-        pick-either (Stands n p k) (test c) (withCell q d c (rule (cellAt q d c))) q
+        rw (forChannels-suc test rule d b r)
+        (pick-either (Stands n p k) (test c) (withCell q d c (rule (cellAt q d c))) q
         (cell-stands q t d c dl dh (omega arith) (omega arith) (rule (cellAt q d c)) (keeps (cellAt q d c) (cell-fine q t d c dl dh (omega arith) (omega arith))))
-        t
+        t)
 
     pub receiving-stands : (t : TaskId) (r : System) → Stands n p k r → Stands n p k (forReceiving r t d rule)
     receiving-stands t r = channels-stand (receivesOn (meaning r) t) 128 (omega arith) r

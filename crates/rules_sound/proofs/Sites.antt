@@ -19,7 +19,7 @@ use Rattle.rules.specs.declared.rule.Outcome.{Outcome}
 use Rattle.rules.specs.declared.system.System.{System}
 use Rattle.rules.specs.Tasks.{isIn}
 use Rattle.rules.specs.Places.{lastIn, isOn}
-use Rattle.rules.specs.Systems.{taskAt, withTask}
+use Rattle.rules.specs.Systems.{taskAt, withTask, taskIn}
 use Rattle.rules.specs.Effects.{siteAt, withOutcome, applied}
 use Rattle.rules.specs.Sound.{taskOk}
 use Rattle.rules_sound.specs.Sites.{FineSite, FineOutcome}
@@ -34,7 +34,7 @@ on-in s g c x h = and-left (isIn s x) (eqb (lastIn g x .operand) (c .0)) h
 module _ (r : System) (w : Whole r) where
   -- a task that is at a desk is one of the rig's
   pub here-fine : (t : TaskId) → t .0 ≤ r .plan .tasks → 1 ≤ taskAt r t .processor .0 → taskOk (r .processors) (r .plan .tasks) (programIn (r .plan) t) (taskAt r t) ≡ true
-  unfolding taskAt
+  unfolding taskIn
   here-fine t h l =
       by-cases
       (ℕ-discrete (t .0) 0)

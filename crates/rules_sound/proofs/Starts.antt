@@ -22,7 +22,7 @@ use Rattle.rules.specs.declared.step.StepAnswer.the-variants.{BadSystem}
 use Rattle.rules.specs.Numbers.{taskId, processorId}
 use Rattle.rules.specs.Tasks.{noTask, unborn}
 use Rattle.rules.specs.Networks.{letters}
-use Rattle.rules.specs.Systems.{taskAt, entryIndex, entryAt, channelAt}
+use Rattle.rules.specs.Systems.{taskAt, entryIndex, entryAt, channelAt, taskIn}
 use Rattle.rules.specs.Starts.{blank, started}
 use Rattle.rules.specs.Sound.{systemOk}
 use Rattle.rules.specs.Steps.{stepAnswer, steps}
@@ -40,7 +40,7 @@ use Rattle.rules_sound.proofs.Answers.{not-bad}
 
 module _ (n : ℕ) (p : Plan) (s : Startable n p) where
   blank-tasks : (t : TaskId) → 1 ≤ t .0 → t .0 ≤ p .tasks → taskAt (blank n p) t ≡ unborn
-  unfolding taskAt blank
+  unfolding taskIn blank
   blank-tasks t l h = rw (ne-eqb (t .0) 0 (λ e. omega arith)) (getD-replicate 64 (t .0 - 1) unborn noTask (omega (arith, tasks-few n p s)))
 
   blank-entries : (d : ProcessorId) (c : ChannelId) → d .0 ≤ 6 → c .0 ≤ 128 → FineEntry n (entryAt (blank n p) d c)

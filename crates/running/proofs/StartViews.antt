@@ -30,7 +30,7 @@ use Rattle.rules.specs.Tasks.{noTask, unborn, born}
 use Rattle.rules.specs.Cells.{noOffer}
 use Rattle.rules.specs.Places.{isOn}
 use Rattle.rules.specs.Networks.{letters}
-use Rattle.rules.specs.Systems.{taskAt, withTask, entryIndex, entryAt, channelAt}
+use Rattle.rules.specs.Systems.{taskAt, withTask, entryIndex, taskIn, taskStored, channelAt, entryAt}
 use Rattle.rules.specs.Effects.{forChannels, receivesOn}
 use Rattle.rules.specs.Starts.{located, birth, blank, started}
 use Rattle.rules_laws.specs.Shapes.{Shaped}
@@ -72,7 +72,7 @@ channelAlike z b = record { granted = z; awaiting = b; carried = offerOf z z; tr
 -- the rig where nobody is born
 module _ (n : ℕ) (p : Plan) where
   blank-task : (P : Task → Type 0) (t : TaskId) → P unborn → P noTask → P (taskAt (blank n p) t)
-  unfolding taskAt blank
+  unfolding taskIn blank
   blank-task P t u z =
       let i = t .0 - 1 in
       pick-either P (eqb (t .0) 0) noTask (getD (replicate 64 unborn) i noTask) z
@@ -139,7 +139,7 @@ module _ (n : ℕ) (p : Plan) where
   oneBorn = withTask (blank n p) first (born (processorId 1))
 
   started-by-birth : started n p ≡ forChannels 128 (receivesOn (programs p) first) (located (processorId 1) 1) (processorId 1) oneBorn
-  unfolding started birth withTask blank
+  unfolding started birth withTask taskStored blank
   started-by-birth = refl
 
   one-born-shaped : Shaped oneBorn

@@ -10,8 +10,8 @@ use lib.Seq.{getD-set-same, getD-set-other}
 use Rattle.base.proofs.Tables.{all-same}
 use Rattle.packing.specs.Packed.{low16, byte2, byte3, byte4, byte5, mark6, taskOf}
 use Rattle.rules.specs.Tasks.{unborn}
+use Rattle.rules.specs.Starts.{noChannels}
 use Rattle.board.specs.Lent.{channelColumn, channelsOn, tasksOn}
-use Rattle.starts.specs.Parts.{noChannels}
 
 -- nothing is on the board but the places of the first n tasks
 pub record Unborn (n : ℕ) (board : List ℕ) : Type 0 where

@@ -5,24 +5,24 @@ use Prim.Native.Nat.{ℕ}
 use lib.ListN.{set, replicate}
 use Rattle.plan.specs.declared.Plan.{Plan}
 use Rattle.rules.specs.declared.system.System.{System}
+use Rattle.rules.specs.declared.system.Store.{Store}
 use Rattle.rules.specs.Numbers.{taskId, processorId}
 use Rattle.rules.specs.Tasks.{born}
-use Rattle.rules.specs.Systems.{withTasks, withTask}
-use Rattle.rules.specs.Starts.{birth, blank, started}
+use Rattle.rules.specs.Systems.{withTasks, withTask, taskStored, store, storeIn}
+use Rattle.rules.specs.Starts.{birth, blank, started, noLetters, noChannels}
 use Rattle.ends.specs.Derived.{endsOf}
-use Rattle.judge.specs.declared.store.Store.{Store}
-use Rattle.judge.specs.Store.{store, storeIn, forEnds}
+use Rattle.judge.specs.Sweeps.{forEnds}
 use Rattle.judge.proofs.Sweeps.{sweptIn, birth-swept}
 use Rattle.judge.specs.declared.sweep.Sweep.the-variants.{Birth}
 use Rattle.judge.specs.declared.sweep.CellRule.the-variants.{Locate}
 use Rattle.board.specs.Lent.{lent}
 use Rattle.board.specs.Acted.{StoredBy}
-use Rattle.starts.specs.Parts.{startTasks, noLetters, noChannels, startStore}
+use Rattle.starts.specs.Parts.{startTasks, startStore}
 use Rattle.starts.proofs.Boards.{zeros, unborn-none, unborn-channels}
 
 -- task 1 is stored, and then the pointers for the channels that it receives on
 first-birth : (r : System) → birth r (taskId 1) (processorId 1) ≡ sweptIn (withTasks r (set (r .tasks) 0 (born (processorId 1)))) (Birth (taskId 1) (processorId 1))
-unfolding birth withTask
+unfolding birth withTask taskStored
 first-birth r = birth-swept (withTasks r (set (r .tasks) 0 (born (processorId 1)))) (taskId 1) (processorId 1)
 
 -- an empty table

@@ -1,51 +1,23 @@
 -- The parts of a rig at the start, each by itself: `started` is made of these.
-use mathlib.Core.Bool.{false}
 use mathlib.Core.List.{List}
 use mathlib.Core.Path.{_≡_}
 use Prim.Native.Nat.{ℕ}
-use lib.ListN.{replicate, set}
+use lib.ListN.{set}
 use Rattle.rules.specs.declared.task.Task.{Task}
-use Rattle.rules.specs.declared.message.Network.{Network}
-use Rattle.rules.specs.declared.system.Tables.{Tables}
-use Rattle.rules.specs.declared.system.Channels.{Channels}
+use Rattle.rules.specs.declared.system.Store.{Store}
 use Rattle.rules.specs.Numbers.{taskId, processorId}
-use Rattle.rules.specs.Tasks.{unborn, born}
-use Rattle.rules.specs.Networks.{noSlot}
-use Rattle.judge.specs.declared.store.Store.{Store}
+use Rattle.rules.specs.Tasks.{born}
+use Rattle.rules.specs.Systems.{store}
+use Rattle.rules.specs.Starts.{unbornTasks, noTables, noChannels}
 use Rattle.judge.specs.declared.sweep.CellRule.the-variants.{Locate}
-use Rattle.judge.specs.Store.{store, forEnds}
+use Rattle.judge.specs.Sweeps.{forEnds}
 use Rattle.board.specs.Lent.{Whole, tasksOn, channelsOn}
 
 -- task 1 is born at desk 1, the rest are unborn
 abbrev pub startTasks : List Task
-startTasks = set (replicate 64 unborn) 0 (born (processorId 1))
+startTasks = set unbornTasks 0 (born (processorId 1))
 
--- no letter
-abbrev pub noLetters : Network
-noLetters = record { slots = replicate 256 noSlot; used = 0 }
-
--- nothing is kept for channels, at desks and for the channels themselves
-abbrev pub noTables : Tables
-noTables =
-    record {
-      hintprocessors = replicate 768 0;
-      hintmoves = replicate 768 0;
-      heldprocessors = replicate 768 0;
-      heldnumbers = replicate 768 0;
-      notes = replicate 768 0;
-    }
-
-abbrev pub noChannels : Channels
-noChannels =
-    record {
-      granted = replicate 128 0;
-      awaiting = replicate 128 false;
-      carriedprocessors = replicate 128 0;
-      carriednumbers = replicate 128 0;
-      travellingprocessors = replicate 128 0;
-      travellingmoves = replicate 128 0;
-    }
-
+-- nothing is kept for channels
 abbrev pub noStore : Store
 noStore = store noTables noChannels
 

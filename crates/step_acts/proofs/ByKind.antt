@@ -9,8 +9,9 @@ use Rattle.base.specs.Choice.{pick, unless}
 use Rattle.rules.specs.declared.task.Task.{Task}
 use Rattle.rules.specs.declared.step.Step.{Step}
 use Rattle.rules.specs.declared.step.StepAnswer.the-variants.{NoMessage, BadStep}
+use Rattle.rules.specs.declared.system.Store.{Store}
 use Rattle.rules.specs.Numbers.{taskId, processorId}
-use Rattle.judge.specs.declared.store.Store.{Store}
+use Rattle.rules.specs.Steps.{wellFormed}
 use Rattle.judge.specs.declared.change.Verdict.{Verdict}
 use Rattle.judge.specs.declared.change.Verdict.the-variants.{Refused}
 use Rattle.judge.specs.Facts.{Facts}
@@ -20,27 +21,27 @@ use Rattle.board.specs.Verdicts.{stepVerdict}
 use Rattle.step_acts.specs.Kinds.{kindRefusal}
 
 -- a refusal under the choice
-under : (a b : Bool) → pick a (unless b (Refused BadStep) (Refused NoMessage)) (Refused BadStep) ≡ Refused (pick a (unless b BadStep NoMessage) BadStep)
-under true true = refl
-under true false = refl
-under false b = refl
+under : (a b : Bool) (v : Verdict) → unless (pick a b false) (Refused BadStep) (pick a (Refused NoMessage) v) ≡ Refused (pick a (unless b BadStep NoMessage) BadStep)
+under true true v = refl
+under true false v = refl
+under false b v = refl
 
 module _ (f : Facts) (n : ℕ) (ts : List Task) (s : Store) (used : ℕ) (x : Step) where
   abbrev verdict : Verdict
   verdict = stepVerdict f n ts s used x
 
   pub bad-run : x .kind ≡ 1 → (x .number ≡ 0 → ⊥) → verdict ≡ Refused BadStep
-  unfolding stepVerdict
+  unfolding stepVerdict wellFormed
   bad-run k h = rw (k, ne-eqb (x .number) 0 h) refl
 
   pub a-run : x .kind ≡ 1 → x .number ≡ 0 → verdict ≡ judgedRun f n ts s used (taskId (x .task))
-  unfolding stepVerdict
+  unfolding stepVerdict wellFormed
   a-run k h = rw (k, h) refl
 
   pub a-move : x .kind ≡ 3 → verdict ≡ judgedMove (f .tasks) n ts used (taskId (x .task)) (processorId (x .number))
-  unfolding stepVerdict
+  unfolding stepVerdict wellFormed
   a-move k = rw k refl
 
   pub no-run-no-move : (x .kind ≡ 1 → ⊥) → (x .kind ≡ 3 → ⊥) → verdict ≡ Refused (kindRefusal x)
-  unfolding stepVerdict
-  no-run-no-move k h = rw (ne-eqb (x .kind) 1 k, ne-eqb (x .kind) 3 h) (under (eqb (x .kind) 2) (eqb (x .task) 0))
+  unfolding stepVerdict wellFormed
+  no-run-no-move k h = rw (ne-eqb (x .kind) 1 k, ne-eqb (x .kind) 3 h) (under (eqb (x .kind) 2) (eqb (x .task) 0) _)

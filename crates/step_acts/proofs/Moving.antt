@@ -18,12 +18,13 @@ use Rattle.rules.specs.declared.system.Channels.{Channels}
 use Rattle.rules.specs.Answers.{isAccepted}
 use Rattle.rules.specs.Tasks.{departed}
 use Rattle.rules.specs.Networks.{lettersOf}
+use Rattle.rules.specs.Systems.{store, taskIn, taskStored}
 use Rattle.judge.specs.declared.sweep.CellRule.the-variants.{Locate, DepartSending}
 use Rattle.judge.specs.declared.change.Change.{Change}
 use Rattle.judge.specs.declared.change.Verdict.{Verdict}
 use Rattle.judge.specs.declared.change.Verdict.the-variants.{Refused, Accepted as Allowed}
-use Rattle.judge.specs.Store.{store, forEnds}
-use Rattle.judge.specs.Fetches.{taskIn, taskStored, cellPut}
+use Rattle.judge.specs.Sweeps.{forEnds}
+use Rattle.judge.specs.Fetches.{cellPut}
 use Rattle.judge.specs.MoveVerdicts.{moveChange, moveRefusal, judgedMove}
 use Rattle.judge.specs.Answers.{verdictOf}
 use Rattle.judge.proofs.BoundsParts.{count-few}

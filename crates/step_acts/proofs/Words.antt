@@ -14,17 +14,17 @@ use Rattle.rules.specs.declared.task.Task.{Task}
 use Rattle.rules.specs.declared.task.TaskState.the-variants.{Ready}
 use Rattle.rules.specs.declared.step.Step.{Step}
 use Rattle.rules.specs.declared.system.Channels.{Channels}
+use Rattle.rules.specs.declared.system.Store.{Store}
 use Rattle.rules.specs.Numbers.{taskId}
 use Rattle.rules.specs.Networks.{lettersOf}
-use Rattle.rules.specs.Steps.{isRun}
+use Rattle.rules.specs.Steps.{isRun, wellFormed}
+use Rattle.rules.specs.Systems.{store, taskIn, taskStored}
 use Rattle.rules.specs.Tasks.{isIn}
-use Rattle.judge.specs.declared.store.Store.{Store}
-use Rattle.judge.specs.Store.{store}
 use Rattle.judge.specs.declared.change.Scope.{Scope}
 use Rattle.judge.specs.declared.change.Verdict.{Verdict}
 use Rattle.judge.specs.declared.change.Verdict.the-variants.{Accepted}
 use Rattle.judge.specs.Facts.{Facts}
-use Rattle.judge.specs.Fetches.{taskIn, taskStored, cellPut, siteIn}
+use Rattle.judge.specs.Fetches.{cellPut, siteIn}
 use Rattle.judge.specs.Scopes.{alone, runScope}
 use Rattle.judge.specs.RunVerdicts.{runRefusal, judgedRun, ranIn, runChange, sendIn, taskChange}
 use Rattle.judge.proofs.BoundsReady.{nextAt}
@@ -54,7 +54,7 @@ module _ (f : Facts) (n : ℕ) (ts : List Task) (s : Store) (used : ℕ) (x : St
   -- a set or an add of a ready task is accepted
   pub word-judged : isRun x ≡ true → x .number ≡ 0 → within 1 (f .tasks) (x .task) ≡ true → isIn Ready (taskIn ts t) ≡ true → 6 ≤ nextAt f ts t .opcode → used ≤ 256
       → stepVerdict f n ts s used x ≡ Accepted (taskChange k (siteIn (f .operands) ts s k) (wordChanged (taskIn ts t) (nextAt f ts t)))
-  unfolding stepVerdict judgedRun runRefusal ranIn runChange runScope sendIn siteIn lettersOf
+  unfolding stepVerdict judgedRun runRefusal ranIn runChange runScope sendIn siteIn lettersOf wellFormed
   word-judged run zero w ready high few =
       let o = nextAt f ts t .opcode in
       rw

@@ -9,7 +9,7 @@ use Rattle.plan.specs.declared.ProcessorId.{ProcessorId}
 use Rattle.rules.specs.declared.task.Task.{Task}
 use Rattle.rules.specs.declared.task.TaskState.the-variants.{Ready}
 use Rattle.rules.specs.Tasks.{isIn}
-use Rattle.judge.specs.Fetches.{taskIn}
+use Rattle.rules.specs.Systems.{taskIn}
 use Rattle.judge.specs.MoveVerdicts.{readyCounts, judgedMove}
 use Rattle.user_table.specs.Users.{sendersOf, receiversOf, Indexed}
 use Rattle.board.specs.declared.act.Act.{Act}

@@ -6,13 +6,14 @@ use Rattle.plan.specs.declared.Plan.{Plan}
 use Rattle.rules.specs.declared.message.Network.{Network}
 use Rattle.rules.specs.declared.system.Tables.{Tables}
 use Rattle.rules.specs.declared.system.Channels.{Channels}
+use Rattle.rules.specs.declared.system.Store.{Store}
 use Rattle.rules.specs.Numbers.{taskId, processorId}
-use Rattle.rules.specs.Starts.{started}
+use Rattle.rules.specs.Starts.{started, noLetters, noTables, noChannels}
+use Rattle.rules.specs.Systems.{store}
 use Rattle.rules_laws.proofs.Shapes.{started-shaped, started-plan, started-processors}
 use Rattle.rules_sound.proofs.Starts.{started-ok}
-use Rattle.judge.specs.declared.store.Store.{Store}
 use Rattle.judge.specs.declared.sweep.CellRule.the-variants.{Locate}
-use Rattle.judge.specs.Store.{store, forEnds}
+use Rattle.judge.specs.Sweeps.{forEnds}
 use Rattle.judge.specs.Facts.{Facts, facts, factsOf}
 use Rattle.core.specs.Turns.{Rig}
 use Rattle.user_table.specs.Users.{receiversOf}
@@ -20,7 +21,7 @@ use Rattle.user_table.specs.Built.{Few, Built}
 use Rattle.board.specs.Lent.{lent, tasksOn, storeOf}
 use Rattle.board.specs.Acted.{StoredBy}
 use Rattle.board.specs.Rigs.{factsIn}
-use Rattle.starts.specs.Parts.{noLetters, noTables, noChannels, startStore, StartsOn}
+use Rattle.starts.specs.Parts.{startStore, StartsOn}
 use Rattle.starts.proofs.Starting.{started-tasks, started-network, started-store}
 use Rattle.starts.proofs.Tables.{few-ends}
 use Rattle.stepfile.specs.Begins.{Begins}

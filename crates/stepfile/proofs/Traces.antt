@@ -10,12 +10,12 @@ use Rattle.rules.specs.declared.task.Task.{Task}
 use Rattle.rules.specs.declared.message.Network.{Network}
 use Rattle.rules.specs.declared.step.Step.{Step}
 use Rattle.rules.specs.declared.system.System.{System}
+use Rattle.rules.specs.declared.system.Store.{Store}
 use Rattle.rules.specs.Steps.{History, stepsBy, steps, ruledSteps, quiescent}
 use Rattle.rules.specs.Trace.{stepLines}
 use Rattle.rules.specs.StepFiles.{traceLines}
 use Rattle.rules_sound.proofs.Sound.{sound}
 use Rattle.rules_sound.proofs.Kept.{ruled-steps}
-use Rattle.judge.specs.declared.store.Store.{Store}
 use Rattle.judge.specs.Facts.{Facts}
 use Rattle.judge.specs.Rests.{restIn}
 use Rattle.core.specs.Turns.{Rig}

@@ -8,16 +8,16 @@ use lib.Dec.{eqb}
 use lib.ListN.{length}
 use borrow.Author.Tests.{eqb-true}
 use Rattle.base.specs.Choice.{unless, within}
-use Rattle.base.proofs.Choices.{pick-cases}
+use Rattle.base.proofs.Choices.{pick-either}
 use Rattle.base.proofs.Tests.{within-low}
 use Rattle.rules.specs.declared.task.Task.{Task}
 use Rattle.rules.specs.declared.message.Network.{Network}
 use Rattle.rules.specs.declared.step.Report.{Report}
 use Rattle.rules.specs.declared.step.Step.{Step}
+use Rattle.rules.specs.declared.system.Store.{Store}
 use Rattle.rules.specs.Numbers.{taskId, processorId}
 use Rattle.rules.specs.Networks.{enqueuedAll, lettersOf, letterAt, dequeued}
-use Rattle.rules.specs.Steps.{isRun, isDeliver, isMove}
-use Rattle.judge.specs.declared.store.Store.{Store}
+use Rattle.rules.specs.Steps.{isRun, isDeliver, isMove, wellFormed}
 use Rattle.judge.specs.declared.change.Verdict.{Verdict}
 use Rattle.judge.specs.declared.change.Verdict.the-variants.{Refused, Accepted}
 use Rattle.judge.specs.Facts.{PartsOf, Facts}
@@ -61,7 +61,7 @@ by-bool false p q = q refl
 -- a step that delivers no letter
 module _ (f : Facts) (n : ℕ) (ts : List Task) (k : Network) (s : Store) (x : Step) where
   pub other-turn : positionOf (k .used) x ≡ 0 → settled (f .senders) (f .receivers) n (stepVerdict f n ts s (k .used) x) ts k s ≡ turnOf f n ts k s x
-  unfolding turnOf stepVerdict deliveredTurn positionOf
+  unfolding turnOf stepVerdict wellFormed deliveredTurn positionOf
   other-turn none =
       by-bool (isRun x)
       (λ e. rw e (by-bool (eqb (x .number) 0) (λ y. rw y refl) (λ y. rw y refl)))
@@ -80,7 +80,7 @@ module _ (f : Facts) (n : ℕ) (ts : List Task) (k : Network) (s : Store) (x : S
   -- a step that delivers the letter at position p
   pub letter-turn : (p : ℕ) → p ≡ positionOf (k .used) x → (p ≡ 0 → ⊥)
       → settled (f .senders) (f .receivers) n (Accepted (openedIn f ts s (letterAt k p))) ts (dequeued k p) s ≡ turnOf f n ts k s x
-  unfolding turnOf deliveredTurn positionOf
+  unfolding turnOf wellFormed deliveredTurn positionOf
   letter-turn p at some =
       by-bool (isDeliver x)
       (λ d.
@@ -113,7 +113,6 @@ step-room {f} {n} {ts} {s} {used} p x e =
     let Ok : Verdict → Type 0 = λ v. verdictOk n used v ≡ true in
     rw e
     (room-of n used (stepVerdict f n ts s used x) (used-few p)
-    (pick-cases Ok (isRun x) _ _ (λ a. either Ok (eqb (x .number) 0) _ _ refl (run-feasible p (taskId (x .task))))
-    (λ a.
-    pick-cases Ok (isDeliver x) _ _ (λ b. either Ok (eqb (x .task) 0) _ _ refl refl)
-    (λ b. pick-cases Ok (isMove x) _ _ (λ d. move-feasible p (taskId (x .task)) (processorId (x .number))) (λ d. refl)))))
+    (either Ok (wellFormed x) _ _ refl
+    (pick-either Ok (isRun x) _ _ (run-feasible p (taskId (x .task)))
+    (pick-either Ok (isDeliver x) _ _ refl (move-feasible p (taskId (x .task)) (processorId (x .number)))))))

@@ -11,9 +11,9 @@ use Rattle.base.proofs.Tables.{table-more, length-table}
 use Rattle.rules.specs.declared.task.Task.{Task}
 use Rattle.rules.specs.declared.message.Network.{Network}
 use Rattle.rules.specs.declared.step.Step.{Step}
+use Rattle.rules.specs.declared.system.Store.{Store}
 use Rattle.rules.specs.Trace.{stepLine, stepLines}
 use Rattle.rules.specs.StepFiles.{text, fitting}
-use Rattle.judge.specs.declared.store.Store.{Store}
 use Rattle.judge.specs.Facts.{Facts}
 use Rattle.core.specs.declared.turn.Turn.{Turn}
 use Rattle.core.specs.Turns.{turnOf, Rig}

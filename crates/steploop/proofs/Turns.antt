@@ -6,7 +6,7 @@ use lib.ListN.{length}
 use Rattle.rules.specs.declared.task.Task.{Task}
 use Rattle.rules.specs.declared.message.Network.{Network}
 use Rattle.rules.specs.declared.step.Step.{Step}
-use Rattle.judge.specs.declared.store.Store.{Store}
+use Rattle.rules.specs.declared.system.Store.{Store}
 use Rattle.judge.specs.Facts.{Facts}
 use Rattle.core.specs.Turns.{turnOf}
 use Rattle.steploop.specs.Writes.{Turns, turnsOf}

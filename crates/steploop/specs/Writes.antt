@@ -9,9 +9,9 @@ use Rattle.rules.specs.declared.task.Task.{Task}
 use Rattle.rules.specs.declared.message.Network.{Network}
 use Rattle.rules.specs.declared.step.Step.{Step}
 use Rattle.rules.specs.declared.step.Report.{Report}
+use Rattle.rules.specs.declared.system.Store.{Store}
 use Rattle.rules.specs.Trace.{stepLines}
 use Rattle.rules.specs.StepFiles.{text, fitting, fileSteps}
-use Rattle.judge.specs.declared.store.Store.{Store}
 use Rattle.judge.specs.Facts.{Facts}
 use Rattle.core.specs.Turns.{turnOf}
 use Rattle.board.specs.Lent.{Lent, tasksOf, storeOf}

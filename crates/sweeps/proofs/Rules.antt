@@ -12,13 +12,13 @@ use Rattle.rules.specs.declared.channel.Channel.{Channel}
 use Rattle.rules.specs.declared.channel.Hint.{Hint}
 use Rattle.rules.specs.declared.channel.Offer.{Offer}
 use Rattle.rules.specs.Cells.{hint, newer, larger, noOffer, unknown, withHint, withHeld, withCarried, withTravelling}
-use Rattle.rules.specs.Systems.{entryIndex, writeChannel}
+use Rattle.rules.specs.Systems.{entryIndex, writeChannel, cellIn, cellStored}
 use Rattle.rules.specs.Starts.{located}
 use Rattle.rules.specs.Arrivals.{takenOver, arrivalReceiving, arrivalSending}
 use Rattle.rules.specs.Moves.{departureSending}
 use Rattle.judge.specs.declared.sweep.CellRule.{CellRule}
 use Rattle.judge.specs.declared.sweep.CellRule.the-variants.{Locate, ArriveReceiving, ArriveSending, DepartSending}
-use Rattle.judge.specs.Store.{cellIn, cellStored, ruleOf, ruledAt}
+use Rattle.judge.specs.Sweeps.{ruleOf, ruledAt}
 use Rattle.board.specs.Lent.{Lent, Whole, lent, channelsOn, tasksOn, storeOf, hintIn, heldIn, noteIn}
 use Rattle.board.specs.Acted.{StoredBy}
 use Rattle.board.proofs.Stores.{columns-stored}

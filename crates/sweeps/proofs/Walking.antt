@@ -9,9 +9,10 @@ use borrow.Author.Tests.{eq-eqb, ne-eqb}
 use Rattle.plan.specs.declared.TaskId.{TaskId}
 use Rattle.plan.specs.declared.ProcessorId.{ProcessorId}
 use Rattle.rules.specs.Numbers.{channelId}
-use Rattle.judge.specs.declared.store.Store.{Store}
+use Rattle.rules.specs.declared.system.Store.{Store}
+use Rattle.rules.specs.Effects.{forCells}
 use Rattle.judge.specs.declared.sweep.CellRule.{CellRule}
-use Rattle.judge.specs.Store.{forCells, ruleOf, ruledAt, endIs, forEnds}
+use Rattle.judge.specs.Sweeps.{ruleOf, ruledAt, endIs, forEnds}
 use Rattle.judge.proofs.Sweeping.{cells-none, cells-here, cells-past}
 use Rattle.user_table.specs.Links.{Linked}
 use Rattle.user_table.proofs.Following.{reached, reached-end, reached-before, Follows, first-skips, after-skips, first-follows, after-follows, after-later, after-most}

@@ -2,9 +2,9 @@
 -- on the held offers.
 use mathlib.Core.List.{List}
 use Prim.Native.Nat.{ℕ}
-use Rattle.judge.specs.declared.store.Store.{Store}
 use Rattle.board.specs.Lent.{Whole, lent}
 use Rattle.board.specs.Acted.{StoredBy}
+use Rattle.rules.specs.declared.system.Store.{Store}
 
 -- in the pointers
 abbrev pub HintsBy : (Store → Store) → List ℕ → List ℕ → List ℕ → List ℕ → Type 0

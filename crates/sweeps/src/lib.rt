@@ -2,7 +2,7 @@
 ghost use Prim.Native.Nat.{_≤_};
 ghost use Rattle.judge.specs.declared.sweep.CellRule.the-variants.{Locate, ArriveReceiving, ArriveSending, DepartSending};
 ghost use Rattle.judge.specs.declared.sweep.Sweep.the-variants.{Arrival};
-ghost use Rattle.judge.specs.Store.{ruledAt, forEnds, swept};
+ghost use Rattle.judge.specs.Sweeps.{ruledAt, forEnds, swept};
 ghost use Rattle.user_table.specs.Users.{Indexed, sendersOf, receiversOf};
 ghost use Rattle.board.specs.Lent.{Whole, AtCell};
 ghost use Rattle.sweeps.specs.Sweeps.{HintsBy, PointersBy, OffersBy};

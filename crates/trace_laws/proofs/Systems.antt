@@ -4,7 +4,7 @@ use mathlib.Core.Bool.{Bool, true}
 use mathlib.Core.List.{List, [], _∷_, _++_}
 use Prim.Native.Nat.{ℕ, suc, _-_}
 use lib.Dec.{eqb}
-use lib.ListN.{take, drop}
+use lib.ListN.{set, take, drop}
 use Rattle.base.specs.Lists.{every}
 use Rattle.base.proofs.Choices.{pick-either}
 use Rattle.base.proofs.Tests.{and-left, and-right, and-both, every-append}
@@ -22,7 +22,7 @@ use Rattle.rules.specs.declared.system.System.{System}
 use Rattle.rules.specs.Numbers.{taskId, processorId, channelId}
 use Rattle.rules.specs.Tasks.{noTask, born}
 use Rattle.rules.specs.Networks.{slot, noSlot, letterAt, enqueued, enqueuedAll, dequeued}
-use Rattle.rules.specs.Systems.{withNetwork, taskAt, withTask, withCell}
+use Rattle.rules.specs.Systems.{withNetwork, taskAt, withTask, withCell, taskIn, taskStored}
 use Rattle.rules.specs.Effects.{Effect, completed, withOutcome, forChannels}
 use Rattle.rules.specs.Starts.{birth, blank, started}
 use Rattle.rules_laws.proofs.ForChannels.{forChannels-all}
@@ -30,7 +30,7 @@ use Rattle.trace_laws.specs.Words.{taskFits, messageFits, slotFits, FitS
 
 module _ (r : System) (h : FitSystem r) where
   pub task-fits : (t : TaskId) → taskFits (taskAt r t) ≡ true
-  unfolding taskAt
+  unfolding taskIn
   task-fits t = pick-either (λ x. taskFits x ≡ true) (eqb (t .0) 0) noTask _ refl (every-any taskFits (r .tasks) (t .0 - 1) noTask refl (h .tasks))
 
   pub letter-there : (p : ℕ) → messageFits (letterAt (r .network) p) ≡ true
@@ -38,10 +38,11 @@ module _ (r : System) (h : FitSystem r) where
   letter-there p = every-any slotFits (r .network .slots) (p - 1) noSlot refl (h .slots)
 
   pub put-task : (t : TaskId) (x : Task) → taskFits x ≡ true → FitSystem (withTask r t x)
-  unfolding withTask
+  unfolding withTask taskStored
   put-task t x k =
-      pick-either FitSystem (eqb (t .0) 0) r _ h
-      (record { tasks = every-set taskFits (r .tasks) (t .0 - 1) x (h .tasks) k; slots = h .slots })
+      let ys = set (r .tasks) (t .0 - 1) x in
+      let each = every-set taskFits (r .tasks) (t .0 - 1) x (h .tasks) k in
+      record { tasks = pick-either (λ (l : List Task). every taskFits l ≡ true) (eqb (t .0) 0) (r .tasks) ys (h .tasks) each; slots = h .slots }
 
   put-cell : (d : ProcessorId) (c : ChannelId) (x : Cell) → FitSystem (withCell r d c x)
   unfolding withCell

@@ -4,9 +4,9 @@ use native.Mathlib.Omega.{arith}
 use lib.ListN.{length-set}
 use borrow.Author.Needs.{needs}
 use borrow.Author.Tests.{ne-eqb}
-use Rattle.judge.specs.Fetches.{taskStored}
 use Rattle.board.proofs.Stores.{task-written, channels-kept}
 use Rattle.board.proofs.put_task.Statement.{statement}
+use Rattle.rules.specs.Systems.{taskStored}
 use Rattle.board.proofs.put_task.Tie as tie
 
 wide8-requires : tie.Need-wide8-requires

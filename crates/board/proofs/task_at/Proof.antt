@@ -3,9 +3,9 @@ use mathlib.Core.Path.{_≡_, refl}
 use native.Mathlib.Omega.{arith}
 use borrow.Author.Needs.{needs}
 use borrow.Author.Tests.{ne-eqb}
-use Rattle.judge.specs.Fetches.{taskIn}
 use Rattle.board.proofs.Stores.{task-read}
 use Rattle.board.proofs.task_at.Statement.{statement}
+use Rattle.rules.specs.Systems.{taskIn}
 use Rattle.board.proofs.task_at.Tie as tie
 
 no-task-requires : tie.Need-no-task-requires

@@ -3,9 +3,9 @@ use mathlib.Core.Path.{_≡_, refl, _∙_}
 use Prim.Native.Nat.{_≤_, _-_}
 use native.Mathlib.Omega.{arith}
 use borrow.Author.Needs.{needs}
-use Rattle.judge.specs.Fetches.{taskStored}
 use Rattle.starts.proofs.Boards.{Unborn, unborn-none, unborn-more, unborn-channels, unborn-tasks}
 use Rattle.starts.proofs.start_board.Statement.{statement}
+use Rattle.rules.specs.Systems.{taskStored}
 use Rattle.starts.proofs.start_board.Tie as tie
 
 abbrev Inv-loop : tie.InvT-loop

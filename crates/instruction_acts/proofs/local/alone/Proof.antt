@@ -4,8 +4,8 @@ use borrow.Author.Needs.{needs}
 use Rattle.rules.specs.declared.rule.Posting.the-variants.{Nothing as NoPosting}
 use Rattle.rules.specs.Numbers.{taskId}
 use Rattle.rules.specs.Tasks.{noTask}
+use Rattle.rules.specs.Systems.{taskStored}
 use Rattle.judge.specs.declared.sweep.Sweep.the-variants.{Nothing}
-use Rattle.judge.specs.Fetches.{taskStored}
 use Rattle.board.specs.Lent.{lent}
 use Rattle.instruction_acts.proofs.Locals.{two-acted}
 use Rattle.instruction_acts.proofs.local.alone.Statement.{statement}

@@ -8,10 +8,10 @@ use borrow.Author.Tests.{not-true, not-false}
 use Rattle.rules.specs.declared.rule.Finished.{Finished}
 use Rattle.rules.specs.Local.{finishRule}
 use Rattle.rules.specs.Networks.{lettersOf}
+use Rattle.rules.specs.Systems.{taskIn}
 use Rattle.judge.specs.declared.sweep.Sweep.the-variants.{Nothing}
 use Rattle.judge.specs.declared.change.Change.{Change}
 use Rattle.judge.specs.declared.change.Verdict.the-variants.{Accepted}
-use Rattle.judge.specs.Fetches.{taskIn}
 use Rattle.judge.specs.Scopes.{namedIn}
 use Rattle.judge.specs.RunVerdicts.{fittingIn}
 use Rattle.user_table.specs.Users.{parentsOf}

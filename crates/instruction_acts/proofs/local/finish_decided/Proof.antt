@@ -8,7 +8,7 @@ use borrow.Author.Tests.{not-true, not-false}
 use Rattle.rules.specs.declared.rule.Finished.{Finished}
 use Rattle.rules.specs.Local.{finishRule}
 use Rattle.rules.specs.Networks.{lettersOf}
-use Rattle.judge.specs.Fetches.{taskIn}
+use Rattle.rules.specs.Systems.{taskIn}
 use Rattle.judge.specs.Scopes.{namedIn}
 use Rattle.user_table.specs.Users.{parentsOf}
 use Rattle.board.specs.Lent.{tasksOn}

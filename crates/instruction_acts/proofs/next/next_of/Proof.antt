@@ -11,7 +11,8 @@ use Rattle.plan.specs.Kinds.{opFinish, isFinish}
 use Rattle.rules.specs.declared.task.Task.{Task}
 use Rattle.rules.specs.declared.task.TaskState.the-variants.{Ready}
 use Rattle.rules.specs.Tasks.{isIn, isChildless}
-use Rattle.judge.specs.Fetches.{taskIn, instructionIn}
+use Rattle.rules.specs.Systems.{taskIn}
+use Rattle.judge.specs.Fetches.{instructionIn}
 use Rattle.board.specs.Lent.{tasksOn}
 use Rattle.instruction_acts.specs.declared.next.Next.the-variants.{Runs}
 use Rattle.instruction_acts.specs.Nexts.{nextOf}

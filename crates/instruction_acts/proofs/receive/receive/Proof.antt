@@ -1,7 +1,6 @@
 -- `receive`: a receive of task t on channel c.
 use mathlib.Core.Path.{_≡_, refl, _∙_}
 use borrow.Author.Tests.{not-true, not-false}
-use Rattle.judge.specs.Fetches.{taskIn}
 use Rattle.user_table.specs.Users.{sendersOf}
 use Rattle.board.specs.Lent.{lent, tasksOn}
 use Rattle.board.proofs.Acts.{none-fits, all-stored}
@@ -10,6 +9,7 @@ use Rattle.instruction_acts.proofs.Receiving.{receive-kept, receive-des
 use Rattle.instruction_acts.proofs.Stored.{both-stored, note-stored}
 use borrow.Author.Needs.{needs}
 use Rattle.instruction_acts.proofs.receive.receive.Statement.{statement}
+use Rattle.rules.specs.Systems.{taskIn}
 use Rattle.instruction_acts.proofs.receive.receive.Tie as tie
 
 -- where it began

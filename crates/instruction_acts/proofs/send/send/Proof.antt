@@ -1,7 +1,6 @@
 -- `send`: a send of task t on channel c.
 use mathlib.Core.Path.{_≡_, refl, _∙_}
 use borrow.Author.Tests.{not-true, not-false}
-use Rattle.judge.specs.Fetches.{taskIn}
 use Rattle.user_table.specs.Users.{receiversOf}
 use Rattle.board.specs.Lent.{lent, tasksOn}
 use Rattle.board.proofs.Stores.{held-stored}
@@ -11,6 +10,7 @@ use Rattle.instruction_acts.proofs.Sending.{send-noted, send-hint, send
 use Rattle.instruction_acts.proofs.Stored.{both-stored}
 use borrow.Author.Needs.{needs}
 use Rattle.instruction_acts.proofs.send.send.Statement.{statement}
+use Rattle.rules.specs.Systems.{taskIn}
 use Rattle.instruction_acts.proofs.send.send.Tie as tie
 
 -- where it began

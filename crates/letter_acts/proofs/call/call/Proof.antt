@@ -1,7 +1,6 @@
 -- A call. What it leaves is stored.
 use mathlib.Core.Path.{refl, sym, ap, _∙_}
 use Rattle.plan.specs.declared.TaskId.{TaskId}
-use Rattle.judge.specs.Fetches.{taskStored}
 use Rattle.board.specs.Lent.{lent, tasksOn}
 use Rattle.letter_acts.proofs.Others.{no-other}
 use Rattle.letter_acts.proofs.Bounds.{Bounded, call-bounded, senderIn, receiverIn}
@@ -11,6 +10,7 @@ use Rattle.letter_acts.proofs.Stores.{hint-stored}
 use Rattle.letter_acts.proofs.Sites.{opened}
 use borrow.Author.Needs.{needs}
 use Rattle.letter_acts.proofs.call.call.Statement.{statement}
+use Rattle.rules.specs.Systems.{taskStored}
 use Rattle.letter_acts.proofs.call.call.Tie as tie
 
 -- the channel and the desk that the letter names

@@ -3,8 +3,7 @@ use mathlib.Core.Path.{refl, sym, ap, _∙_}
 use Prim.Native.Nat.{_-_}
 use Rattle.plan.specs.declared.TaskId.{TaskId}
 use Rattle.rules.specs.declared.system.Channels.{Channels}
-use Rattle.rules.specs.Systems.{writeChannel}
-use Rattle.judge.specs.Fetches.{taskStored}
+use Rattle.rules.specs.Systems.{writeChannel, taskStored}
 use Rattle.board.specs.Lent.{lent, tasksOn}
 use Rattle.letter_acts.proofs.Others.{no-other}
 use Rattle.letter_acts.proofs.Bounds.{Bounded, word-bounded, senderIn, receiverIn}

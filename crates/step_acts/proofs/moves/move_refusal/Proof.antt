@@ -12,7 +12,7 @@ use Rattle.rules.specs.declared.task.Task.{Task}
 use Rattle.rules.specs.declared.task.TaskState.the-variants.{Ready}
 use Rattle.rules.specs.Numbers.{processorId}
 use Rattle.rules.specs.Tasks.{isIn, isAt, isChildless}
-use Rattle.judge.specs.Fetches.{taskIn}
+use Rattle.rules.specs.Systems.{taskIn}
 use Rattle.judge.specs.MoveVerdicts.{moveRefusal}
 use Rattle.board.specs.Lent.{tasksOn}
 use Rattle.step_acts.proofs.Moving.{one-fits, one-over}

@@ -11,9 +11,9 @@ use Rattle.base.proofs.Tests.{within-low, within-high}
 use Rattle.rules.specs.declared.task.Task.{Task}
 use Rattle.rules.specs.Answers.{isAccepted}
 use Rattle.rules.specs.Numbers.{processorId}
+use Rattle.rules.specs.Systems.{taskIn}
 use Rattle.judge.specs.declared.change.Verdict.{Verdict}
 use Rattle.judge.specs.declared.change.Verdict.the-variants.{Accepted as Allowed}
-use Rattle.judge.specs.Fetches.{taskIn}
 use Rattle.judge.specs.MoveVerdicts.{moveChange, moveRefusal, judgedMove}
 use Rattle.judge.proofs.Passed.{MovePassed, move-passed}
 use Rattle.user_table.specs.Users.{sendersOf, receiversOf}

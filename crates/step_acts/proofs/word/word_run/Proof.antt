@@ -13,8 +13,9 @@ use Rattle.rules.specs.declared.task.Task.{Task}
 use Rattle.rules.specs.declared.task.TaskState.the-variants.{Ready}
 use Rattle.rules.specs.Numbers.{taskId}
 use Rattle.rules.specs.Tasks.{isIn}
+use Rattle.rules.specs.Systems.{taskIn, taskStored}
 use Rattle.judge.specs.Facts.{Facts}
-use Rattle.judge.specs.Fetches.{taskIn, instructionIn, taskStored}
+use Rattle.judge.specs.Fetches.{instructionIn}
 use Rattle.judge.proofs.BoundsParts.{count-few, used-few}
 use Rattle.judge.proofs.BoundsReady.{nextAt, place-some, place-last}
 use Rattle.user_table.specs.Users.{sendersOf, receiversOf}

@@ -1,55 +1,23 @@
--- What the rig keeps for channels, at desks and for the channels themselves, apart from the rig: read, changed, and swept over.
+-- What a birth, a departure and an arrival do to what the rig keeps for channels.
 use mathlib.Core.Bool.{Bool, true}
 use mathlib.Core.List.{List}
-use Prim.Native.Nat.{ℕ, zero, suc, _-_}
+use Prim.Native.Nat.{ℕ}
 use lib.Dec.{eqb}
 use lib.ListN.{getD}
-use Rattle.base.specs.Choice.{pick, within}
+use Rattle.base.specs.Choice.{within}
 use Rattle.plan.specs.declared.TaskId.{TaskId}
 use Rattle.plan.specs.declared.ProcessorId.{ProcessorId}
 use Rattle.plan.specs.declared.ChannelId.{ChannelId}
 use Rattle.rules.specs.declared.channel.Cell.{Cell}
-use Rattle.rules.specs.declared.system.Tables.{Tables}
-use Rattle.rules.specs.declared.system.Channels.{Channels}
-use Rattle.rules.specs.declared.system.System.{System}
-use Rattle.rules.specs.Numbers.{channelId}
-use Rattle.rules.specs.Systems.{withTables, withChannels, entryIndex, readEntry, writeEntry, readChannel, writeChannel}
+use Rattle.rules.specs.declared.system.Store.{Store}
+use Rattle.rules.specs.Effects.{cellRuled, forCells}
 use Rattle.rules.specs.Starts.{located}
 use Rattle.rules.specs.Arrivals.{arrivalReceiving, arrivalSending}
 use Rattle.rules.specs.Moves.{departureSending}
-pub use Rattle.judge.specs.declared.store.Store.{Store}
 use Rattle.judge.specs.declared.sweep.CellRule.{CellRule}
 use Rattle.judge.specs.declared.sweep.CellRule.the-variants.{Locate, ArriveReceiving, ArriveSending, DepartSending}
 use Rattle.judge.specs.declared.sweep.Sweep.{Sweep}
 use Rattle.judge.specs.declared.sweep.Sweep.the-variants.{Nothing, Birth, Departure, Arrival}
-
-abbrev pub store : Tables → Channels → Store
-store t k = record { tables = t; channels = k }
-
--- what a rig has of it, and the rig with another
-abbrev pub storeIn : System → Store
-storeIn r = store (r .tables) (r .channels)
-
-abbrev pub withStore : System → Store → System
-withStore r s = withChannels (withTables r (s .tables)) (s .channels)
-
--- the cell of desk d and channel c
-abbrev pub cellIn : Store → ProcessorId → ChannelId → Cell
-cellIn s d c = record { entry = readEntry (s .tables) (entryIndex d c); channel = readChannel (s .channels) (c .0 - 1) }
-
-abbrev pub cellStored : Store → ProcessorId → ChannelId → Cell → Store
-cellStored s d c x = store (writeEntry (s .tables) (entryIndex d c) (x .entry)) (writeChannel (s .channels) (c .0 - 1) (x .channel))
-
--- a rule for one channel, applied at desk d to channel c
-abbrev pub cellRuled : (Cell → Cell) → ProcessorId → ChannelId → Store → Store
-cellRuled rule d c s = cellStored s d c (rule (cellIn s d c))
-
--- the same for each of the channels 1 .. n of which the test holds
-unfoldable pub forCells : ℕ → (ChannelId → Bool) → (Cell → Cell) → ProcessorId → Store → Store
-forCells zero test rule d s = s
-forCells (suc n) test rule d s =
-    let q = forCells n test rule d s in
-    pick (test (channelId (suc n))) (cellRuled rule d (channelId (suc n)) q) q
 
 -- the rules for one channel of a task that is born, leaves or arrives
 abbrev pub ruleOf : CellRule → Cell → Cell
