@@ -18,18 +18,17 @@ use Rattle.plan.specs.declared.Instruction.{Instruction}
 use Rattle.plan.specs.declared.Plan.{Plan}
 use Rattle.plan.specs.declared.PlanAnswer.the-variants.{Accepted}
 use Rattle.plan.specs.Numbers.{channelId}
-use Rattle.plan.specs.Kinds.{opCreate, opSend, opReceive, isUse, noInstruction}
+use Rattle.plan.specs.Kinds.{opSend, isUse, noInstruction}
 use Rattle.plan.specs.Programs.{programAt, slotOf, inSlot, programs}
-use Rattle.plan.specs.Users.{firstOf}
 use Rattle.plan.specs.Refusals.{instructionOk, planAnswer}
 use Rattle.plan.proofs.Parts.{tasks-of, no-program-of, count-of, instruction-of}
 use Rattle.plan_laws.proofs.Answers.{plan-passed}
 use Rattle.plan_laws.proofs.Programs.{program-size, instruction-fine, send-operand}
 use Rattle.plan_rules.specs.Sizes.{sizesIn}
-use Rattle.plan_rules.proofs.Meaning.{sizes-of, most, users-of}
+use Rattle.plan_rules.specs.Firsts.{Firsts}
+use Rattle.plan_rules.proofs.Sized.{sizes-of, few-tasks}
 use Rattle.rules.specs.Places.{sendNumber}
-use Rattle.ends.specs.Derived.{numberIn, userIn, endsOf}
-use Rattle.ends.specs.Firsts.{firstUsers}
+use Rattle.ends.specs.Derived.{numberIn, endsOf}
 use Rattle.ends.specs.Numbers.{SendsFitAll, sentIn, slotNumber, sendNumbers}
 
 module _ (p : Plan) where
@@ -66,14 +65,11 @@ module _ (p : Plan) where
       (λ h. simp (le-ltb (s / 64) (p .tasks) (omega arith)) (no-number s (rw (no-program-of p (s / 64) (omega arith)) (omega arith)))))
 
 module _ (p : Plan) (a : planAnswer (programs p) ≡ Accepted) where
-  sizes : sizesIn (p .tasks) (p .lengths) ≡ true
+  pub sizes : sizesIn (p .tasks) (p .lengths) ≡ true
   sizes = sym (sizes-of p) ∙ plan-passed (programs p) a .sizes
 
   pub tasks-few : p .tasks ≤ 64
-  tasks-few = most p sizes
-
-  first-users-of : (k : ℕ) → firstUsers k (p .tasks) (p .lengths) (p .opcodes) (p .operands) ≡ table 129 (userIn (programs p) k)
-  first-users-of k = table-same 129 _ (userIn (programs p) k) (λ a h. ap firstOf (sym (users-of p sizes k a)))
+  tasks-few = few-tasks (p .tasks) (p .lengths) sizes
 
   pub sends-fit : SendsFitAll (p .tasks) (p .lengths) (p .opcodes) (p .operands)
   sends-fit k h =
@@ -91,16 +87,8 @@ module _ (p : Plan) (a : planAnswer (programs p) ≡ Accepted) where
   unfolding endsOf
   send-numbers-of = numbers-of p
 
-  -- the tables computed from the slots, together
-  pub ends-of : {senders receivers parents numbers : List ℕ}
-      → senders ≡ firstUsers opSend (p .tasks) (p .lengths) (p .opcodes) (p .operands)
-      → receivers ≡ firstUsers opReceive (p .tasks) (p .lengths) (p .opcodes) (p .operands)
-      → parents ≡ firstUsers opCreate (p .tasks) (p .lengths) (p .opcodes) (p .operands)
-      → numbers ≡ endsOf p .numbers
+  -- the tables, together
+  pub ends-of : {senders receivers parents numbers : List ℕ} → Firsts (programs p) parents senders receivers → numbers ≡ endsOf p .numbers
       → record { senders = senders; receivers = receivers; parents = parents; numbers = numbers } ≡ endsOf p
   unfolding endsOf
-  ends-of s r q n =
-      let senders = s ∙ first-users-of opSend in
-      let receivers = r ∙ first-users-of opReceive in
-      let parents = q ∙ first-users-of opCreate in
-      λ i. record { senders = senders i; receivers = receivers i; parents = parents i; numbers = n i }
+  ends-of f n = λ i. record { senders = f .senders i; receivers = f .receivers i; parents = f .parents i; numbers = n i }

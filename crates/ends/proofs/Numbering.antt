@@ -17,7 +17,7 @@ use Rattle.base.proofs.Sums.{sum-at-most}
 use Rattle.base.proofs.Tables.{all-same, as-table, getD-table, table-same, set-table}
 use Rattle.base.proofs.Tests.{and-false}
 use Rattle.plan.specs.Kinds.{opSend, isUse}
-use Rattle.plan_users.specs.Slots.{slotIn}
+use Rattle.plan_rules.specs.Slots.{slotIn}
 use Rattle.ends.specs.Numbers.{sentIn, slotNumber, sendOf, numberedTask, sendNumbers}
 use Rattle.ends.proofs.Filling.{ltb-other, fill-more}
 

@@ -1,4 +1,3 @@
 -- What is derived from an accepted plan, and what its parts compute, slot by slot.
 pub mod Derived
-pub mod Firsts
 pub mod Numbers

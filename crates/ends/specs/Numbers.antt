@@ -9,7 +9,7 @@ use Rattle.base.specs.Choice.{pick}
 use Rattle.base.specs.Range.{sumBelow}
 use Rattle.base.specs.Lists.{table}
 use Rattle.plan.specs.Kinds.{opSend, isUse}
-use Rattle.plan_users.specs.Slots.{slotIn}
+use Rattle.plan_rules.specs.Slots.{slotIn}
 
 -- a send among the first `count` instructions of task k + 1 names a channel up to 128
 abbrev pub SendsFit : List ℕ → List ℕ → ℕ → ℕ → Type 0

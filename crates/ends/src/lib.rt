@@ -1,6 +1,5 @@
 // What is derived once a run from an accepted plan: which task sends and which receives on each
 // channel, each task's parent, and the number of each send.
-mod firsts;
 pub mod numbers;
 
 ghost use mathlib.Core.Path.{_≡_};
@@ -9,6 +8,7 @@ ghost use Rattle.plan.specs.Programs.{programs};
 ghost use Rattle.plan.specs.Refusals.{planAnswer};
 ghost use Rattle.ends.specs.Derived.{endsOf};
 use plan::Plan;
+use plan_rules::slots::pass_slots;
 
 pub struct Ends {
     // the task that sends on channel c, and the one that receives on it, at c; 0 for none
@@ -20,19 +20,24 @@ pub struct Ends {
     pub numbers: [u8; 4096],
 }
 
-// The ends of an accepted plan.
+// The ends of an accepted plan: the pass over its instructions fills the first three tables.
 pub fn derive(p: Plan) -> Ends
     requires { ⌜ planAnswer (programs p) ≡ Accepted ⌝ }
     ensures { λ r. ⌜ r ≡ endsOf p ⌝ }
 {
     let tasks = p.tasks;
-    let found = plan_users::find_uses(tasks, &p.lengths, &p.opcodes, &p.operands);
-    let sends = found.sends;
-    let receives = found.receives;
-    let creates = found.creates;
-    let senders = firsts::first_tasks(sends);
-    let receivers = firsts::first_tasks(receives);
-    let parents = firsts::first_tasks(creates);
+    let mut parents = [0u8; 129];
+    let mut senders = [0u8; 129];
+    let mut receivers = [0u8; 129];
+    let pass = pass_slots(
+        tasks,
+        &p.lengths,
+        &p.opcodes,
+        &p.operands,
+        &mut parents,
+        &mut senders,
+        &mut receivers,
+    );
     let numbers = numbers::send_numbers(tasks, &p.lengths, &p.opcodes, &p.operands);
     Ends {
         senders: senders,

@@ -2,4 +2,5 @@
 pub mod Filling
 mod Entries
 mod Headers
+pub mod Rows
 pub mod Slots

@@ -42,9 +42,9 @@ module _ (b lengths : List ℕ) where
         let o : x .operand ≡ slotRead b lengths s .operand = rw (h, used) refl in
         rw (e, o) (fill-more 4096 (λ j. slotRead b lengths j .operand) 0 s q)
 
-    pub next-zeros : (z w : Bool) → z ≡ zerosTo b lengths s → w ≡ z && x .zero → w ≡ zerosTo b lengths (s + 1)
+    pub next-zeros : (z w : Bool) → z ≡ zerosTo b lengths s → w ≡ z && eqb (x .second) 0 → w ≡ zerosTo b lengths (s + 1)
     next-zeros z w e q =
-        let o : x .zero ≡ slotZero b lengths s = rw (h, used) refl in
+        let o : eqb (x .second) 0 ≡ slotZero b lengths s = rw (h, used) refl in
         rw (q, e, o) (sym (fold-more _&&_ true s (slotZero b lengths)))
 
     pub next-place : (at : ℕ) → at ≡ slotPlace lengths s → at + 4 ≡ slotPlace lengths (s + 1)

@@ -14,9 +14,13 @@ use Rattle.plan.specs.Kinds.{noInstruction}
 use Rattle.plan.specs.Files.{byteAt, word16, fileInstruction}
 use Rattle.plan_parts.specs.declared.code.Fetched.{Fetched}
 
--- the instruction at a place, and whether its second byte is zero
+-- the instruction at a place, and its second byte
 abbrev pub fetchedFrom : List ℕ → ℕ → Fetched
-fetchedFrom b at = record { opcode = byteAt b at; operand = word16 b (at + 2); zero = eqb (byteAt b (at + 1)) 0 }
+fetchedFrom b at = record { opcode = byteAt b at; second = byteAt b (at + 1); operand = word16 b (at + 2) }
+
+-- how many of its 64 slots a task of n instructions uses
+abbrev pub usedOf : ℕ → ℕ
+usedOf n = pick (ltb n 64) n 64
 
 -- the slot is used; how many of the first s are; and where a used slot's instruction stands
 abbrev pub usedSlot : List ℕ → ℕ → Bool

@@ -3,17 +3,16 @@ ghost use mathlib.Core.Path.{_≡_};
 ghost use mathlib.Core.Bool.{true};
 ghost use Prim.Native.Nat.{_+_, _*_, _<_, _≤_};
 ghost use lib.ListN.{length, drop};
-ghost use Rattle.plan_parts.specs.Code.{Empty, fetchedFrom, codeIn, codeOf};
+ghost use Rattle.plan_parts.specs.Code.{Empty, fetchedFrom, usedOf, codeIn, codeOf};
 use fields::byte_at;
 use fields::rest_at;
 use fields::word_at;
-use plan_users::used;
 
-// An instruction, and whether its second byte is zero.
+// An instruction, and its second byte.
 pub struct Fetched {
     pub opcode: u8,
+    pub second: u8,
     pub operand: u16,
-    pub zero: bool,
 }
 
 // The 16-bit field of two bytes.
@@ -31,8 +30,8 @@ fn fetch_near_end(file: &[u8], at: usize) -> Fetched
     let second = byte_at(file, at + 1);
     Fetched {
         opcode: byte_at(file, at),
+        second: second,
         operand: word_at(file, at + 2),
-        zero: second == 0,
     }
 }
 
@@ -47,9 +46,17 @@ pub fn fetch(file: &[u8], whole: bool, at: usize) -> Fetched
     let second = file[at + 1];
     Fetched {
         opcode: file[at],
+        second: second,
         operand: word(file[at + 2], file[at + 3]),
-        zero: second == 0,
     }
+}
+
+// How many of a task's 64 slots are used, of one with `count` instructions.
+fn used(count: u8) -> usize
+    ensures { λ r. ⌜ r ≡ usedOf count ⌝ }
+{
+    let n = base::wide8(count);
+    if n < 64 { n } else { 64 }
 }
 
 // The instructions of tasks with these numbers of instructions, put into empty slots: they stand one
@@ -77,7 +84,8 @@ fn read_code<'a>(
             let x = fetch(file, whole, at);
             opcodes[s] = x.opcode;
             operands[s] = x.operand;
-            zeros = base::both(zeros, x.zero);
+            let zero = x.second == 0;
+            zeros = base::both(zeros, zero);
             at += 4;
             i += 1;
         }

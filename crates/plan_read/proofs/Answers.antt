@@ -14,8 +14,8 @@ use Rattle.plan.specs.Programs.{programs}
 use Rattle.plan.specs.Refusals.{planAnswer}
 use Rattle.plan_parts.specs.declared.header.Header.{Header}
 use Rattle.plan_parts.specs.Code.{Code, codeOf}
-use Rattle.plan_scan.specs.Firsts.{Firsts}
-use Rattle.plan_scan.specs.Pass.{codeAnswer}
+use Rattle.plan_rules.specs.Firsts.{Firsts}
+use Rattle.plan_scan.specs.Code.{codeAnswer}
 use Rattle.plan_read.specs.Stages.{readRefused, answered, ofCode, planOf}
 
 answer-of : (p : Plan) (a : PlanAnswer) → a ≡ answered p a .answer

@@ -30,10 +30,10 @@ use Rattle.plan.specs.Outcomes.{planRead}
 use Rattle.plan.proofs.Parts.{tasks-in, program-in, no-program-in, count-in}
 use Rattle.plan_laws.proofs.Answers.{laid, sized-ok}
 use Rattle.plan_laws.proofs.Canonical.{meaning-canonical}
-use Rattle.plan_rules.proofs.Meaning.{sizes-of}
+use Rattle.plan_rules.proofs.Sized.{sizes-of}
 use Rattle.plan_parts.specs.Header.{noHeader, goodHeader, countsTo, headerOf}
 use Rattle.plan_parts.specs.Code.{usedSlot, usedTo, slotPlace, slotRead, codeOf}
-use Rattle.plan_scan.specs.Pass.{Whole}
+use Rattle.plan_scan.specs.Code.{Whole}
 use Rattle.plan_read.specs.Stages.{readRefused, answered, ofCode, planOf, Fits}
 use Rattle.plan_read.proofs.Rest.{byte-rest, instruction-rest}
 

@@ -14,8 +14,8 @@ use Rattle.plan.specs.Programs.{programs, canonical}
 use Rattle.plan.specs.Refusals.{planAnswer}
 use Rattle.plan_parts.specs.declared.header.Header.{Header}
 use Rattle.plan_parts.specs.Code.{Code, codeOf}
-use Rattle.plan_scan.specs.Firsts.{Firsts}
-use Rattle.plan_scan.specs.Pass.{Whole}
+use Rattle.plan_rules.specs.Firsts.{Firsts}
+use Rattle.plan_scan.specs.Code.{Whole}
 use Rattle.plan_read.specs.declared.Loaded.{Loaded}
 
 -- what a refused file gives

@@ -1,5 +1,12 @@
--- What the tests of a plan value compute is what the paper asks of the plan's meaning.
+-- What one instruction more changes; what the pass finds is what the paper asks of the plan.
 mod ByKind
-pub mod Scanning
+pub mod Sized
+pub mod Changes
+mod Nexts
+mod Marked
+mod Uses
+mod Taken
+pub mod Entries
+mod Present
 pub mod Meaning
-mod Tasks
+pub mod Values

@@ -1,34 +1,38 @@
--- What is computed from the slots of a plan value is what the paper asks of its meaning.
+-- What the pass over the instructions of a plan finds is what the paper asks of the plan: its answer, and the first tasks.
 use mathlib.Core.Path.{_≡_, refl, sym, _∙_, ap}
 use mathlib.Core.Bool.{Bool, true, false, not, _&&_, _||_, and-assoc}
 use mathlib.Core.List.{List, [], _∷_, _++_}
-use Prim.Native.Nat.{ℕ, suc, _+_, _*_, _-_, _/_, _<_, _≤_}
+use Prim.Native.Nat.{ℕ, suc, _+_, _-_, _<_, _≤_}
 use native.Mathlib.Numerals.{add-one}
 use native.Mathlib.Omega.{arith}
 use lib.ListN.{length, getD}
-use lib.Dec.{leb}
+use lib.Dec.{eqb, leb}
 use borrow.Author.Tests.{ne-eqb, eq-eqb}
-use Rattle.base.specs.Choice.{pick, unless}
-use Rattle.base.specs.Range.{below, joined}
+use Rattle.base.specs.Choice.{unless}
+use Rattle.base.specs.Range.{below}
 use Rattle.base.specs.Lists.{every, table}
-use Rattle.base.proofs.Tests.{and-left, and-right, and-true, within-low, within-high, below-at}
+use Rattle.base.proofs.Tests.{and-true}
 use Rattle.base.proofs.Folds.{fold-same, fold-more}
-use Rattle.base.proofs.Slots.{below-slots, joined-slots}
-use Rattle.base.proofs.Tables.{table-more, length-table, getD-table, every-table}
+use Rattle.base.proofs.Tables.{as-table, table-more, table-same, getD-table, every-table}
 use Rattle.plan.specs.declared.Instruction.{Instruction}
-use Rattle.plan.specs.declared.Plan.{Plan}
-use Rattle.plan.specs.declared.PlanAnswer.the-variants.{Accepted, Refused}
-use Rattle.plan.specs.declared.Refusal.the-variants.{BadLayout, BadInstruction, BadFinish, BadCreate, BadChannel}
-use Rattle.plan.specs.Kinds.{opCreate, opSend, opReceive, isFinish, isUse, noInstruction}
-use Rattle.plan.specs.Programs.{Program, slotOf, programOf, programs, programAt}
-use Rattle.plan.specs.Users.{usesIn, users}
-use Rattle.plan.specs.Refusals.{sizeOk, sizesOk, instructionOk, instructionsOk, finishOk, finishesOk, createOk, createsOk, channelOk, channelsOk, structureAnswer, planAnswer}
-use Rattle.plan.proofs.Parts.{tasks-of, program-of}
-use Rattle.plan_users.specs.declared.Use.{Use}
-use Rattle.plan_rules.specs.Slots.{sameTest, finishFits, scanned}
-use Rattle.plan_rules.specs.Sizes.{countFits, sizesIn}
-use Rattle.plan_users.specs.Uses.{noUse, useOf, slotUser, usesTable, createFits, createAt, createsIn, endsFit, endsAt, channelsIn}
-use Rattle.plan_rules.proofs.Tasks.{create-use, ends-use}
+use Rattle.plan.specs.declared.PlanAnswer.the-variants.{Refused}
+use Rattle.plan.specs.declared.Refusal.the-variants.{BadInstruction}
+use Rattle.plan.specs.Kinds.{opCreate, opSend, opReceive, isFinish, noInstruction}
+use Rattle.plan.specs.Programs.{Program, Programs, programAt, instructionAt}
+use Rattle.plan.specs.Layout.{countOf}
+use Rattle.plan.specs.Users.{firstOf, users}
+use Rattle.plan.specs.Refusals.{sizesOk, instructionOk, instructionsOk, finishOk, finishesOk, createOk, createsOk, channelsOk, structureAnswer}
+use Rattle.plan_laws.proofs.Answers.{sized}
+use Rattle.plan_rules.specs.declared.pass.Pass.{Pass}
+use Rattle.plan_rules.specs.Editions.{presentEdition}
+use Rattle.plan_rules.specs.Marks.{sameTest}
+use Rattle.plan_rules.specs.Firsts.{firstUsers, Firsts, hasParent, allCreated}
+use Rattle.plan_rules.specs.Pass.{seen, entryOk, finishFits, usesOf, firstsOf, createFine, endsFit, endsFine, Passed, entries, PassOf, passAnswer, zerosIn}
+use Rattle.plan_rules.proofs.Changes.{below-both, every-below}
+use Rattle.plan_rules.proofs.Marked.{create-whole}
+use Rattle.plan_rules.proofs.Uses.{uses-some}
+use Rattle.plan_rules.proofs.Entries.{every-entries, uses-entries}
+use Rattle.plan_rules.proofs.Present.{allowed-present}
 
 -- one task more behind the others is in order where none of them is a finish and it is one
 finish-last : (g : Program) (x : Instruction) → finishOk (g ++ (x ∷ [])) ≡ every (λ i. not (isFinish i)) g && isFinish x
@@ -45,123 +49,100 @@ same-false : (b : Bool) → sameTest b false ≡ not b
 same-false true = refl
 same-false false = refl
 
-finish-more : (m : ℕ) (f : ℕ → Instruction) → finishOk (table (m + 1) f) ≡ below (m + 1) (λ i. finishFits (m + 1) i (f i))
-finish-more m f =
-    ap finishOk (table-more m f)
-    ∙ finish-last (table m f) (f m)
-    ∙ ap (λ (b : Bool). b && isFinish (f m)) (every-table (λ i. not (isFinish i)) m f)
-    ∙ ap (λ (b : Bool). b && isFinish (f m))
-    (fold-same _&&_ true m (λ i. not (isFinish (f i))) (λ i. finishFits (m + 1) i (f i))
-    (λ i h. sym (rw (ne-eqb i (m + 1 - 1) (λ e. omega arith)) (same-false (isFinish (f i))))))
-    ∙ ap (λ (b : Bool). below m (λ i. finishFits (m + 1) i (f i)) && b) (sym (rw (eq-eqb m (m + 1 - 1) (omega arith)) (same-true (isFinish (f m)))))
-    ∙ sym (fold-more _&&_ true m (λ i. finishFits (m + 1) i (f i)))
+finish-more : (n : ℕ) (f : ℕ → Instruction) → finishOk (table (n + 1) f) ≡ below (n + 1) (λ i. sameTest (isFinish (f i)) (eqb i (n + 1 - 1)))
+finish-more n f =
+    let fits : ℕ → Bool = λ i. sameTest (isFinish (f i)) (eqb i (n + 1 - 1)) in
+    ap finishOk (table-more n f)
+    ∙ finish-last (table n f) (f n)
+    ∙ ap (λ (b : Bool). b && isFinish (f n))
+    (every-table (λ i. not (isFinish i)) n f
+    ∙ fold-same _&&_ true n (λ i. not (isFinish (f i))) fits (λ i h. sym (rw (ne-eqb i (n + 1 - 1) (λ e. omega arith)) (same-false (isFinish (f i))))))
+    ∙ ap (λ (b : Bool). below n fits && b) (sym (rw (eq-eqb n (n + 1 - 1) (omega arith)) (same-true (isFinish (f n)))))
+    ∙ sym (fold-more _&&_ true n fits)
 
--- a program of n is in order where just its last instruction is a finish
-finish-table : (n : ℕ) (f : ℕ → Instruction) → 1 ≤ n → finishOk (table n f) ≡ below n (λ i. finishFits n i (f i))
-finish-table n f h =
-    let e : n - 1 + 1 ≡ n = omega arith in
-    rw e at (finish-more (n - 1) f)
+-- a program is in order where just its last instruction is a finish
+finish-of : (g : Program) → 1 ≤ length g → finishOk g ≡ below (length g) (λ i. sameTest (isFinish (instructionAt g i)) (eqb i (length g - 1)))
+finish-of g h =
+    let e : length g - 1 + 1 ≡ length g = omega arith in
+    ap finishOk (sym (as-table g noInstruction)) ∙ rw e at (finish-more (length g - 1) (instructionAt g))
 
-uses-table : (k a t n : ℕ) (f : ℕ → Instruction) → usesIn k a t (table n f) ≡ joined n (λ i. pick (isUse k a (f i)) (t ∷ []) [])
-uses-table k a t n f =
-    ap (λ (c : ℕ). joined c (λ i. pick (isUse k a (getD (table n f) i noInstruction)) (t ∷ []) [])) (length-table n f)
-    ∙ fold-same _++_ [] n (λ i. pick (isUse k a (getD (table n f) i noInstruction)) (t ∷ []) []) (λ i. pick (isUse k a (f i)) (t ∷ []) [])
-    (λ i h. ap (λ (x : Instruction). pick (isUse k a x) (t ∷ []) []) (getD-table n f i noInstruction h))
+module _ (m : Programs) (second : ℕ → ℕ → ℕ) where
+  pub instructions-are : every (entryOk presentEdition (length m)) (entries m second) ≡ zerosIn m second && instructionsOk m
+  unfolding instructionsOk
+  instructions-are =
+      let n = length m in
+      let zero : ℕ → ℕ → Bool = λ k i. eqb (second k i) 0 in
+      let fine : ℕ → ℕ → Bool = λ k i. instructionOk n (instructionAt (programAt m k) i) in
+      every-entries m second (entryOk presentEdition n)
+      ∙ fold-same _&&_ true n _ (λ k. below (countOf m k) (zero k) && below (countOf m k) (fine k))
+      (λ k h.
+      fold-same _&&_ true (countOf m k) _ (λ i. zero k i && fine k i) (λ i q. allowed-present n (instructionAt (programAt m k) i) (second k i))
+      ∙ below-both (countOf m k) (zero k) (fine k))
+      ∙ below-both n (λ k. below (countOf m k) (zero k)) (λ k. below (countOf m k) (fine k))
+      ∙ ap (λ (b : Bool). zerosIn m second && b)
+      (sym
+      (every-below (every (instructionOk n)) m []
+      ∙ fold-same _&&_ true n _ (λ k. below (countOf m k) (fine k)) (λ k h. every-below (instructionOk n) (programAt m k) noInstruction)))
 
-module _ (p : Plan) where
-  abbrev count : ℕ → ℕ
-  count k = getD (p .lengths) k 0
+  first-users : (k : ℕ) → firstsOf k (entries m second) ≡ firstUsers m k
+  first-users k = table-same 129 _ _ (λ a h. ap firstOf (uses-entries m second k a))
 
-  pub sizes-of : sizesOk (programs p) ≡ sizesIn (p .tasks) (p .lengths)
-  unfolding sizesOk programs
-  sizes-of =
-      rw (tasks-of p, every-table (λ g. sizeOk (length g)) (p .tasks) (programOf p))
-      (ap (λ (b : Bool). sizeOk (p .tasks) && b)
-      (fold-same _&&_ true (p .tasks) (λ k. sizeOk (length (programOf p k))) (countFits (p .lengths))
-      (λ k h. ap sizeOk (length-table (count k) (λ i. slotOf p (64 * k + i))))))
+  pub firsts-are : {p : Pass} {x y z : List ℕ} → Passed presentEdition (length m) (entries m second) (seen p x y z) → Firsts m x y z
+  firsts-are so =
+      record {
+        parents = so .parents ∙ first-users opCreate;
+        senders = so .senders ∙ first-users opSend;
+        receivers = so .receivers ∙ first-users opReceive;
+      }
 
-  module _ (sized : sizesIn (p .tasks) (p .lengths) ≡ true) where
-    pub most : p .tasks ≤ 64
-    most = within-high 1 64 (p .tasks) (and-left (sizeOk (p .tasks)) (below (p .tasks) (countFits (p .lengths))) sized)
+  module _ (sizes : sizesOk m ≡ true) where
+    finishes-are : every finishFits (entries m second) ≡ finishesOk m
+    unfolding finishesOk
+    finishes-are =
+        every-entries m second finishFits
+        ∙ fold-same _&&_ true (length m) _ (λ k. finishOk (programAt m k)) (λ k h. sym (finish-of (programAt m k) (sized m sizes .counts k h .some)))
+        ∙ sym (every-below finishOk m [])
 
-    size-at : (k : ℕ) → k < p .tasks → sizeOk (count k) ≡ true
-    size-at k h = below-at (countFits (p .lengths)) (p .tasks) k h (and-right (sizeOk (p .tasks)) (below (p .tasks) (countFits (p .lengths))) sized)
-
-    some : (k : ℕ) → k < p .tasks → 1 ≤ count k
-    some k h = within-low 1 64 (count k) (size-at k h)
-
-    few : (k : ℕ) → k < p .tasks → count k ≤ 64
-    few k h = within-high 1 64 (count k) (size-at k h)
-
-    pub instructions-of : instructionsOk (programs p) ≡ scanned (p .tasks) (p .lengths) (p .opcodes) (p .operands) .instructions
-    unfolding instructionsOk programs
-    instructions-of =
-        let ok = instructionOk (p .tasks) in
-        ap (λ (n : ℕ). every (every (instructionOk n)) (programs p)) (tasks-of p)
-        ∙ every-table (every ok) (p .tasks) (programOf p)
-        ∙ fold-same _&&_ true (p .tasks) (λ k. every ok (programOf p k)) (λ k. below (count k) (λ i. ok (slotOf p (64 * k + i))))
-        (λ k h. every-table ok (count k) (λ i. slotOf p (64 * k + i)))
-        ∙ sym (below-slots (p .tasks) count (λ j c i. ok (slotOf p j)) few)
-
-    pub finishes-of : finishesOk (programs p) ≡ scanned (p .tasks) (p .lengths) (p .opcodes) (p .operands) .finishes
-    unfolding finishesOk programs
-    finishes-of =
-        every-table finishOk (p .tasks) (programOf p)
-        ∙ fold-same _&&_ true (p .tasks) (λ k. finishOk (programOf p k)) (λ k. below (count k) (λ i. finishFits (count k) i (slotOf p (64 * k + i))))
-        (λ k h. finish-table (count k) (λ i. slotOf p (64 * k + i)) (some k h))
-        ∙ sym (below-slots (p .tasks) count (λ j c i. finishFits c i (slotOf p j)) few)
-
-    pub users-of : (k a : ℕ) → users (programs p) k a ≡ joined (64 * p .tasks) (slotUser (p .lengths) (p .opcodes) (p .operands) k a)
-    unfolding users
-    users-of k a =
-        let one : ℕ → ℕ → List ℕ = λ t j. pick (isUse k a (slotOf p j)) (t ∷ []) [] in
-        ap (λ (n : ℕ). joined n (λ j. usesIn k a (suc j) (programAt (programs p) j))) (tasks-of p)
-        ∙ fold-same _++_ [] (p .tasks) (λ j. usesIn k a (suc j) (programAt (programs p) j)) (λ j. joined (count j) (λ i. one ((64 * j + i) / 64 + 1) (64 * j + i)))
-        (λ j h.
-        ap (usesIn k a (suc j)) (program-of p j h)
-        ∙ uses-table k a (suc j) (count j) (λ i. slotOf p (64 * j + i))
-        ∙ fold-same _++_ [] (count j) (λ i. one (suc j) (64 * j + i)) (λ i. one ((64 * j + i) / 64 + 1) (64 * j + i))
-        (λ i q. let e : suc j ≡ (64 * j + i) / 64 + 1 = omega (arith, few j h) in ap (λ (t : ℕ). one t (64 * j + i)) e))
-        ∙ sym (joined-slots (p .tasks) count (λ j c i. one (j / 64 + 1) j) few)
-
-    use-at : (k a : ℕ) → a < 129 → getD (usesTable k (p .tasks) (p .lengths) (p .opcodes) (p .operands)) a noUse ≡ useOf (users (programs p) k a)
-    use-at k a h =
-        getD-table 129 (λ a. useOf (joined (64 * p .tasks) (slotUser (p .lengths) (p .opcodes) (p .operands) k a))) a noUse h ∙ ap useOf (sym (users-of k a))
-
-    pub creates-of : createsOk (programs p) ≡ createsIn (p .tasks) (p .lengths) (p .opcodes) (p .operands)
-    unfolding createsOk
-    creates-of =
-        let m = programs p in
-        let creates = usesTable opCreate (p .tasks) (p .lengths) (p .opcodes) (p .operands) in
-        ap (λ (n : ℕ). below n (λ k. leb (suc k) 1 || createOk m (suc k))) (tasks-of p)
-        ∙ fold-same _&&_ true (p .tasks) (λ k. leb (suc k) 1 || createOk m (suc k)) (createAt creates)
-        (λ k h.
-        ap (λ (u : ℕ). leb u 1 || createOk m u) (sym (add-one k))
-        ∙ sym (create-use (k + 1) (users m opCreate (k + 1)))
-        ∙ ap (λ (x : Use). createFits x (k + 1)) (sym (use-at opCreate (k + 1) (omega (arith, most)))))
-
-    pub channels-of : channelsOk (programs p) ≡ channelsIn (p .tasks) (p .lengths) (p .opcodes) (p .operands)
+    channels-are : endsFine (entries m second) ≡ channelsOk m
     unfolding channelsOk
-    channels-of =
-        let m = programs p in
-        let sends = usesTable opSend (p .tasks) (p .lengths) (p .opcodes) (p .operands) in
-        let receives = usesTable opReceive (p .tasks) (p .lengths) (p .opcodes) (p .operands) in
-        fold-same _&&_ true 128 (λ k. channelOk m (suc k)) (endsAt sends receives)
+    channels-are =
+        fold-same _&&_ true 128 _ _
         (λ k h.
-        ap (channelOk m) (sym (add-one k))
-        ∙ sym (ends-use (users m opSend (k + 1)) (users m opReceive (k + 1)))
-        ∙ ap (λ (x : Use). endsFit x (useOf (users m opReceive (k + 1)))) (sym (use-at opSend (k + 1) (omega arith)))
-        ∙ ap (λ (x : Use). endsFit (getD sends (k + 1) noUse) x) (sym (use-at opReceive (k + 1) (omega arith))))
+        ap (λ (l : List ℕ). endsFit l (usesOf opReceive (suc k) (entries m second))) (uses-entries m second opSend (suc k))
+        ∙ ap (endsFit (users m opSend (suc k))) (uses-entries m second opReceive (suc k)))
 
-    -- refusals 3 to 6 of a plan value whose sizes are in order
-    pub answer-of : planAnswer (programs p)
-        ≡ unless (scanned (p .tasks) (p .lengths) (p .opcodes) (p .operands) .instructions) (Refused BadInstruction)
-        (unless (scanned (p .tasks) (p .lengths) (p .opcodes) (p .operands) .finishes) (Refused BadFinish)
-        (unless (createsIn (p .tasks) (p .lengths) (p .opcodes) (p .operands)) (Refused BadCreate)
-        (unless (channelsIn (p .tasks) (p .lengths) (p .opcodes) (p .operands)) (Refused BadChannel) Accepted)))
-    unfolding planAnswer structureAnswer
-    answer-of = rw (sizes-of, sized, instructions-of, finishes-of, creates-of, channels-of) refl
+    module _ {p : Pass} {x y z : List ℕ} (so : Passed presentEdition (length m) (entries m second) (seen p x y z)) where
+      creates-are : p .creates && allCreated (p .tasks) x ≡ createsOk m
+      unfolding createsOk
+      creates-are =
+          let n = length m in
+          let l = entries m second in
+          ap (λ (t : ℕ). p .creates && allCreated t x) (so .size)
+          ∙ ap (λ (b : Bool). b && allCreated n x) (so .creates)
+          ∙ sym (below-both n (λ k. leb (suc k) 1 || createFine (suc k) (usesOf opCreate (suc k) l)) (hasParent x))
+          ∙ fold-same _&&_ true n _ (λ k. leb (suc k) 1 || createOk m (suc k))
+          (λ k h.
+          let few : suc k < 129 = omega (arith, sized m sizes .tasks .few) in
+          let parent : getD x (k + 1) 0 ≡ firstOf (usesOf opCreate (suc k) l) =
+          rw (add-one k, so .parents) (getD-table 129 (λ a. firstOf (usesOf opCreate a l)) (suc k) 0 few) in
+          rw (parent, add-one k)
+          (go (leb (suc k) 1) (createFine (suc k) (usesOf opCreate (suc k) l)) (not (eqb (firstOf (usesOf opCreate (suc k) l)) 0))
+          ∙ ap (λ (b : Bool). leb (suc k) 1 || b) (sym (create-whole (suc k) (usesOf opCreate (suc k) l) (uses-some opCreate (suc k) l (so .tasks))))
+          ∙ rw (uses-entries m second opCreate (suc k)) refl))
+        where
+          go : (b c d : Bool) → (b || c) && (b || d) ≡ b || (c && d)
+          go true c d = refl
+          go false c d = refl
 
-  pub answer-unsized : sizesIn (p .tasks) (p .lengths) ≡ false → planAnswer (programs p) ≡ Refused BadLayout
-  unfolding planAnswer
-  answer-unsized h = rw (sizes-of, h) refl
+    -- 3 to 6
+    pub answer-is : {p : Pass} {x y z : List ℕ} → PassOf presentEdition m second p x y z
+        → passAnswer p x ≡ unless (zerosIn m second && instructionsOk m) (Refused BadInstruction) (structureAnswer m)
+    unfolding structureAnswer
+    answer-is {p} {x} {y} {z} q = go (p .instructions) refl
+      where
+        go : (b : Bool) → p .instructions ≡ b
+            → passAnswer p x ≡ unless (zerosIn m second && instructionsOk m) (Refused BadInstruction) (structureAnswer m)
+        go false e = rw (← instructions-are, ← q .instructions, e) refl
+        go true e =
+            let so = q .passed e in
+            rw (← instructions-are, ← q .instructions, e, ← finishes-are, ← so .finishes, ← creates-are so, ← channels-are, ← so .channels) refl

@@ -1,3 +1,7 @@
--- What the tests of a plan value compute, slot by slot; the proofs show that it is what the paper asks of the plan's meaning.
-pub mod Slots
+-- What the pass over the instructions of a plan finds; the proofs show that it is what the paper asks of the plan.
+pub mod Editions
+pub mod Marks
+pub mod Firsts
+pub mod Pass
 pub mod Sizes
+pub mod Slots

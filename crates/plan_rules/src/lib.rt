@@ -1,6 +1,9 @@
-// Whether a plan value is refused, 2 to 6.
-pub mod scan;
+// Whether a plan is refused, 3 to 6, in one pass over its instructions; of a plan value, 2 to 6.
+pub mod instruction;
+mod marks;
+pub mod pass;
 mod sizes;
+pub mod slots;
 
 ghost use mathlib.Core.Path.{_≡_};
 ghost use Rattle.plan.specs.Programs.{programs};
@@ -22,24 +25,19 @@ pub fn check_slots<'a>(
     if !sizes::sizes_ok(tasks, lengths) {
         return PlanAnswer::Refused(Refusal::BadLayout);
     }
-    let seen = scan::scan_slots(tasks, lengths, opcodes, operands);
-    if !seen.instructions {
-        return PlanAnswer::Refused(Refusal::BadInstruction);
-    }
-    if !seen.finishes {
-        return PlanAnswer::Refused(Refusal::BadFinish);
-    }
-    let found = plan_users::find_uses(tasks, lengths, opcodes, operands);
-    let creates = found.creates;
-    if !plan_users::creates_ok(tasks, creates) {
-        return PlanAnswer::Refused(Refusal::BadCreate);
-    }
-    let sends = found.sends;
-    let receives = found.receives;
-    if !plan_users::channels_ok(sends, receives) {
-        return PlanAnswer::Refused(Refusal::BadChannel);
-    }
-    PlanAnswer::Accepted
+    let mut parents = [0u8; 129];
+    let mut senders = [0u8; 129];
+    let mut receivers = [0u8; 129];
+    let p = slots::pass_slots(
+        tasks,
+        lengths,
+        opcodes,
+        operands,
+        &mut parents,
+        &mut senders,
+        &mut receivers,
+    );
+    pass::answer(p, &parents)
 }
 
 // The answer about a plan value.

@@ -1,8 +1,3 @@
--- What one instruction more changes; what the pass finds is what the paper asks of the plan.
-mod Changes
-mod Sound
-mod Marked
-mod Listed
-pub mod Sizes
-mod Passing
+-- The pass over the instructions of a file: where they stand, and what is then answered.
+mod Places
 mod Answers

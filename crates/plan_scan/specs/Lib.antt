@@ -1,4 +1,2 @@
--- What the pass over the instructions of a file finds.
-pub mod Marks
-pub mod Firsts
-pub mod Pass
+-- What is answered about the instructions of a file.
+pub mod Code

@@ -1,44 +1,19 @@
 // The pass over the instructions of a plan file.
-ghost use mathlib.Core.Path.{_≡_};
-ghost use mathlib.Core.Bool.{false};
-ghost use Rattle.plan_scan.specs.Firsts.{NoFirsts};
-ghost use Rattle.plan_scan.specs.Pass.{Whole, PassOf};
-use crate::marks::create_fits;
-use crate::marks::end_fits;
-use crate::marks::kept;
-use plan::CREATE;
-use plan::FINISH;
+ghost use Rattle.plan.specs.Programs.{programs};
+ghost use Rattle.plan_parts.specs.Code.{codeOf};
+ghost use Rattle.plan_rules.specs.Editions.{presentEdition};
+ghost use Rattle.plan_rules.specs.Firsts.{NoFirsts};
+ghost use Rattle.plan_rules.specs.Pass.{PassOf};
+ghost use Rattle.plan_scan.specs.Code.{Whole, secondIn};
 use plan::Instruction;
-use plan::RECEIVE;
-use plan::SEND;
 use plan_parts::code::fetch;
-use plan_rules::scan::instruction_ok;
-use plan_rules::scan::same;
-
-// Whether no instruction is refused by 3; and then whether every finish is in order, every create so
-// far, and every channel.
-pub struct Pass {
-    pub instructions: bool,
-    pub finishes: bool,
-    pub creates: bool,
-    pub channels: bool,
-}
-
-// An instruction is refused: no more is asked.
-fn stopped() -> Pass
-    ensures { λ r. ⌜ r .instructions ≡ false ⌝ }
-{
-    Pass {
-        instructions: false,
-        finishes: false,
-        creates: false,
-        channels: false,
-    }
-}
+use plan_rules::instruction::present;
+use plan_rules::pass::Entry;
+use plan_rules::pass::Pass;
+use plan_rules::pass::next;
 
 // The instructions of tasks with these numbers of instructions: they stand one behind the other. The
-// tables take, by argument, the first task that creates, sends and receives. An instruction's kind is
-// told apart before its argument is tested, once for both.
+// tables take, by argument, the first task that creates, sends and receives.
 pub fn walk<'a>(
     file: &'a [u8],
     tasks: u8,
@@ -48,12 +23,13 @@ pub fn walk<'a>(
     receivers: &'a mut [u8; 129],
 ) -> Pass
     requires { ⌜ Whole (now file) tasks (now lengths) × NoFirsts (now parents) (now senders) (now receivers) ⌝ }
-    ensures { λ r. ⌜ PassOf (now (file .entry)) tasks (now (lengths .entry)) r (now (parents .exit)) (now (senders .exit)) (now (receivers .exit)) ⌝ }
+    ensures { λ r. ⌜
+        PassOf presentEdition (programs (codeOf (now (file .entry)) tasks (now (lengths .entry)) .plan)) (secondIn (now (file .entry)) (now (lengths .entry))) r
+        (now (parents .exit)) (now (senders .exit)) (now (receivers .exit)) ⌝ }
 {
     let n = base::wide8(tasks);
-    let mut finishes = true;
-    let mut creates = true;
-    let mut channels = true;
+    let edition = present();
+    let mut p = Pass::new(tasks, true);
     let mut at: usize = 0;
     let mut k: usize = 0;
     while k < n {
@@ -62,51 +38,24 @@ pub fn walk<'a>(
         let mut i: usize = 0;
         while i < count {
             let f = fetch(file, true, at);
-            if !f.zero {
-                return stopped();
-            }
-            let opcode = f.opcode;
             let x = Instruction {
-                opcode: opcode,
+                opcode: f.opcode,
                 operand: f.operand,
             };
-            let finish = opcode == FINISH;
-            let last = i == count - 1;
-            finishes = base::both(finishes, same(finish, last));
-            let a = base::wide16(f.operand);
-            if opcode == CREATE {
-                if !instruction_ok(tasks, x) {
-                    return stopped();
-                }
-                let old = parents[a];
-                creates = base::both(creates, create_fits(old, t, a));
-                parents[a] = kept(old, t);
-            } else if opcode == SEND {
-                if !instruction_ok(tasks, x) {
-                    return stopped();
-                }
-                let old = senders[a];
-                channels = base::both(channels, end_fits(old, receivers[a], t));
-                senders[a] = kept(old, t);
-            } else if opcode == RECEIVE {
-                if !instruction_ok(tasks, x) {
-                    return stopped();
-                }
-                let old = receivers[a];
-                channels = base::both(channels, end_fits(old, senders[a], t));
-                receivers[a] = kept(old, t);
-            } else if !instruction_ok(tasks, x) {
-                return stopped();
+            let entry = Entry {
+                task: t,
+                last: i == count - 1,
+                second: f.second,
+                instruction: x,
+            };
+            p = next(p, edition, entry, parents, senders, receivers);
+            if !p.instructions {
+                return p;
             }
             at += 4;
             i += 1;
         }
         k += 1;
     }
-    Pass {
-        instructions: true,
-        finishes: finishes,
-        creates: creates,
-        channels: channels,
-    }
+    p
 }

@@ -7,9 +7,8 @@ use native.Mathlib.Omega.{arith}
 use borrow.Author.Needs.{needs}
 use lib.ListN.{length, getD}
 use borrow.Author.Tests.{leb-true}
-use Rattle.plan_users.specs.Uses.{usedOf}
-use Rattle.plan_users.proofs.Rows.{used-bounds, slot-used, row-rest}
-use Rattle.plan_parts.specs.Code.{fetchedFrom, slotPlace, opcodesTo, operandsTo, zerosTo}
+use Rattle.plan_parts.specs.Code.{fetchedFrom, usedOf, slotPlace, opcodesTo, operandsTo, zerosTo}
+use Rattle.plan_parts.proofs.Rows.{used-bounds, slot-used, row-rest}
 use Rattle.plan_parts.proofs.Slots.{no-opcodes, no-operands, no-zeros, first-place, next-opcodes, next-operands, next-zeros, next-place, skip-opcodes, skip-operands, skip-zeros, skip-place}
 use Rattle.plan_parts.proofs.code.read_code.Statement.{statement}
 use Rattle.plan_parts.proofs.code.read_code.Tie as tie
@@ -124,7 +123,8 @@ loop2-less c = omega arith
 
 loop2-again : tie.Need-loop2-again Inv-loop2 μ-loop2 Inv-loop μ-loop
 loop2-again c =
-    let l = c .before .before .before in
+    let f = c .before .before in
+    let l = f .before .before in
     let o = l .before .before .before .before in
     let a = o .before .before .before .args in
     let b = a .file .now in
@@ -132,9 +132,9 @@ loop2-again c =
     let i = l .loop2 .i in
     let s = 64 * k + i in
     let inv = l .loop2 .inv in
-    let u = slot-used (λ j. getD (a .lengths .now) j 0) k i (rw (← inv .4) (c .before .before .loop2-test .taken)) in
-    let x = c .before .fetch .result in
-    let h = c .before .fetch .ensures ∙ ap (fetchedFrom b) (inv .10) in
+    let u = slot-used (λ j. getD (a .lengths .now) j 0) k i (rw (← inv .4) (f .before .loop2-test .taken)) in
+    let x = f .fetch .result in
+    let h = f .fetch .ensures ∙ ap (fetchedFrom b) (inv .10) in
     let r : s < 4096 = omega arith in
     let e : 64 * k + (i + 1) ≡ s + 1 = omega arith in (
       omega arith,

@@ -8,7 +8,7 @@ use borrow.Author.Needs.{needs}
 use borrow.Author.Tests.{not-true, not-false}
 use Rattle.plan.specs.declared.PlanRead.{PlanRead}
 use Rattle.plan_parts.specs.Code.{codeOf}
-use Rattle.plan_scan.specs.Pass.{codeAnswer}
+use Rattle.plan_scan.specs.Code.{codeAnswer}
 use Rattle.plan_read.proofs.Answers.{bad-header, answer-read}
 use Rattle.plan_read.proofs.stages.answer_at.Statement.{statement}
 use Rattle.plan_read.proofs.stages.answer_at.Tie as tie

@@ -7,8 +7,8 @@ use lib.ListN.{drop}
 use borrow.Author.Needs.{needs}
 use borrow.Author.Tests.{not-true, not-false}
 use Rattle.plan_parts.specs.Code.{Code}
-use Rattle.plan_scan.specs.Pass.{Whole, CodeChecked}
-use Rattle.plan_scan.proofs.Sizes.{few-tasks}
+use Rattle.plan_scan.specs.Code.{Whole, CodeChecked}
+use Rattle.plan_rules.proofs.Sized.{few-tasks}
 use Rattle.plan_read.proofs.Answers.{bad-header, bad-plan, good-plan, firsts-read}
 use Rattle.plan_read.proofs.stages.load_at.Statement.{statement}
 use Rattle.plan_read.proofs.stages.load_at.Tie as tie
