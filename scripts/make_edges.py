@@ -1,5 +1,5 @@
 #!/usr/bin/env python3
-"""Writes plans at the paper's limits: crates/plan_test/data/edges.bin, in the format of the vectors, and
+"""Writes plans at the paper's limits: crates/vectors_test/data/edges.bin, in the format of the vectors, and
 three plan files in crates/edges_test/data.
 
 Each record holds desks, the lengths of plan, steps and output, and then these; the steps are empty.
@@ -66,7 +66,7 @@ def main():
         record(layout(channels(122)[:3] + [[(RECEIVE, 63), (FINISH, 0)]]), refused=6),
     ]
     there = pathlib.Path(__file__).resolve().parent.parent
-    (there / "crates/plan_test/data/edges.bin").write_bytes(b"".join(records))
+    (there / "crates/vectors_test/data/edges.bin").write_bytes(b"".join(records))
     data = there / "crates/edges_test/data"
     (data / "tasks64.plan").write_bytes(layout(created(64)))
     (data / "code64.plan").write_bytes(layout(long(64)))
