@@ -11,11 +11,11 @@ use Rattle.rules.specs.declared.rule.Outcome.{Outcome}
 use Rattle.rules.specs.declared.step.StepAnswer.the-variants.{NetworkFull}
 use Rattle.rules.specs.Networks.{lettersOf}
 use Rattle.rules.specs.Systems.{cellStored, taskStored}
-use Rattle.judge.specs.declared.sweep.Sweep.the-variants.{Nothing}
-use Rattle.judge.specs.declared.change.Scope.{Scope}
-use Rattle.judge.specs.declared.change.Verdict.the-variants.{Refused, Accepted}
-use Rattle.judge.specs.Fetches.{cellPut}
-use Rattle.judge.specs.RunVerdicts.{change, fittingIn}
+use Rattle.rig_parts.specs.declared.sweep.Sweep.the-variants.{Nothing}
+use Rattle.rig_parts.specs.declared.change.Scope.{Scope}
+use Rattle.rig_parts.specs.declared.change.Verdict.the-variants.{Refused, Accepted}
+use Rattle.rig_parts.specs.Fetches.{cellPut}
+use Rattle.rig_parts.specs.RunVerdicts.{change, fittingIn}
 use Rattle.board.specs.declared.act.Act.{Act}
 use Rattle.board.specs.Acted.{refusedAct, acceptedAct}
 use Rattle.board.specs.Lent.{Lent, Whole, tasksOf, storeOf}

@@ -8,7 +8,7 @@ use lib.ListN.{getD, set, length, length-set}
 use lib.Seq.{getD-set-same, getD-set-other}
 use Rattle.base.specs.Lists.{table}
 use Rattle.base.proofs.Tables.{getD-table, table-same, set-table}
-use Rattle.packing.specs.Packed.{taskOf}
+use Rattle.board.specs.packing.Packed.{taskOf}
 use Rattle.rules.specs.declared.task.Task.{Task}
 use Rattle.rules.specs.Tasks.{noTask}
 use Rattle.board.specs.Lent.{channelColumn, tasksOn}

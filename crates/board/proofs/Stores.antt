@@ -18,7 +18,7 @@ use Rattle.rules.specs.declared.channel.Hint.{Hint}
 use Rattle.rules.specs.Cells.{withNoted}
 use Rattle.rules.specs.Tasks.{noTask}
 use Rattle.rules.specs.Systems.{entryIndex, readChannel, writeChannel, store, cellStored}
-use Rattle.packing.specs.Packed.{taskOf, taskWord, stateOf, stateNumber, channelOf, channelWord, low16, byte2, byte3, byte4, byte5, mark6, bit}
+use Rattle.board.specs.packing.Packed.{taskOf, taskWord, stateOf, stateNumber, channelOf, channelWord, low16, byte2, byte3, byte4, byte5, mark6, bit}
 use Rattle.board.specs.Lent.{lent, channelColumn, channelsOn, tasksOn, storeOf, hintIn, heldIn, noteIn}
 use Rattle.board.proofs.Laws.{getD-channel, set-channel, keep-channel-above, getD-task, set-task, keep-tasks}
 

@@ -10,9 +10,9 @@ use Rattle.rules.specs.declared.rule.Received.the-variants.{Nothing as NoWord}
 use Rattle.rules.specs.declared.step.StepAnswer.{StepAnswer}
 use Rattle.rules.specs.declared.step.StepAnswer.the-variants.{Accepted}
 use Rattle.rules.specs.declared.system.Store.{Store}
-use Rattle.judge.specs.declared.change.Verdict.{Verdict}
-use Rattle.judge.specs.declared.change.Verdict.the-variants.{Refused, Accepted as Allowed}
-use Rattle.judge.specs.Effects.{changedTasks, changedStore}
+use Rattle.rig_parts.specs.declared.change.Verdict.{Verdict}
+use Rattle.rig_parts.specs.declared.change.Verdict.the-variants.{Refused, Accepted as Allowed}
+use Rattle.rig_parts.specs.Effects.{changedTasks, changedStore}
 use Rattle.board.specs.declared.act.Act.{Act}
 use Rattle.board.specs.Lent.{Lent, Whole, tasksOf, storeOf}
 

@@ -15,7 +15,7 @@ use Rattle.rules.specs.declared.system.Store.{Store}
 use Rattle.rules.specs.Numbers.{processorId}
 use Rattle.rules.specs.Cells.{hint, offer}
 use Rattle.rules.specs.Systems.{entryIndex, store}
-use Rattle.packing.specs.Packed.{low16, byte2, byte3, byte4, byte5, mark6, taskOf}
+use Rattle.board.specs.packing.Packed.{low16, byte2, byte3, byte4, byte5, mark6, taskOf}
 
 -- all that is lent to be written, in the order of the parameters
 pub record Lent : Type 0 where

@@ -3,3 +3,5 @@ pub mod Lent
 pub mod Acted
 pub mod Verdicts
 pub mod Rigs
+pub mod packing
+pub mod sweeps

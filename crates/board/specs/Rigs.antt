@@ -7,10 +7,10 @@ use Prim.Native.Nat.{ℕ}
 use Rattle.rules.specs.declared.message.Message.{Message}
 use Rattle.rules.specs.declared.step.Step.{Step}
 use Rattle.rules.specs.Sound.{messageOk}
-use Rattle.judge.specs.declared.change.Verdict.the-variants.{Accepted as Allowed}
-use Rattle.judge.specs.Facts.{Facts, facts, PartsOf}
-use Rattle.judge.specs.Openings.{openedIn}
-use Rattle.user_table.specs.Users.{sendersOf, receiversOf, parentsOf, Indexed}
+use Rattle.rig_parts.specs.declared.change.Verdict.the-variants.{Accepted as Allowed}
+use Rattle.rig_parts.specs.Facts.{Facts, facts, PartsOf}
+use Rattle.rig_parts.specs.Openings.{openedIn}
+use Rattle.plan_index.specs.user_table.Users.{sendersOf, receiversOf, parentsOf, Indexed}
 use Rattle.board.specs.declared.act.Act.{Act}
 use Rattle.board.specs.declared.act.Size.{Size}
 use Rattle.board.specs.Lent.{Lent, lent, Whole, tasksOf, storeOf}

@@ -8,11 +8,11 @@ use Rattle.rules.specs.declared.step.StepAnswer.the-variants.{NoMessage, BadSte
 use Rattle.rules.specs.declared.system.Store.{Store}
 use Rattle.rules.specs.Numbers.{taskId, processorId}
 use Rattle.rules.specs.Steps.{byKind, wellFormed}
-use Rattle.judge.specs.declared.change.Verdict.{Verdict}
-use Rattle.judge.specs.declared.change.Verdict.the-variants.{Refused}
-use Rattle.judge.specs.Facts.{Facts}
-use Rattle.judge.specs.RunVerdicts.{judgedRun}
-use Rattle.judge.specs.MoveVerdicts.{judgedMove}
+use Rattle.rig_parts.specs.declared.change.Verdict.{Verdict}
+use Rattle.rig_parts.specs.declared.change.Verdict.the-variants.{Refused}
+use Rattle.rig_parts.specs.Facts.{Facts}
+use Rattle.rig_parts.specs.RunVerdicts.{judgedRun}
+use Rattle.rig_parts.specs.MoveVerdicts.{judgedMove}
 
 unfoldable pub stepVerdict : Facts → ℕ → List Task → Store → ℕ → Step → Verdict
 stepVerdict f n ts s used x =

@@ -62,6 +62,6 @@ pub fn fits(n: Size, p: Posting) -> bool
     requires { ⌜ n .used ≤ 256 ⌝ }
     ensures { λ r. ⌜ r ≡ leb (n .used + length (lettersOf (n .processors) p)) 256 ⌝ }
 {
-    let needed = mailing::letters_needed(n.processors, p);
+    let needed = network::letters_needed(n.processors, p);
     n.used + needed <= 256
 }

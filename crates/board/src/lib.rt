@@ -1,5 +1,10 @@
 // What a run lends, five tables and a board: what is read of it and stored; what a step says.
+// What a step finds where it may look.
 pub mod act;
+pub mod cell;
+pub mod fetch;
+pub mod packing;
+pub mod sweeps;
 
 ghost use mathlib.Core.Path.{_≡_};
 ghost use Prim.Native.Nat.{_≤_, _<_, _-_};
@@ -28,10 +33,10 @@ pub fn task_at(board: &[u64; 256], t: TaskId) -> Task
     ensures { λ r. ⌜ r ≡ taskIn (tasksOn (now (board .entry))) t ⌝ }
 {
     if t.0 == 0 {
-        return sites::fetch::no_task();
+        return crate::fetch::no_task();
     }
     let at = 126 + 2 * base::wide8(t.0);
-    packing::task_of(board[at], board[at + 1])
+    crate::packing::task_of(board[at], board[at + 1])
 }
 
 // Task t becomes x, where there is such a task.
@@ -41,7 +46,7 @@ pub fn put_task(board: &mut [u64; 256], t: TaskId, x: Task)
 {
     if t.0 != 0 {
         let at = 126 + 2 * base::wide8(t.0);
-        board[at] = packing::task_word(x);
+        board[at] = crate::packing::task_word(x);
         board[at + 1] = x.children;
     }
 }
@@ -52,7 +57,7 @@ pub fn channel_at(board: &[u64; 256], c: ChannelId) -> Channel
     ensures { λ r. ⌜ r ≡ readChannel (channelsOn (now (board .entry))) (c .0 - 1) ⌝ }
 {
     let k = base::wide8(c.0) - 1;
-    packing::channel_of(board[k])
+    crate::packing::channel_of(board[k])
 }
 
 // Channel c's own entry becomes y.
@@ -61,7 +66,7 @@ pub fn put_channel(board: &mut [u64; 256], c: ChannelId, y: Channel)
     ensures { λ r. ⌜ (Whole (now (board .exit))) × (channelsOn (now (board .exit)) ≡ writeChannel (channelsOn (now (board .entry))) (c .0 - 1) y) × (tasksOn (now (board .exit)) ≡ tasksOn (now (board .entry))) ⌝ }
 {
     let k = base::wide8(c.0) - 1;
-    board[k] = packing::channel_word(y);
+    board[k] = crate::packing::channel_word(y);
 }
 
 // The pointer of desk d for channel c.

@@ -14,7 +14,7 @@ pub fn carrying(x: Cell, o: Offer) -> Cell
 {
     let carried = x.channel.carried;
     let kept = order::larger(carried, o);
-    cells::fields::with_carried(x, kept)
+    crate::fields::with_carried(x, kept)
 }
 
 // An offer is held at the desk, beside one that may be there.
@@ -32,7 +32,7 @@ pub fn noting(x: Cell, d: ProcessorId) -> Cell
 {
     let noted = x.entry.noted;
     let kept = order::first_noted(noted, d);
-    cells::fields::with_noted(x, kept)
+    crate::fields::with_noted(x, kept)
 }
 
 // One more word is called for, and the call is marked.

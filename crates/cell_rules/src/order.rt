@@ -1,7 +1,9 @@
 // Which of two offers or adverts is kept.
+// Which of two pointers is kept; what stands for none.
 ghost use mathlib.Core.Path.{_≡_};
-ghost use Rattle.rules.specs.Cells.{larger, firstNoted};
+ghost use Rattle.rules.specs.Cells.{larger, firstNoted, unknown, noOffer, newer};
 use plan::ProcessorId;
+use rules::channel::Hint;
 use rules::channel::Offer;
 
 // The offer with the larger number; the earlier of equals.
@@ -20,4 +22,32 @@ pub fn first_noted(first: ProcessorId, later: ProcessorId) -> ProcessorId
     ensures { λ r. ⌜ r ≡ firstNoted first later ⌝ }
 {
     if first.0 == 0 { later } else { first }
+}
+
+// The pointer that names nothing.
+pub fn unknown() -> Hint
+    ensures { λ r. ⌜ r ≡ unknown ⌝ }
+{
+    Hint {
+        processor: ProcessorId(0),
+        moves: 0,
+    }
+}
+
+// The offer that is none.
+pub fn no_offer() -> Offer
+    ensures { λ r. ⌜ r ≡ noOffer ⌝ }
+{
+    let none = ProcessorId(0);
+    Offer {
+        processor: none,
+        number: 0,
+    }
+}
+
+// The pointer with the larger count; the desk's own of equals.
+pub fn newer(own: Hint, other: Hint) -> Hint
+    ensures { λ r. ⌜ r ≡ newer own other ⌝ }
+{
+    if own.moves < other.moves { other } else { own }
 }

@@ -17,8 +17,8 @@ use Rattle.rules.specs.declared.step.Step.{Step}
 use Rattle.rules.specs.Systems.{taskAt}
 use Rattle.rules.specs.Starts.{started}
 use Rattle.rules.specs.Steps.{isRun, quiescent, receivedOn}
-use Rattle.acts.specs.Readings.{reading}
-use Rattle.acts.specs.Progress.{unexecutedOf, unexecuted}
+use Rattle.transitions.specs.Readings.{reading}
+use Rattle.transitions.specs.Progress.{unexecutedOf, unexecuted}
 use Rattle.claim.specs.Statement.{acceptedOf, from, Rests}
 use Rattle.claim.specs.Corollaries.{Shows}
 use Rattle.claim.proofs.Whole.{list-kept, Rested, rested}

@@ -10,7 +10,7 @@ use Rattle.base.specs.Lists.{every}
 use Rattle.base.specs.Beginnings.{Beginning}
 use Rattle.base.proofs.Tests.{is-false, tests-differ}
 use Rattle.base.proofs.Beginnings.{beginning-trans}
-use Rattle.machine.specs.Machines.{Normal}
+use Rattle.net.specs.Machines.{Normal}
 use Rattle.plan.specs.declared.PlanAnswer.the-variants.{Accepted as PlanAccepted}
 use Rattle.plan.specs.declared.Plan.{Plan}
 use Rattle.plan.specs.declared.TaskId.{TaskId}
@@ -39,18 +39,18 @@ use Rattle.rules_sound.proofs.Answers.{number-not-9}
 use Rattle.net.specs.States.{Net}
 use Rattle.net.specs.Nets.{net}
 use Rattle.net.proofs.Meaning.{passed-beginning, same-end}
-use Rattle.acts.specs.Readings.{reading}
-use Rattle.acts.specs.Progress.{programOf, unexecuted}
-use Rattle.acts.specs.Letters.{flat, lettersOn, wordsIn}
-use Rattle.acts.specs.Agreement.{Running}
+use Rattle.transitions.specs.Readings.{reading}
+use Rattle.transitions.specs.Progress.{programOf, unexecuted}
+use Rattle.transitions.specs.Letters.{flat, lettersOn, wordsIn}
+use Rattle.transitions.specs.Agreement.{Running}
 use Rattle.claim.specs.Statement.{wastes, noneWasted, acceptedOf, anyStep, from, answeredNine, notExecuted, underWay, ComesToRest, SameTask, Claim}
 use Rattle.claim.specs.Statement.{Demand3}
-use Rattle.running.proofs.Falls.{few-left}
-use Rattle.running.proofs.Next.{Kept}
+use Rattle.invariant.proofs.Falls.{few-left}
+use Rattle.invariant.proofs.Next.{Kept}
 use Rattle.claim.proofs.Lists.{kept-step, runs-counted, few-accepted}
 use Rattle.claim.proofs.Quiet.{rest-refuses, refuses-rest, quiet-letters, quiet-ready}
 use Rattle.claim.proofs.Whole.{start-kept, list-kept, start-work, rested}
-use Rattle.running.proofs.Rest.{Resting, rest-normal, at-rest-same}
+use Rattle.invariant.proofs.Rest.{Resting, rest-normal, at-rest-same}
 use Rattle.claim.proofs.Finds.{finds}
 
 module _ (p : Plan) (a : planAnswer (programs p) ≡ PlanAccepted) where

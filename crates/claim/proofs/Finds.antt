@@ -21,13 +21,13 @@ use Rattle.rules.specs.Sound.{messageOk, systemOk}
 use Rattle.rules.specs.declared.channel.Hint.{Hint}
 use Rattle.rules_laws.specs.Shapes.{Shaped}
 use Rattle.net.specs.States.{Net}
-use Rattle.acts.specs.Readings.{reading}
-use Rattle.acts.specs.Views.{Histories}
-use Rattle.acts.specs.Agreement.{Running}
-use Rattle.acts.proofs.Rigs.{letter-ok, letter-at, plan-accepted}
-use Rattle.acts.proofs.EndedActs.{living, at-parent}
-use Rattle.acts.proofs.ArrivalActs.{arriving}
-use Rattle.acts.proofs.CallActs.{call-found, word-found}
+use Rattle.transitions.specs.Readings.{reading}
+use Rattle.transitions.specs.Views.{Histories}
+use Rattle.transitions.specs.Agreement.{Running}
+use Rattle.transitions.proofs.Rigs.{letter-ok, letter-at, plan-accepted}
+use Rattle.transitions.proofs.EndedActs.{living, at-parent}
+use Rattle.transitions.proofs.ArrivalActs.{arriving}
+use Rattle.transitions.proofs.CallActs.{call-found, word-found}
 use Rattle.claim.specs.Statement.{findsIts}
 
 module _ (r : System) (shaped : Shaped r) (ok : systemOk r ≡ true) (h : Histories) {s : Net} {w : ChannelId → List Word}

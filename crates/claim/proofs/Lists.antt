@@ -18,11 +18,11 @@ use Rattle.rules.specs.declared.system.System.{System}
 use Rattle.rules.specs.Answers.{isAccepted}
 use Rattle.rules.specs.Steps.{isRun, isMove, stepAnswer, refused, step, stepsBy, steps, wordOn, receivedOn}
 use Rattle.rules_laws.proofs.Steps.{accepted-is, step-refused}
-use Rattle.acts.specs.Readings.{reading}
-use Rattle.acts.specs.Progress.{flag, unexecuted}
-use Rattle.running.specs.Weights.{weightOf}
+use Rattle.transitions.specs.Readings.{reading}
+use Rattle.transitions.specs.Progress.{flag, unexecuted}
+use Rattle.invariant.specs.Weights.{weightOf}
 use Rattle.claim.specs.Statement.{acceptedOf, anyStep}
-use Rattle.running.proofs.Next.{Kept, next, no-more}
+use Rattle.invariant.proofs.Next.{Kept, next, no-more}
 
 -- a test holds, or it fails
 pub either : {C : Type 0} (b : Bool) → (b ≡ true → C) → (b ≡ false → C) → C

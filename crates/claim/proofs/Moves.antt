@@ -34,10 +34,10 @@ use Rattle.rules_laws.proofs.Steps.{accepted-is, step-answer, step-passed}
 use Rattle.rules_laws.proofs.StepKinds.{answer-move}
 use Rattle.rules_sound.proofs.Answers.{move-passed, number-not-18}
 use Rattle.rules_sound.proofs.Settled.{settled}
-use Rattle.acts.specs.Readings.{reading}
-use Rattle.acts.specs.Progress.{flag}
-use Rattle.running.proofs.StartViews.{read-started, start-cases}
-use Rattle.running.proofs.Next.{Kept, next}
+use Rattle.transitions.specs.Readings.{reading}
+use Rattle.transitions.specs.Progress.{flag}
+use Rattle.invariant.proofs.StartViews.{read-started, start-cases}
+use Rattle.invariant.proofs.Next.{Kept, next}
 use Rattle.claim.specs.Statement.{acceptedOf, from}
 use Rattle.claim.specs.Moves.{NoMoveOnOneDesk, NothingMoves, FewMoves}
 use Rattle.claim.proofs.Lists.{step-either, left, kept-step}

@@ -20,9 +20,9 @@ use Rattle.channel.specs.Bags.{one, total}
 use Rattle.channel.specs.Letters.{Letter, offer, advert, call, word, isCall, isWord, calls, words}
 use Rattle.channel.proofs.Bags.{total-append}
 use Rattle.channel.proofs.Claims.{few-letters}
-use Rattle.acts.specs.Readings.{reading}
-use Rattle.acts.specs.Letters.{flat, letterOn, lettersOn}
-use Rattle.acts.specs.Views.{viewOf}
+use Rattle.transitions.specs.Readings.{reading}
+use Rattle.transitions.specs.Letters.{flat, letterOn, lettersOn}
+use Rattle.transitions.specs.Views.{viewOf}
 use Rattle.claim.specs.Statement.{from}
 use Rattle.claim.specs.Corollaries.{isCallOrWord}
 use Rattle.claim.proofs.Whole.{list-kept}

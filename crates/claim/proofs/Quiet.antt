@@ -32,8 +32,8 @@ use Rattle.rules_laws.proofs.Letters.{few-letters}
 use Rattle.rules_laws.proofs.Steps.{accepted-is, step-passed}
 use Rattle.rules_laws.proofs.StepKinds.{answer-run, answer-deliver, deliver-passed}
 use Rattle.rules_sound.proofs.Answers.{run-passed}
-use Rattle.acts.specs.Readings.{reading}
-use Rattle.acts.proofs.Rigs.{desks-few}
+use Rattle.transitions.specs.Readings.{reading}
+use Rattle.transitions.proofs.Rigs.{desks-few}
 
 -- a delivery of position p
 abbrev pub deliverStep : ℕ → Step

@@ -13,7 +13,7 @@ use Rattle.base.specs.Choice.{within}
 use Rattle.base.specs.Range.{upTo}
 use Rattle.base.proofs.Folds.{fold-same}
 use Rattle.base.proofs.Tests.{within-both, below-cases, second-fails, tests-differ}
-use Rattle.machine.specs.Machines.{stop}
+use Rattle.net.specs.Machines.{stop}
 use Rattle.plan.specs.declared.PlanAnswer.the-variants.{Accepted as PlanAccepted}
 use Rattle.plan.specs.declared.Plan.{Plan}
 use Rattle.plan.specs.declared.TaskId.{TaskId}
@@ -35,14 +35,14 @@ use Rattle.rules_laws.proofs.Shapes.{started-shaped, started-plan}
 use Rattle.rules_laws.proofs.Steps.{accepted-is}
 use Rattle.rules_sound.proofs.Starts.{started-ok}
 use Rattle.net.specs.States.{startNet}
-use Rattle.acts.specs.Readings.{reading}
-use Rattle.acts.specs.Progress.{unexecutedOf, unexecuted, programOf}
-use Rattle.acts.proofs.Tasks.{unborn-is}
-use Rattle.running.specs.Weights.{weightOf}
+use Rattle.transitions.specs.Readings.{reading}
+use Rattle.transitions.specs.Progress.{unexecutedOf, unexecuted, programOf}
+use Rattle.transitions.proofs.Tasks.{unborn-is}
+use Rattle.invariant.specs.Weights.{weightOf}
 use Rattle.claim.specs.Statement.{from}
-use Rattle.running.proofs.StartViews.{read-started, start-cases}
-use Rattle.running.proofs.Starts.{start-running}
-use Rattle.running.proofs.Next.{Kept, next}
+use Rattle.invariant.proofs.StartViews.{read-started, start-cases}
+use Rattle.invariant.proofs.Starts.{start-running}
+use Rattle.invariant.proofs.Next.{Kept, next}
 use Rattle.claim.proofs.Lists.{kept-steps, either}
 use Rattle.claim.proofs.Quiet.{deliverStep, deliver-accepted}
 

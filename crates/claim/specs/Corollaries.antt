@@ -9,7 +9,7 @@ use Rattle.plan.specs.Numbers.{sameChannel}
 use Rattle.plan.specs.Programs.{programs}
 use Rattle.rules.specs.declared.message.Message.{Message}
 use Rattle.rules.specs.declared.message.Message.the-variants.{Empty, Offered, Advert, ReadyToReceive, Data, Terminated, Migration}
-use Rattle.machine.specs.Machines.{Normal}
+use Rattle.net.specs.Machines.{Normal}
 use Rattle.net.specs.States.{Net}
 use Rattle.net.specs.Labels.{Label}
 use Rattle.net.specs.Nets.{net, Reached}

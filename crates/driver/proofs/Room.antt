@@ -13,7 +13,7 @@ use Rattle.plan.specs.Files.{startAnswer}
 use Rattle.rules.specs.declared.step.RunAnswer.{RunAnswer}
 use Rattle.rules.specs.declared.step.RunAnswer.the-variants.{Traced, OutputShort}
 use Rattle.rules.specs.StepFiles.{fileSteps, startOf, traceLines, text, stepsOk, answerAfter, runFileAnswer}
-use Rattle.trace_laws.proofs.Bound.{start-short}
+use Rattle.trace.proofs.Bound.{start-short}
 use Rattle.driver.specs.Runs.{enough}
 
 -- lines that fit where they are written

@@ -6,7 +6,7 @@ ghost use Rattle.rules.specs.Answers.{runNumber};
 ghost use Rattle.driver.specs.Runs.{packed, enough, RunMeets};
 use plan::Refusal;
 use rules::step::RunAnswer;
-use stepfile::run::run_file;
+use run::file::run::run_file;
 
 // Plan check: whether a plan file can be started on this many desks. 0, or the number of the refusal.
 #[no_mangle]
@@ -16,7 +16,7 @@ pub extern "C" fn mortarsedge_plan_check(desks: u32, plan: &[u8]) -> u32
     if !base::is_within(1, 6, desks as usize) {
         return Refusal::BadProcessors.number();
     }
-    let answer = plan_read::check_plan(plan);
+    let answer = plan_file::check_plan(plan);
     answer.number()
 }
 

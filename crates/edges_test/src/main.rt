@@ -98,7 +98,7 @@ fn take_step(r: System, kind: u8, task: u8, number: u16) -> After {
         task: task,
         number: number,
     };
-    let q = rig::step(r, s);
+    let q = rig_step::step(r, s);
     let report = q.report;
     let answer = report.answer;
     let system = q.system;
@@ -120,13 +120,13 @@ fn is_after(a: After, number: u8, moves: u16) -> bool {
 // A task with a count of 9,998 moves to desk 2 and arrives there; it then moves no more.
 fn last_move() {
     let plan = single_finish();
-    let answer = plan_rules::check(plan);
+    let answer = plan_value::check(plan);
     let PlanAnswer::Accepted = answer else {
         say(b"a plan of one finish accepted", false);
         return;
     };
-    let e = ends::derive(plan);
-    let r = starts::start(2, plan, e);
+    let e = plan_index::ends::derive(plan);
+    let r = rig::start::start(2, plan, e);
     let a = take_step(with_moves(r, 9998), 3, 1, 2);
     say(b"move count 9,998 moves", is_after(a, 0, 9999));
     let left = a.system;

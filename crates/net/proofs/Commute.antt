@@ -6,7 +6,7 @@ use Prim.Native.Nat.{ℕ, suc}
 use native.Mathlib.Decide.{ℕ-discrete}
 use Rattle.base.specs.Choice.{pick}
 use Rattle.base.proofs.Updates.{updated-other, updated-comm, updated-swap}
-use Rattle.machine.specs.Machines.{Commuting}
+use Rattle.net.specs.Machines.{Commuting}
 use Rattle.plan.specs.declared.TaskId.{TaskId}
 use Rattle.plan.specs.declared.ChannelId.{ChannelId}
 use Rattle.plan.specs.declared.Instruction.{Instruction}

@@ -13,7 +13,7 @@ use Rattle.base.specs.Choice.{within}
 use Rattle.base.specs.Lists.{any}
 use Rattle.base.proofs.Tests.{and-left, tests-differ, is-false, within-low, within-high, within-both}
 use Rattle.base.proofs.Fronts.{any-front-more}
-use Rattle.machine.proofs.Runs.{run-keeps}
+use Rattle.net.proofs.Runs.{run-keeps}
 use Rattle.plan.specs.declared.PlanAnswer.the-variants.{Accepted}
 use Rattle.plan.specs.declared.TaskId.{TaskId}
 use Rattle.plan.specs.declared.ChannelId.{ChannelId}

@@ -1,3 +1,7 @@
+-- Runs of a machine: one after another, what they keep, that they end, and, where labels commute, that all end in one state.
+pub mod Runs
+pub mod Confluence
+pub mod Halting
 -- The net: labels commute, runs end, all end alike, and who is then stuck.
 pub mod Parts
 pub mod Stays

@@ -9,8 +9,8 @@ use lib.ListN.{length}
 use Rattle.base.specs.Lists.{count}
 use Rattle.base.specs.Beginnings.{Beginning}
 use Rattle.base.proofs.Folds.{fold-same}
-use Rattle.machine.specs.Machines.{Run, Normal}
-use Rattle.machine.proofs.Confluence.{Rest, onward, one-normal-form}
+use Rattle.net.specs.Machines.{Run, Normal}
+use Rattle.net.proofs.Confluence.{Rest, onward, one-normal-form}
 use Rattle.plan.specs.declared.PlanAnswer.the-variants.{Accepted}
 use Rattle.plan.specs.declared.TaskId.{TaskId}
 use Rattle.plan.specs.declared.ChannelId.{ChannelId}

@@ -12,7 +12,7 @@ use Rattle.base.specs.Lists.{count}
 use Rattle.base.specs.Beginnings.{Beginning}
 use Rattle.base.proofs.Beginnings.{beginning-more, beginning-whole, beginning-trans}
 use Rattle.base.proofs.Updates.{updated-at, updated-other}
-use Rattle.machine.specs.Machines.{Run, stop, take}
+use Rattle.net.specs.Machines.{Run, stop, take}
 use Rattle.plan.specs.declared.TaskId.{TaskId}
 use Rattle.plan.specs.declared.ChannelId.{ChannelId}
 use Rattle.plan.specs.Programs.{Programs}

@@ -11,8 +11,8 @@ use borrow.Author.Tests.{ltb-true, eq-eqb, ne-eqb, not-true, not-false}
 use Rattle.base.specs.Range.{below}
 use Rattle.base.proofs.Tests.{and-right, and-both, tests-differ, is-false, below-at, below-cases}
 use Rattle.base.proofs.Sums.{sum-less}
-use Rattle.machine.specs.Machines.{Run, Normal}
-use Rattle.machine.proofs.Halting.{Next, Halts, run-bounded, halts}
+use Rattle.net.specs.Machines.{Run, Normal}
+use Rattle.net.proofs.Halting.{Next, Halts, run-bounded, halts}
 use Rattle.plan.specs.declared.TaskId.{TaskId}
 use Rattle.plan.specs.Numbers.{taskId}
 use Rattle.plan.specs.Programs.{Programs}

@@ -7,7 +7,7 @@ use lib.Dec.{eqb}
 use lib.ListN.{length}
 use borrow.Author.Tests.{eqb-true, eq-eqb, not-false}
 use Rattle.base.proofs.Tests.{and-right, and-both, or-cases, or-neither, first-fails, second-fails, tests-differ, is-false}
-use Rattle.machine.specs.Machines.{Normal}
+use Rattle.net.specs.Machines.{Normal}
 use Rattle.plan.specs.declared.PlanAnswer.the-variants.{Accepted}
 use Rattle.plan.specs.declared.TaskId.{TaskId}
 use Rattle.plan.specs.declared.ChannelId.{ChannelId}

@@ -3,7 +3,7 @@ use mathlib.Core.List.{List}
 use Prim.Native.Nat.{ℕ, suc, _-_}
 use lib.ListN.{length}
 use Rattle.base.specs.Range.{sumBelow}
-use Rattle.machine.specs.Machines.{Machine, Run}
+use Rattle.net.specs.Machines.{Machine, Run}
 use Rattle.plan.specs.Numbers.{taskId}
 use Rattle.plan.specs.Programs.{Programs}
 use Rattle.net.specs.States.{Net, startNet}

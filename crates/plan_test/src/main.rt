@@ -3,11 +3,11 @@
 // then plan, steps and output.
 ghost use Prim.Native.Nat.{_<_, _≤_};
 ghost use lib.ListN.{length};
-use fields::byte_at;
-use fields::word_at;
 use libc::STDOUT_FILENO;
 use plan::PlanAnswer;
 use plan::WriteAnswer;
+use plan_file::fields::byte_at;
+use plan_file::fields::word_at;
 use std::num::wrapping_add_u64;
 
 // What the records of a file came to.
@@ -43,7 +43,7 @@ fn expected(output: &[u8]) -> u32 {
 
 // The plan read from the file, written again, is the file. The output is lent.
 fn writes_back(file: &[u8], out: &mut [u8]) -> bool {
-    let answer = round_trip::rewrite(file, out);
+    let answer = plan_write::round_trip::rewrite(file, out);
     let WriteAnswer::Written(n) = answer else {
         return false;
     };
@@ -55,9 +55,9 @@ fn writes_back(file: &[u8], out: &mut [u8]) -> bool {
 
 // The plan read from the file, written and read again, is accepted with as many tasks.
 fn comes_back(file: &[u8], out: &mut [u8]) -> bool {
-    let read = plan_read::read_plan(file);
+    let read = plan_file::read_plan(file);
     let p = read.plan;
-    let again = round_trip::reread(p, out);
+    let again = plan_write::round_trip::reread(p, out);
     let answer = again.answer;
     let PlanAnswer::Accepted = answer else {
         return false;

@@ -25,8 +25,8 @@ use Rattle.plan.specs.Outcomes.{WritePlan, writeAnswer, writeOutput}
 use Rattle.plan.proofs.Parts.{tasks-of, program-of, count-of}
 use Rattle.plan_laws.proofs.Answers.{plan-passed, sized}
 use Rattle.base.proofs.Sums.{sum-const, sum-scaled, sum-at-most}
-use Rattle.plan_output.specs.Output.{overlay, slotsBytes, Put}
-use Rattle.plan_output.proofs.Overlay.{overlay-front, put-more}
+use Rattle.plan_write.specs.output.Output.{overlay, slotsBytes, Put}
+use Rattle.plan_write.proofs.output.Overlay.{overlay-front, put-more}
 use Rattle.plan_write.specs.Header.{totalIn, entryBytes, entriesBytes}
 use Rattle.plan_write.proofs.Entries.{length-entries}
 

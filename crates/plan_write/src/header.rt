@@ -2,9 +2,9 @@
 ghost use mathlib.Core.Path.{_≡_};
 ghost use Prim.Native.Nat.{_+_, _*_, _≤_};
 ghost use lib.ListN.{length};
-ghost use Rattle.plan_output.specs.Output.{overlay};
+ghost use Rattle.plan_write.specs.output.Output.{overlay};
 ghost use Rattle.plan_write.specs.Header.{totalIn, entriesBytes};
-use plan_output::bytes::put_word;
+use crate::output::bytes::put_word;
 
 // How many instructions the first n tasks have.
 pub fn total_of(n: usize, lengths: &[u8; 64]) -> usize

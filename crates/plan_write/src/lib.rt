@@ -1,5 +1,7 @@
 // Plan files written.
 mod header;
+pub mod output;
+pub mod round_trip;
 
 // A plan value written as a file.
 ghost use mathlib.Core.Path.{_≡_};
@@ -7,14 +9,14 @@ ghost use Rattle.plan.specs.declared.PlanAnswer.the-variants.{Accepted};
 ghost use Rattle.plan.specs.Programs.{programs};
 ghost use Rattle.plan.specs.Refusals.{planAnswer};
 ghost use Rattle.plan.specs.Outcomes.{WritePlan};
+use crate::output::bytes::put_word;
+use crate::output::code::write_code;
 use header::total_of;
 use header::write_entries;
 use plan::Plan;
 use plan::PlanAnswer;
 use plan::Refusal;
 use plan::WriteAnswer;
-use plan_output::bytes::put_word;
-use plan_output::code::write_code;
 
 // An accepted plan, if the output has room for it.
 fn write_accepted(p: Plan, out: &mut [u8]) -> WriteAnswer
@@ -39,7 +41,7 @@ fn write_accepted(p: Plan, out: &mut [u8]) -> WriteAnswer
 pub fn write_plan(p: Plan, out: &mut [u8]) -> WriteAnswer
     ensures { λ r. ⌜ WritePlan (programs p) (now (out .entry)) r (now (out .exit)) ⌝ }
 {
-    let answer = plan_rules::check(p);
+    let answer = plan_value::check(p);
     match answer {
         PlanAnswer::Accepted => write_accepted(p, out),
         PlanAnswer::Refused(r) => WriteAnswer::Unwritten(r),

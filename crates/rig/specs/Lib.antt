@@ -1,2 +1,2 @@
--- A rig on a board, with its mail.
-pub mod Rigs
+pub mod rest
+pub mod start

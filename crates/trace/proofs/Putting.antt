@@ -13,7 +13,7 @@ use Rattle.rules.specs.declared.rule.Received.the-variants.{Nothing, Word}
 use Rattle.rules.specs.declared.step.Report.{Report}
 use Rattle.rules.specs.Answers.{stepNumber}
 use Rattle.rules.specs.Trace.{decimal, fields, stepLine}
-use Rattle.trace_laws.proofs.Decimals.{decimal-one, decimal-more, length-more}
+use Rattle.trace.proofs.Decimals.{decimal-one, decimal-more, length-more}
 use Rattle.trace.specs.Output.{Emitted, Put, PutTo}
 use Rattle.trace.proofs.Emitting.{fits}
 

@@ -1,4 +1,5 @@
 // The lines of the trace: those of steps, and the last one.
+// The bound of a trace, and what stays of it when steps are added or refused ones left out, as definitions and theorems: see specs/ and proofs/.
 pub mod direct;
 
 ghost use mathlib.Core.Path.{_≡_};

@@ -3,9 +3,9 @@
 // expected output: a trace, or `refused` and a number.
 ghost use Prim.Native.Nat.{_<_, _≤_};
 ghost use lib.ListN.{length};
-use fields::byte_at;
-use fields::word_at;
 use libc::STDOUT_FILENO;
+use plan_file::fields::byte_at;
+use plan_file::fields::word_at;
 use std::num::wrapping_add_u64;
 
 // What the records of a file came to.

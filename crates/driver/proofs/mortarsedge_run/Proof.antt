@@ -4,7 +4,7 @@ use Rattle.rules.specs.Answers.{runNumber}
 use Rattle.claim.proofs.Files.{demand-3-file}
 use Rattle.driver.specs.Runs.{packed, runOutcome}
 use native.Mathlib.Omega.{arith}
-use Rattle.trace_laws.proofs.Bound.{run-text-short}
+use Rattle.trace.proofs.Bound.{run-text-short}
 use Rattle.driver.proofs.Room.{room-enough}
 use Rattle.driver.proofs.Traced.{output-lines}
 use borrow.Author.Needs.{needs}
@@ -14,7 +14,7 @@ use Rattle.driver.proofs.mortarsedge_run.Reads as reads
 use Rattle.driver.proofs.mortarsedge_run.Lts as lts
 use Rattle.driver.proofs.packed.Reads as packed-reads
 use Rattle.driver.proofs.run_number.Reads as run-number-reads
-use Rattle.stepfile.proofs.run.run_file.Reads as run-file-reads
+use Rattle.run.proofs.file.run.run_file.Reads as run-file-reads
 
 run-file-requires : tie.Need-run-file-requires
 run-file-requires c κs = search needs

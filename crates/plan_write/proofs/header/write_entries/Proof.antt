@@ -6,7 +6,7 @@ use lib.ListN.{length, getD}
 use borrow.Author.Needs.{needs}
 use Rattle.base.specs.Range.{joined}
 use Rattle.plan.specs.Layout.{offsetDue}
-use Rattle.plan_output.specs.Output.{overlay}
+use Rattle.plan_write.specs.output.Output.{overlay}
 use Rattle.plan_write.specs.Header.{entryBytes}
 use Rattle.plan_write.proofs.Entries.{total-part, due-none, due-more, entries-none, entries-length, entries-step}
 use Rattle.plan_write.proofs.header.write_entries.Statement.{statement}

@@ -6,7 +6,7 @@ use native.Mathlib.Omega.{arith}
 use lib.ListN.{length}
 use borrow.Author.Tests.{le-leb}
 use Rattle.rules.specs.Trace.{decimal, fields}
-use Rattle.trace_laws.proofs.Decimals.{five-digits}
+use Rattle.trace.proofs.Decimals.{five-digits}
 use Rattle.trace.proofs.Putting.{two-length}
 use borrow.Author.Needs.{needs}
 use Rattle.trace.proofs.direct.head_fits.Statement.{statement}

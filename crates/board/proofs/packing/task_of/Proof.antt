@@ -1,0 +1,43 @@
+-- `task_of`: a task, read from its two numbers.
+use borrow.Author.Needs.{needs}
+use Rattle.board.specs.packing.Packed.{taskOf}
+use Rattle.board.proofs.packing.task_of.Statement.{statement}
+use Rattle.board.proofs.packing.task_of.Tie as tie
+
+low8-requires : tie.Need-low8-requires
+low8-requires c κs = search needs
+
+state-of-requires : tie.Need-state-of-requires
+state-of-requires c κs = search needs
+
+low8-requires-2 : tie.Need-low8-requires-2
+low8-requires-2 c κs = search needs
+
+low8-requires-3 : tie.Need-low8-requires-3
+low8-requires-3 c κs = search needs
+
+low8-requires-4 : tie.Need-low8-requires-4
+low8-requires-4 c κs = search needs
+
+low16-requires : tie.Need-low16-requires
+low16-requires c κs = search needs
+
+low16-requires-2 : tie.Need-low16-requires-2
+low16-requires-2 c κs = search needs
+
+returns : tie.Need-returns
+unfolding taskOf
+returns c = cc
+
+pub task-of-spec : {M : Type 1} → statement M
+task-of-spec =
+    tie.close
+    (tie.spec
+    low8-requires
+    state-of-requires
+    low8-requires-2
+    low8-requires-3
+    low8-requires-4
+    low16-requires
+    low16-requires-2
+    returns)

@@ -1,0 +1,138 @@
+// Records as numbers of 64 bits: a channel's own entry, and a task with its children behind it. Each field has the width of its
+// type, so that a record is read back as it was.
+ghost use mathlib.Core.Path.{_≡_};
+ghost use Prim.Native.Nat.{_%_, _<_};
+ghost use lib.Dec.{eqb};
+ghost use Rattle.board.specs.packing.Packed.{channelOf, channelWord, stateOf, stateNumber, taskOf, taskWord, bit};
+use plan::ProcessorId;
+use plan::Word;
+use rules::channel::Channel;
+use rules::channel::Hint;
+use rules::channel::Offer;
+use rules::task::Task;
+use rules::task::TaskState;
+
+// The lowest eight bits.
+fn low8(v: u64) -> u8
+    ensures { λ r. ⌜ r ≡ v % 256 ⌝ }
+{
+    (v % 256) as u8
+}
+
+// The lowest sixteen bits.
+fn low16(v: u64) -> u16
+    ensures { λ r. ⌜ r ≡ v % 65536 ⌝ }
+{
+    (v % 65536) as u16
+}
+
+// Whether the lowest bit is set.
+fn is_odd(v: u64) -> bool
+    ensures { λ r. ⌜ r ≡ eqb (v % 2) 1 ⌝ }
+{
+    v % 2 == 1
+}
+
+// A mark as a number.
+fn bit(b: bool) -> u64
+    ensures { λ r. ⌜ (r ≡ bit b) × (r < 2) ⌝ }
+{
+    if b { 1 } else { 0 }
+}
+
+// A channel's own entry, read from its number.
+pub fn channel_of(v: u64) -> Channel
+    ensures { λ r. ⌜ r ≡ channelOf v ⌝ }
+{
+    let travelling = Hint {
+        processor: ProcessorId(low8(v / 65536)),
+        moves: low16(v),
+    };
+    let carried = Offer {
+        processor: ProcessorId(low8(v / 16777216)),
+        number: low8(v / 4294967296),
+    };
+    Channel {
+        granted: low8(v / 1099511627776),
+        awaiting: is_odd(v / 281474976710656),
+        carried: carried,
+        travelling: travelling,
+    }
+}
+
+// A channel's own entry as a number. The fields that most changes leave come first.
+pub fn channel_word(y: Channel) -> u64
+    ensures { λ r. ⌜ r ≡ channelWord y ⌝ }
+{
+    let carried = y.carried;
+    let offering = carried.processor;
+    let travelling = y.travelling;
+    let toward = travelling.processor;
+    travelling.moves as u64
+        + 65536 * (toward.0 as u64)
+        + 16777216 * (offering.0 as u64)
+        + 4294967296 * (carried.number as u64)
+        + 1099511627776 * (y.granted as u64)
+        + 281474976710656 * bit(y.awaiting)
+}
+
+// A task's state, read from its number.
+fn state_of(n: u8) -> TaskState
+    ensures { λ r. ⌜ r ≡ stateOf n ⌝ }
+{
+    match n {
+        0 => TaskState::Unborn,
+        1 => TaskState::Ready,
+        2 => TaskState::Waiting,
+        3 => TaskState::Sending,
+        4 => TaskState::Receiving,
+        5 => TaskState::Moving,
+        _ => TaskState::Done,
+    }
+}
+
+// A task's state as a number.
+fn state_number(s: TaskState) -> u64
+    ensures { λ r. ⌜ (r ≡ stateNumber s) × (r < 256) ⌝ }
+{
+    match s {
+        TaskState::Unborn => 0,
+        TaskState::Ready => 1,
+        TaskState::Waiting => 2,
+        TaskState::Sending => 3,
+        TaskState::Receiving => 4,
+        TaskState::Moving => 5,
+        TaskState::Done => 6,
+    }
+}
+
+// A task, read from its two numbers.
+pub fn task_of(v: u64, children: u64) -> Task
+    ensures { λ r. ⌜ r ≡ taskOf v children ⌝ }
+{
+    Task {
+        state: state_of(low8(v)),
+        processor: ProcessorId(low8(v / 256)),
+        pc: low8(v / 65536),
+        home: ProcessorId(low8(v / 16777216)),
+        word: Word(low16(v / 4294967296)),
+        moves: low16(v / 281474976710656),
+        children: children,
+    }
+}
+
+// The first number of a task; the second is its children.
+pub fn task_word(x: Task) -> u64
+    ensures { λ r. ⌜ r ≡ taskWord x ⌝ }
+{
+    let at = x.processor;
+    let home = x.home;
+    let word = x.word;
+    let state = x.state;
+    state_number(state)
+        + 256 * (at.0 as u64)
+        + 65536 * (x.pc as u64)
+        + 16777216 * (home.0 as u64)
+        + 4294967296 * (word.0 as u64)
+        + 281474976710656 * (x.moves as u64)
+}

@@ -1,0 +1,225 @@
+// A rule for each channel of a task that is born, leaves or arrives, along the links of its channels.
+ghost use Prim.Native.Nat.{_≤_};
+ghost use Rattle.rig_parts.specs.declared.sweep.CellRule.the-variants.{Locate, ArriveReceiving, ArriveSending, DepartSending};
+ghost use Rattle.rig_parts.specs.declared.sweep.Sweep.the-variants.{Arrival};
+ghost use Rattle.rig_parts.specs.Sweeps.{ruledAt, forEnds, swept};
+ghost use Rattle.plan_index.specs.user_table.Users.{Indexed, sendersOf, receiversOf};
+ghost use Rattle.board.specs.Lent.{Whole, AtCell};
+ghost use Rattle.board.specs.sweeps.Sweeps.{HintsBy, PointersBy, OffersBy};
+use crate::channel_at;
+use crate::held_at;
+use crate::hint_at;
+use crate::put_channel;
+use crate::put_held;
+use crate::put_hint;
+use plan::ChannelId;
+use plan::ProcessorId;
+use plan::TaskId;
+use plan_index::user_table::users::first_received;
+use plan_index::user_table::users::first_sent;
+use plan_index::user_table::users::next_received;
+use plan_index::user_table::users::next_sent;
+use rules::channel::Hint;
+
+// The pointer of desk d for channel c travels with its sender.
+fn depart_at<'a>(
+    hintprocessors: &'a [u8; 768],
+    hintmoves: &'a [u16; 768],
+    board: &'a mut [u64; 256],
+    d: ProcessorId,
+    c: ChannelId,
+)
+    requires { ⌜ (AtCell d c) × Whole (now board) ⌝ }
+    ensures { λ r. ⌜
+        PointersBy (ruledAt DepartSending d c)
+        (now (hintprocessors .entry)) (now (hintmoves .entry)) (now (board .entry))
+        (now (hintprocessors .entry)) (now (hintmoves .entry)) (now (board .exit)) ⌝ }
+{
+    let h = hint_at(hintprocessors, hintmoves, d, c);
+    let mut y = channel_at(board, c);
+    y.travelling = h;
+    put_channel(board, c, y);
+}
+
+// The receiver of channel c is here: the pointer becomes h, which names this desk, and the held offer is carried if it counts and is larger.
+fn arrive_receiving_at<'a>(
+    hintprocessors: &'a mut [u8; 768],
+    hintmoves: &'a mut [u16; 768],
+    heldprocessors: &'a mut [u8; 768],
+    heldnumbers: &'a mut [u8; 768],
+    board: &'a mut [u64; 256],
+    c: ChannelId,
+    h: Hint,
+)
+    requires { ⌜ (AtCell (h .processor) c) × Whole (now board) ⌝ }
+    ensures { λ r. ⌜
+        OffersBy (ruledAt (ArriveReceiving (h .processor) (h .moves)) (h .processor) c)
+        (now (hintprocessors .entry)) (now (hintmoves .entry)) (now (heldprocessors .entry)) (now (heldnumbers .entry)) (now (board .entry))
+        (now (hintprocessors .exit)) (now (hintmoves .exit)) (now (heldprocessors .exit)) (now (heldnumbers .exit)) (now (board .exit)) ⌝ }
+{
+    let d = h.processor;
+    let o = held_at(heldprocessors, heldnumbers, d, c);
+    put_hint(hintprocessors, hintmoves, d, c, h);
+    let none = cell_rules::order::no_offer();
+    put_held(heldprocessors, heldnumbers, d, c, none);
+    let mut y = channel_at(board, c);
+    if y.granted < o.number {
+        if y.carried.number < o.number {
+            y.carried = o;
+            put_channel(board, c, y);
+        }
+    }
+}
+
+// The sender of channel c is at desk d: the pointer that travelled with it is taken if it is newer, and travels no more.
+fn arrive_sending_at<'a>(
+    hintprocessors: &'a mut [u8; 768],
+    hintmoves: &'a mut [u16; 768],
+    board: &'a mut [u64; 256],
+    d: ProcessorId,
+    c: ChannelId,
+)
+    requires { ⌜ (AtCell d c) × Whole (now board) ⌝ }
+    ensures { λ r. ⌜
+        PointersBy (ruledAt ArriveSending d c)
+        (now (hintprocessors .entry)) (now (hintmoves .entry)) (now (board .entry))
+        (now (hintprocessors .exit)) (now (hintmoves .exit)) (now (board .exit)) ⌝ }
+{
+    let mut y = channel_at(board, c);
+    let h = y.travelling;
+    let none = cell_rules::order::unknown();
+    y.travelling = none;
+    put_channel(board, c, y);
+    let own = hint_at(hintprocessors, hintmoves, d, c);
+    if own.moves < h.moves {
+        put_hint(hintprocessors, hintmoves, d, c, h);
+    }
+}
+
+// The pointers of desk d for the channels that task t receives on become h.
+pub fn locate<'a>(
+    users: &'a [u8; 1024],
+    hintprocessors: &'a mut [u8; 768],
+    hintmoves: &'a mut [u16; 768],
+    t: TaskId,
+    d: ProcessorId,
+    h: Hint,
+)
+    requires { ⌜ (t .0 ≤ 64) × (1 ≤ d .0) × (d .0 ≤ 6) × Indexed (now users) ⌝ }
+    ensures { λ r. ⌜
+        HintsBy (forEnds (receiversOf (now (users .entry))) t d (Locate (h .processor) (h .moves)))
+        (now (hintprocessors .entry)) (now (hintmoves .entry))
+        (now (hintprocessors .exit)) (now (hintmoves .exit)) ⌝ }
+{
+    let mut c = first_received(users, t);
+    while 0 < c {
+        put_hint(hintprocessors, hintmoves, d, ChannelId(c), h);
+        c = next_received(users, c);
+    }
+}
+
+// The pointers of desk d for the channels that task t sends on travel with it.
+pub fn depart<'a>(
+    users: &'a [u8; 1024],
+    hintprocessors: &'a [u8; 768],
+    hintmoves: &'a [u16; 768],
+    board: &'a mut [u64; 256],
+    t: TaskId,
+    d: ProcessorId,
+)
+    requires { ⌜ (t .0 ≤ 64) × (1 ≤ d .0) × (d .0 ≤ 6) × (Indexed (now users)) × Whole (now board) ⌝ }
+    ensures { λ r. ⌜
+        PointersBy (forEnds (sendersOf (now (users .entry))) t d DepartSending)
+        (now (hintprocessors .entry)) (now (hintmoves .entry)) (now (board .entry))
+        (now (hintprocessors .entry)) (now (hintmoves .entry)) (now (board .exit)) ⌝ }
+{
+    let mut c = first_sent(users, t);
+    while 0 < c {
+        depart_at(hintprocessors, hintmoves, board, d, ChannelId(c));
+        c = next_sent(users, c);
+    }
+}
+
+// The channels that task t receives on, at the desk that h names.
+fn arrive_receiving<'a>(
+    users: &'a [u8; 1024],
+    hintprocessors: &'a mut [u8; 768],
+    hintmoves: &'a mut [u16; 768],
+    heldprocessors: &'a mut [u8; 768],
+    heldnumbers: &'a mut [u8; 768],
+    board: &'a mut [u64; 256],
+    t: TaskId,
+    h: Hint,
+)
+    requires { ⌜ (t .0 ≤ 64) × (1 ≤ h .processor .0) × (h .processor .0 ≤ 6) × (Indexed (now users)) × Whole (now board) ⌝ }
+    ensures { λ r. ⌜
+        OffersBy (forEnds (receiversOf (now (users .entry))) t (h .processor) (ArriveReceiving (h .processor) (h .moves)))
+        (now (hintprocessors .entry)) (now (hintmoves .entry)) (now (heldprocessors .entry)) (now (heldnumbers .entry)) (now (board .entry))
+        (now (hintprocessors .exit)) (now (hintmoves .exit)) (now (heldprocessors .exit)) (now (heldnumbers .exit)) (now (board .exit)) ⌝ }
+{
+    let mut c = first_received(users, t);
+    while 0 < c {
+        arrive_receiving_at(
+            hintprocessors,
+            hintmoves,
+            heldprocessors,
+            heldnumbers,
+            board,
+            ChannelId(c),
+            h,
+        );
+        c = next_received(users, c);
+    }
+}
+
+// The channels that task t sends on, at desk d.
+fn arrive_sending<'a>(
+    users: &'a [u8; 1024],
+    hintprocessors: &'a mut [u8; 768],
+    hintmoves: &'a mut [u16; 768],
+    board: &'a mut [u64; 256],
+    t: TaskId,
+    d: ProcessorId,
+)
+    requires { ⌜ (t .0 ≤ 64) × (1 ≤ d .0) × (d .0 ≤ 6) × (Indexed (now users)) × Whole (now board) ⌝ }
+    ensures { λ r. ⌜
+        PointersBy (forEnds (sendersOf (now (users .entry))) t d ArriveSending)
+        (now (hintprocessors .entry)) (now (hintmoves .entry)) (now (board .entry))
+        (now (hintprocessors .exit)) (now (hintmoves .exit)) (now (board .exit)) ⌝ }
+{
+    let mut c = first_sent(users, t);
+    while 0 < c {
+        arrive_sending_at(hintprocessors, hintmoves, board, d, ChannelId(c));
+        c = next_sent(users, c);
+    }
+}
+
+// Task t arrives at the desk that h names, with the count of h.
+pub fn arrive<'a>(
+    users: &'a [u8; 1024],
+    hintprocessors: &'a mut [u8; 768],
+    hintmoves: &'a mut [u16; 768],
+    heldprocessors: &'a mut [u8; 768],
+    heldnumbers: &'a mut [u8; 768],
+    board: &'a mut [u64; 256],
+    t: TaskId,
+    h: Hint,
+)
+    requires { ⌜ (t .0 ≤ 64) × (1 ≤ h .processor .0) × (h .processor .0 ≤ 6) × (Indexed (now users)) × Whole (now board) ⌝ }
+    ensures { λ r. ⌜
+        OffersBy (swept (sendersOf (now (users .entry))) (receiversOf (now (users .entry))) (Arrival t (h .processor) (h .moves)))
+        (now (hintprocessors .entry)) (now (hintmoves .entry)) (now (heldprocessors .entry)) (now (heldnumbers .entry)) (now (board .entry))
+        (now (hintprocessors .exit)) (now (hintmoves .exit)) (now (heldprocessors .exit)) (now (heldnumbers .exit)) (now (board .exit)) ⌝ }
+{
+    arrive_receiving(
+        users,
+        hintprocessors,
+        hintmoves,
+        heldprocessors,
+        heldnumbers,
+        board,
+        t,
+        h,
+    );
+    arrive_sending(users, hintprocessors, hintmoves, board, t, h.processor);
+}

@@ -1,0 +1,29 @@
+-- An offer letter is opened, and its rule followed; another letter changes nothing.
+use mathlib.Core.Path.{refl, _∙_}
+use Rattle.channel_rules.proofs.outcomes.Others.{other}
+use Rattle.channel_rules.specs.offers.Offers.{onOffer}
+use Rattle.channel_rules.specs.outcomes.Outcomes.{untouched}
+use borrow.Author.Needs.{needs}
+use Rattle.channel_rules.proofs.offers.offer.Statement.{statement}
+use Rattle.channel_rules.proofs.offers.offer.Tie as tie
+
+enum-known-m : tie.Need-enum-known-m
+enum-known-m c = search needs
+
+untouched-requires : tie.Need-untouched-requires
+untouched-requires c κs = search needs
+
+returns : tie.Need-returns
+returns c =
+    let a = c .before .before .args in
+    c .untouched .ensures ∙ other 1 (onOffer (a .x)) (untouched (a .x)) (a .m) tt (c .before .match .keys2) (search needs)
+
+offer-rule-requires : tie.Need-offer-rule-requires
+offer-rule-requires c κs = search needs
+
+returns-2 : tie.Need-returns-2
+returns-2 c = c .offer-rule .ensures ∙ rw (c .before .before .m .given .1) refl
+
+pub offer-spec : {M : Type 1} → statement M
+offer-spec =
+    tie.close (tie.spec enum-known-m untouched-requires returns offer-rule-requires returns-2)

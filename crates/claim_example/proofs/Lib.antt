@@ -1,5 +1,0 @@
--- What demand 3 says of two runs, that its test of letters tells rigs apart, and what is said of moves.
-pub mod Example
-pub mod Bound
-pub mod Suppositions
-pub mod Moves

@@ -1,2 +1,0 @@
--- A plan and its steps.
-pub mod Example

@@ -1,2 +1,0 @@
-// A step on the parts of a rig.
-pub mod turn;

@@ -1,2 +1,0 @@
--- What the tests of a send and of a receive are.
-pub mod Tests

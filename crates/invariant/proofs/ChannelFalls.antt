@@ -1,0 +1,119 @@
+-- The parts of the measure; a step about one channel makes it smaller.
+use mathlib.Core.Path.{_≡_, refl, ap, _∙_}
+use mathlib.Core.Logic.{_≢_}
+use mathlib.Core.List.{List}
+use Prim.Native.Nat.{ℕ, suc, _+_, _-_, _*_, _<_, _≤_}
+use native.Mathlib.Omega.{arith}
+use lib.ListN.{length}
+use Rattle.base.specs.Range.{sumBelow}
+use Rattle.base.proofs.Folds.{fold-same}
+use Rattle.plan.specs.declared.TaskId.{TaskId}
+use Rattle.plan.specs.declared.ChannelId.{ChannelId}
+use Rattle.plan.specs.declared.Word.{Word}
+use Rattle.plan.specs.Numbers.{taskId, channelId}
+use Rattle.plan.specs.Programs.{Programs}
+use Rattle.plan.specs.Users.{senderOf, receiverOf}
+use Rattle.rules.specs.declared.message.Message.{Message}
+use Rattle.rules.specs.declared.rule.Received.{Received}
+use Rattle.net.specs.States.{Net, atTask}
+use Rattle.channel.specs.Events.{Event, Transfer, Delivery, transfer, delivery, guard, after}
+use Rattle.channel.specs.Measure.{measure}
+use Rattle.channel.proofs.Measure.{delivery-falls, transfer-adds}
+use Rattle.transitions.specs.Readings.{Reading}
+use Rattle.transitions.specs.Progress.{unexecuted}
+use Rattle.transitions.specs.Letters.{lettersOn}
+use Rattle.transitions.specs.Views.{Histories, viewOf}
+use Rattle.transitions.specs.Acts.{Ran, by-sender, by-receiver, by-nobody, ChannelAct}
+use Rattle.transitions.specs.Agreement.{Running}
+use Rattle.transitions.proofs.Updates.{task-cases}
+use Rattle.invariant.specs.Weights.{instructionWeight, channelCount, channelsWeight, taskLetters, tasksWeight, weightOf}
+use Rattle.invariant.proofs.Work.{sum-change, work-same, work-one, place-other}
+
+module _ (m : Programs) where
+  -- its parts
+  pub split : (h : Histories) (x : Reading)
+      → weightOf m h x ≡ instructionWeight * unexecuted m (x .tasks) + (channelsWeight m h x + tasksWeight m (x .letters))
+  unfolding weightOf
+  split h x = refl
+
+  -- what a view has of the rig
+  pub viewed : (h : Histories) (x : Reading) (c : ChannelId) → viewOf m h x c .processors ≡ x .processors
+  unfolding viewOf
+  viewed h x c = refl
+
+  pub seen : (h : Histories) (x : Reading) (c : ChannelId) → viewOf m h x c .letters ≡ lettersOn c (x .letters)
+  unfolding viewOf
+  seen h x c = refl
+
+  -- so many instructions are executed, and the measure is smaller
+  pub record Less (h h' : Histories) (x y : Reading) (executed : ℕ) : Type 0 where
+    pub work : unexecuted m (x .tasks) ≡ executed + unexecuted m (y .tasks)
+    pub weight : weightOf m h' y < weightOf m h x
+
+  -- a step about one channel
+  module _ {h : Histories} {x y : Reading} {e : Event} {got : Received} (act : ChannelAct m h x y e got) where
+    abbrev c : ChannelId
+    c = act .channel
+
+    spot : channelId (suc (c .0 - 1)) ≡ c
+    spot = ap channelId (let q : suc (c .0 - 1) ≡ c .0 = let l = act .low in omega arith in q)
+
+    same-tasks : tasksWeight m (y .letters) ≡ tasksWeight m (x .letters)
+    same-tasks =
+        fold-same _+_ 0 (length m) (λ k. taskLetters (y .letters) (taskId (suc k))) (λ k. taskLetters (x .letters) (taskId (suc k)))
+        (λ k l. rw (act .ended (taskId (suc k)), act .movers (taskId (suc k))) refl)
+
+    only-here : channelsWeight m h y + measure (viewOf m h x c) ≡ channelsWeight m h x + measure (after e (viewOf m h x c))
+    only-here =
+        let l = act .low in
+        let u = act .high in
+        let q =
+        sum-change channelCount (λ k. measure (viewOf m h y (channelId (suc k)))) (λ k. measure (viewOf m h x (channelId (suc k)))) (c .0 - 1) (omega arith)
+        (λ k b ne. ap measure (act .others (channelId (suc k)) (omega arith) (omega arith) (omega arith))) in
+        let a = ap (λ d. measure (viewOf m h x d)) spot in
+        let b = ap (λ d. measure (viewOf m h y d)) spot ∙ ap measure (act .view) in
+        omega (arith, q, a, b)
+
+    other-places : (t : TaskId) → t .0 ≢ senderOf m c .0 → t .0 ≢ receiverOf m c .0 → y .tasks t .pc ≡ x .tasks t .pc
+    other-places t ns nr =
+        let first = atTask (x .tasks) (senderOf m c) (act .sender) in
+        place-other first (y .tasks) (receiverOf m c) (act .receiver) (act .tasks) t nr
+        ∙ place-other (x .tasks) first (senderOf m c) (act .sender) refl t ns
+
+    -- the others, when one end stays
+    rest-of : (s u : TaskId) → ((t : TaskId) → t .0 ≢ s .0 → t .0 ≢ u .0 → y .tasks t .pc ≡ x .tasks t .pc) → y .tasks u .pc ≡ x .tasks u .pc
+        → (t : TaskId) → t .0 ≢ s .0 → y .tasks t .pc ≡ x .tasks t .pc
+    rest-of s u f g = task-cases (λ t. t .0 ≢ s .0 → y .tasks t .pc ≡ x .tasks t .pc) u (λ ne. g) (λ t nu ns. f t ns nu)
+
+    -- a transfer executes one instruction, a delivery none
+    transfer-work : {k : Transfer} → Ran m (senderOf m c) (receiverOf m c) (x .tasks) (y .tasks) (transfer k)
+        → unexecuted m (x .tasks) ≡ suc (unexecuted m (y .tasks))
+    transfer-work (by-sender is more goes stays) =
+        work-one m (x .tasks) (y .tasks) (senderOf m c) is more goes (λ t k. rest-of (senderOf m c) (receiverOf m c) other-places stays t)
+    transfer-work (by-receiver is more goes stays) =
+        work-one m (x .tasks) (y .tasks) (receiverOf m c) is more goes
+        (λ t k. rest-of (receiverOf m c) (senderOf m c) (λ t nr ns. other-places t ns nr) stays t)
+
+    delivery-work : {p : ℕ} {a : Delivery} → Ran m (senderOf m c) (receiverOf m c) (x .tasks) (y .tasks) (delivery p a)
+        → unexecuted m (y .tasks) ≡ unexecuted m (x .tasks)
+    delivery-work (by-nobody a b) =
+        work-same m (x .tasks) (y .tasks)
+        (task-cases (λ t. y .tasks t .pc ≡ x .tasks t .pc) (senderOf m c) a (rest-of (senderOf m c) (receiverOf m c) other-places b))
+
+  module _ {h : Histories} {s : Net} {x : Reading} {w : ChannelId → List Word} (run : Running m h s x w) where
+    pub transfer-less : {y : Reading} {got : Received} (e : Transfer) → ChannelAct m h x y (transfer e) got → Less h h x y 1
+    unfolding guard after
+    transfer-less {y} e act =
+        let v = viewOf m h x (act .channel) in
+        let work = transfer-work act (act .ran) in
+        let adds = transfer-adds e v (run .views (act .channel) (act .low) (act .high)) (act .allowed) in
+        let few : v .processors ≤ 6 = rw (viewed h x (act .channel)) (run .few) in
+        record { work = omega (arith, work); weight = omega (arith, split h x, split h y, work, adds, few, only-here act, same-tasks act) }
+
+    pub delivery-less : {y : Reading} {got : Received} (p : ℕ) (a : Delivery) → ChannelAct m h x y (delivery p a) got → Less h h x y 0
+    unfolding guard after
+    delivery-less {y} p a act =
+        let v = viewOf m h x (act .channel) in
+        let work = delivery-work act (act .ran) in
+        let falls = delivery-falls p a v (run .views (act .channel) (act .low) (act .high)) (act .allowed) in
+        record { work = omega (arith, work); weight = omega (arith, split h x, split h y, work, falls, only-here act, same-tasks act) }

@@ -1,0 +1,334 @@
+-- A step about one channel, in the net: nothing, or a word passes.
+use mathlib.Core.Path.{_≡_, refl, sym, ap, _∙_}
+use mathlib.Core.Bool.{true, false}
+use mathlib.Core.List.{List, [], _∷_, _++_, append-nil, append-assoc}
+use mathlib.Core.Logic.{_≢_}
+use Prim.Native.Nat.{ℕ, suc, _+_, _≤_}
+use native.Mathlib.Omega.{arith}
+use lib.ListN.{length}
+use borrow.Author.Tests.{eq-eqb, ne-eqb}
+use Rattle.base.proofs.Tests.{and-both, tests-differ, is-true}
+use Rattle.net.specs.Machines.{stop, take}
+use Rattle.plan.specs.declared.PlanAnswer.the-variants.{Accepted}
+use Rattle.plan.specs.declared.TaskId.{TaskId}
+use Rattle.plan.specs.declared.ChannelId.{ChannelId}
+use Rattle.plan.specs.declared.Word.{Word}
+use Rattle.plan.specs.Kinds.{opSend, opReceive}
+use Rattle.plan.specs.Programs.{Program, Programs}
+use Rattle.plan.specs.Users.{senderOf, receiverOf}
+use Rattle.plan.specs.Refusals.{planAnswer}
+use Rattle.rules.specs.declared.task.TaskState.{TaskState}
+use Rattle.rules.specs.declared.task.TaskState.the-variants.{Unborn, Ready, Waiting, Sending, Receiving, Done}
+use Rattle.rules.specs.declared.task.Task.{Task}
+use Rattle.rules.specs.declared.message.Message.{Message}
+use Rattle.rules.specs.declared.rule.Received.{Received}
+use Rattle.rules.specs.declared.rule.Received.the-variants.{Nothing, Word as GotWord}
+use Rattle.rules.specs.Tasks.{isIn}
+use Rattle.rules.specs.Places.{isOn}
+use Rattle.rules.specs.Steps.{wordOn}
+use Rattle.net.specs.States.{Net, atTask}
+use Rattle.net.specs.Labels.{pass, takesPart}
+use Rattle.net.specs.Guards.{standsAt, enabled}
+use Rattle.net.specs.Effects.{afterPass, effect}
+use Rattle.net.specs.Consistent.{Consistent}
+use Rattle.net.proofs.Parts.{sender-part, receiver-part}
+use Rattle.net.proofs.Stays.{completed-grows, completed-stays, word-stays}
+use Rattle.channel.specs.Bags.{one}
+use Rattle.channel.specs.Events.{Event}
+use Rattle.channel.specs.Invariant.{Invariant}
+use Rattle.channel.proofs.Keep.{keeps}
+use Rattle.transitions.specs.Readings.{Reading}
+use Rattle.transitions.specs.Progress.{flag, programOf, completedBy}
+use Rattle.transitions.specs.Letters.{wordsIn, lettersOn}
+use Rattle.transitions.specs.Views.{Histories, receiverView, viewOf}
+use Rattle.transitions.specs.Turns.{Turn, stays, begins, passes, ends}
+use Rattle.transitions.specs.Acts.{Passing, nothing, direct, called, taken, ChannelAct}
+use Rattle.transitions.specs.Agreement.{comingTo, Agrees, PassedAlike, Running}
+use Rattle.transitions.proofs.Updates.{at-task, at-other, at-elim, channel-cases, at-channel, at-other-channel}
+use Rattle.transitions.proofs.Flats.{words-length, none-of}
+use Rattle.transitions.proofs.Tasks.{state-is, Side, sends, receives, on-in, ready-off}
+use Rattle.transitions.proofs.Turns.{begins-on, turn-completed, turn-word, turn-steady}
+use Rattle.invariant.proofs.Coming.{coming-none, coming-on, coming-alike, agrees-born, agrees-completed, agrees-word, ahead-completed, ahead-word}
+use Rattle.invariant.proofs.Coming.{alike-agrees, agrees-quiet, agrees-ahead, agrees-free}
+use Rattle.invariant.proofs.NetSteps.{Follows, stands-use, stands-on, receives-there}
+
+-- a word is under way only to whom receives
+module _ (m : Programs) (h : Histories) (x : Reading) (c : ChannelId) (i : Invariant (viewOf m h x c)) where
+  words-few : length (wordsIn (lettersOn c (x .letters))) ≤ flag (isOn Receiving (programOf m (receiverOf m c)) c (x .tasks (receiverOf m c)))
+  unfolding viewOf receiverView
+  words-few = let k = i .counts in omega (arith, words-length (lettersOn c (x .letters)), k .marked, k .receives)
+
+  words-none : isOn Receiving (programOf m (receiverOf m c)) c (x .tasks (receiverOf m c)) ≡ false → wordsIn (lettersOn c (x .letters)) ≡ []
+  words-none e = none-of (wordsIn (lettersOn c (x .letters))) (let l = rw e at words-few in omega arith)
+
+  words-received : (v : Word) → wordsIn (lettersOn c (x .letters)) ≡ one v
+      → isOn Receiving (programOf m (receiverOf m c)) c (x .tasks (receiverOf m c)) ≡ true
+  words-received v e = is-true _ (λ f. let l : 1 ≤ 0 = rw (e, f) at words-few in omega arith)
+
+-- nothing is on its way to an end that completes its instruction
+module _ {g : Program} {c : ChannelId} {x : Task} (ms : List Message) where
+  sender-none : {v : Word} {z : Task} → Turn g opSend Sending c x 1 v z → comingTo g ms x ≡ []
+  sender-none (passes v u) = coming-none g x ms (state-is Ready Receiving x (u .ready))
+  sender-none (ends v o) = coming-none g x ms (state-is Sending Receiving x (on-in sends g c x o))
+
+  receiver-none : {v : Word} {z : Task} → Turn g opReceive Receiving c x 1 v z → wordsIn (lettersOn c ms) ≡ [] → comingTo g ms x ≡ []
+  receiver-none (passes v u) e = coming-none g x ms (state-is Ready Receiving x (u .ready))
+  receiver-none (ends v o) e = coming-on g x c ms o ∙ e
+
+-- the ends of the channel: what agreed with the net before the step agrees after it
+module _ {m : Programs} {s s' : Net} {ms ns : List Message} {t : TaskId} {x : Task} (a : Agrees m s ms t x) (born : s' .born t ≡ s .born t)
+    (c : ChannelId) (low : 1 ≤ c .0) where
+  -- the sender, which completes n instructions
+  sender-turned : {n : ℕ} {v : Word} {z : Task} → Turn (programOf m t) opSend Sending c x n v z → v ≡ x .word → s' .completed t ≡ s .completed t + n
+      → s' .word t ≡ s .word t → isIn Unborn x ≡ false → isIn Receiving x ≡ false
+      → isIn Unborn z ≡ false → isIn Waiting z ≡ false → isIn Receiving z ≡ false → isIn Done z ≡ false → Agrees m s' ns t z
+  sender-turned u e k w b r zb zw zr zd =
+      let none = coming-none (programOf m t) x ms r in
+      agrees-quiet (born ∙ agrees-born a b) zb zw (λ d. absurd (tests-differ d zd)) (coming-none (programOf m t) _ ns zr)
+      (omega (arith, agrees-completed a none, turn-completed sends low u))
+      (w ∙ agrees-word a none ∙ sym (turn-word u ∙ e))
+
+  sender-agrees : {n : ℕ} {v : Word} {z : Task} → Turn (programOf m t) opSend Sending c x n v z → v ≡ x .word
+      → s' .completed t ≡ s .completed t + n
+      → s' .word t ≡ s .word t → comingTo (programOf m t) ns x ≡ comingTo (programOf m t) ms x → Agrees m s' ns t z
+  sender-agrees stays e k w same = alike-agrees a born (omega arith) w same
+  sender-agrees (begins u) e k w same =
+      sender-turned (begins u) e k w (state-is Ready Unborn x (u .ready)) (state-is Ready Receiving x (u .ready)) refl refl refl refl
+  sender-agrees (passes v u) e k w same =
+      sender-turned (passes v u) e k w (state-is Ready Unborn x (u .ready)) (state-is Ready Receiving x (u .ready)) refl refl refl refl
+  sender-agrees (ends v o) e k w same =
+      let q = on-in sends (programOf m t) c x o in
+      sender-turned (ends v o) e k w (state-is Sending Unborn x q) (state-is Sending Receiving x q) refl refl refl refl
+
+  -- the receiver, which completes nothing, while no word leaves
+  receiver-agrees : {v : Word} {z : Task} → Turn (programOf m t) opReceive Receiving c x 0 v z → s' .completed t ≡ s .completed t
+      → s' .word t ≡ s .word t
+      → comingTo (programOf m t) ns x ≡ comingTo (programOf m t) ms x → (isOn Receiving (programOf m t) c x ≡ false → wordsIn (lettersOn c ns) ≡ [])
+      → Agrees m s' ns t z
+  receiver-agrees stays k w same quiet = alike-agrees a born k w same
+  receiver-agrees (begins u) k w same quiet =
+      let g = programOf m t in
+      let none = coming-none g x ms (state-is Ready Receiving x (u .ready)) in
+      agrees-quiet (born ∙ agrees-born a (state-is Ready Unborn x (u .ready))) refl refl (λ d. absurd (tests-differ d refl))
+      (coming-on g _ c ns (begins-on receives g c x u) ∙ quiet (ready-off receives g c x (u .ready)))
+      (k ∙ omega (arith, agrees-completed a none, turn-completed receives low (begins u)))
+      (w ∙ agrees-word a none)
+
+  -- a word leaves, and the receiver receives
+  receiver-ahead : {v u : Word} {z : Task} → Turn (programOf m t) opReceive Receiving c x 0 v z → isOn Receiving (programOf m t) c z ≡ true
+      → comingTo (programOf m t) ms x ≡ [] → s' .completed t ≡ suc (s .completed t) → s' .word t ≡ u → wordsIn (lettersOn c ns) ≡ one u
+      → Agrees m s' ns t z
+  receiver-ahead {z = z} turn o none k w e =
+      let g = programOf m t in
+      let q = on-in receives g c z o in
+      let b = state-is Receiving Unborn z q in
+      agrees-ahead (born ∙ agrees-born a (sym (turn-steady receives turn .unborn) ∙ b)) b (state-is Receiving Waiting z q)
+      (λ d. absurd (tests-differ d (state-is Receiving Done z q)))
+      (coming-on g z c ns o ∙ e)
+      (omega (arith, agrees-completed a none, turn-completed receives low turn))
+      w
+
+  -- .. which completes one instruction
+  receiver-passed : {v : Word} {z : Task} → Turn (programOf m t) opReceive Receiving c x 1 v z → s' .completed t ≡ suc (completedBy x)
+      → s' .word t ≡ v → Agrees m s' ns t z
+  receiver-passed (passes v u) k w =
+      agrees-free (born ∙ agrees-born a (state-is Ready Unborn x (u .ready))) refl refl refl
+      (omega (arith, turn-completed receives low (passes v u))) w
+  receiver-passed (ends v o) k w =
+      agrees-free (born ∙ agrees-born a (state-is Receiving Unborn x (on-in receives (programOf m t) c x o))) refl refl refl
+      (omega (arith, turn-completed receives low (ends v o))) w
+
+-- a word passes in the net
+module _ (m : Programs) (s : Net) (c : ChannelId) where
+  pass-born : (t : TaskId) → effect m s (pass c) .born t ≡ s .born t
+  unfolding effect afterPass
+  pass-born t = refl
+
+  pass-sender-word : senderOf m c .0 ≢ receiverOf m c .0 → effect m s (pass c) .word (senderOf m c) ≡ s .word (senderOf m c)
+  unfolding effect afterPass
+  pass-sender-word ne = at-other (s .word) (receiverOf m c) (senderOf m c) (s .word (senderOf m c)) ne
+
+  pass-receiver-word : effect m s (pass c) .word (receiverOf m c) ≡ s .word (senderOf m c)
+  unfolding effect afterPass
+  pass-receiver-word = at-task (s .word) (receiverOf m c) (s .word (senderOf m c))
+
+  pass-here : effect m s (pass c) .passed c ≡ s .passed c ++ one (s .word (senderOf m c))
+  unfolding effect afterPass
+  pass-here = at-channel (s .passed) c (s .passed c ++ one (s .word (senderOf m c)))
+
+  pass-elsewhere : (d : ChannelId) → d .0 ≢ c .0 → effect m s (pass c) .passed d ≡ s .passed d
+  unfolding effect afterPass
+  pass-elsewhere d ne = at-other-channel (s .passed) c d (s .passed c ++ one (s .word (senderOf m c))) ne
+
+  pass-idle : (u : TaskId) → u .0 ≢ receiverOf m c .0 → u .0 ≢ senderOf m c .0 → takesPart m u (pass c) ≡ false
+  unfolding takesPart
+  pass-idle u r q = rw (ne-eqb (u .0) (senderOf m c .0) q) (ne-eqb (u .0) (receiverOf m c .0) r)
+
+pass-enabled : (m : Programs) (s : Net) (c : ChannelId) → standsAt m s (senderOf m c) opSend c ≡ true
+    → standsAt m s (receiverOf m c) opReceive c ≡ true
+    → enabled m s (pass c) ≡ true
+unfolding enabled
+pass-enabled m s c p q = and-both (standsAt m s (senderOf m c) opSend c) _ p q
+
+word-elsewhere : (c : ChannelId) (v : Word) (d : ChannelId) → d .0 ≢ c .0 → wordOn d (GotWord c v) ≡ []
+unfolding wordOn
+word-elsewhere c v d ne = rw (ne-eqb (c .0) (d .0) (λ e. ne (sym e))) refl
+
+module _ (m : Programs) (accepted : planAnswer m ≡ Accepted) (s : Net) (consistent : Consistent m s)
+    {h : Histories} {x : Reading} {w : ChannelId → List Word} (run : Running m h s x w) (y : Reading) (c : ChannelId) (low : 1 ≤ c .0)
+    (high : c .0 ≤ 128)
+    (other : (d : ChannelId) → d .0 ≢ c .0 → lettersOn d (y .letters) ≡ lettersOn d (x .letters)) where
+  -- the words passed: what was under way and what leaves is what is received and then under way
+  passed-alike : (s' : Net) (more : List Word) (got : Received) → s' .passed c ≡ s .passed c ++ more
+      → ((d : ChannelId) → d .0 ≢ c .0 → s' .passed d ≡ s .passed d)
+      → wordsIn (lettersOn c (x .letters)) ++ more ≡ wordOn c got ++ wordsIn (lettersOn c (y .letters))
+      → ((d : ChannelId) → d .0 ≢ c .0 → wordOn d got ≡ []) → PassedAlike s' (λ d. w d ++ wordOn d got) (y .letters)
+  passed-alike s' more got here away words none =
+      channel-cases (λ d. s' .passed d ≡ (w d ++ wordOn d got) ++ wordsIn (lettersOn d (y .letters))) c
+      (here ∙ ap (_++ more) (run .passed c) ∙ append-assoc (w c) (wordsIn (lettersOn c (x .letters))) more ∙ ap (w c ++_) words
+      ∙ sym (append-assoc (w c) (wordOn c got) (wordsIn (lettersOn c (y .letters)))))
+      (λ d ne. away d ne ∙ run .passed d ∙ rw (none d ne, other d ne, append-nil (w d)) refl)
+
+  -- nothing changes in what comes to another task
+  coming-apart : (u : TaskId) → u .0 ≢ receiverOf m c .0
+      → comingTo (programOf m u) (y .letters) (x .tasks u) ≡ comingTo (programOf m u) (x .letters) (x .tasks u)
+  coming-apart u ne =
+      coming-alike (programOf m u) (x .tasks u) (x .letters) (y .letters)
+      (channel-cases
+      (λ d. isOn Receiving (programOf m u) d (x .tasks u) ≡ true → wordsIn (lettersOn d (y .letters)) ≡ wordsIn (lettersOn d (x .letters))) c
+      (λ o. absurd (ne (ap (λ (v : TaskId). v .0) (sym (receives-there m accepted s consistent run u c o)))))
+      (λ d q o. rw (other d q) refl))
+
+  coming-kept : wordsIn (lettersOn c (y .letters)) ≡ wordsIn (lettersOn c (x .letters)) → (u : TaskId)
+      → comingTo (programOf m u) (y .letters) (x .tasks u) ≡ comingTo (programOf m u) (x .letters) (x .tasks u)
+  coming-kept e u =
+      coming-alike (programOf m u) (x .tasks u) (x .letters) (y .letters)
+      (λ d o. channel-cases (λ d. wordsIn (lettersOn d (y .letters)) ≡ wordsIn (lettersOn d (x .letters))) c e (λ d q. rw (other d q) refl) d)
+
+  -- what is said of the ends is said of all
+  ends-agree : (s' : Net) (first second : Task) → y .tasks ≡ atTask (atTask (x .tasks) (senderOf m c) first) (receiverOf m c) second
+      → (senderOf m c .0 ≢ receiverOf m c .0 → Agrees m s' (y .letters) (senderOf m c) first) → Agrees m s' (y .letters) (receiverOf m c) second
+      → ((u : TaskId) → u .0 ≢ receiverOf m c .0 → u .0 ≢ senderOf m c .0 → Agrees m s' (y .letters) u (x .tasks u))
+      → (u : TaskId) → Agrees m s' (y .letters) u (y .tasks u)
+  ends-agree s' first second e one two rest u =
+      rw e
+      (at-elim (λ v z. Agrees m s' (y .letters) v z) (atTask (x .tasks) (senderOf m c) first) (receiverOf m c) second two
+      (λ v ne. at-elim (λ v z. v .0 ≢ receiverOf m c .0 → Agrees m s' (y .letters) v z) (x .tasks) (senderOf m c) first one
+      (λ v q r. rest v r q) v ne)
+      u)
+
+  -- an end that completes an instruction is at it in the net
+  turn-stands : {k : ℕ} {u : TaskState} → Side k u → (t : TaskId) {v : Word} {z : Task} → Turn (programOf m t) k u c (x .tasks t) 1 v z
+      → comingTo (programOf m t) (x .letters) (x .tasks t) ≡ [] → standsAt m s t k c ≡ true
+  turn-stands {k} side t (passes v u) none = stands-use m accepted s consistent run t k c u
+  turn-stands side t (ends v o) none = stands-on m accepted s consistent run t side c o none
+
+  -- a receiver that receives afterwards and completes nothing
+  receiver-there : {v : Word} {z : Task} → Turn (programOf m (receiverOf m c)) opReceive Receiving c (x .tasks (receiverOf m c)) 0 v z
+      → isOn Receiving (programOf m (receiverOf m c)) c z ≡ true → wordsIn (lettersOn c (x .letters)) ≡ []
+      → (comingTo (programOf m (receiverOf m c)) (x .letters) (x .tasks (receiverOf m c)) ≡ []) × (standsAt m s (receiverOf m c) opReceive c ≡ true)
+  receiver-there stays o none =
+      let quiet = coming-on (programOf m (receiverOf m c)) (x .tasks (receiverOf m c)) c (x .letters) o ∙ none in
+      (quiet, stands-on m accepted s consistent run (receiverOf m c) receives c o quiet)
+  receiver-there (begins u) o none =
+      let z = x .tasks (receiverOf m c) in (
+        coming-none (programOf m (receiverOf m c)) z (x .letters) (state-is Ready Receiving z (u .ready)),
+        stands-use m accepted s consistent run (receiverOf m c) opReceive c u,
+      )
+
+  module _ (first second : Task) (tasks : y .tasks ≡ atTask (atTask (x .tasks) (senderOf m c) first) (receiverOf m c) second) where
+    second-at : y .tasks (receiverOf m c) ≡ second
+    second-at = rw tasks (at-task (atTask (x .tasks) (senderOf m c) first) (receiverOf m c) second)
+
+    -- no word leaves, and the net stays
+    still-follows : (got : Received)
+        → Turn (programOf m (senderOf m c)) opSend Sending c (x .tasks (senderOf m c)) 0 (x .tasks (senderOf m c) .word) first
+        → Agrees m s (y .letters) (receiverOf m c) second → wordsIn (lettersOn c (x .letters)) ≡ wordOn c got ++ wordsIn (lettersOn c (y .letters))
+        → ((d : ChannelId) → d .0 ≢ c .0 → wordOn d got ≡ []) → Follows m s y (λ d. w d ++ wordOn d got)
+    still-follows got turn two words none =
+        record {
+          end = s;
+          labels = [];
+          run = stop;
+          agrees = ends-agree s first second tasks
+              (λ ne. sender-agrees (run .agrees (senderOf m c)) refl c low turn refl (omega arith) refl (coming-apart (senderOf m c) ne))
+              two (λ u r q. alike-agrees (run .agrees u) refl refl refl (coming-apart u r));
+          passed =
+              passed-alike s [] got (sym (append-nil (s .passed c))) (λ d ne. refl) (append-nil (wordsIn (lettersOn c (x .letters))) ∙ words) none;
+        }
+
+    -- a word leaves, and passes in the net
+    pass-follows : (got : Received)
+        → Turn (programOf m (senderOf m c)) opSend Sending c (x .tasks (senderOf m c)) 1 (x .tasks (senderOf m c) .word) first
+        → standsAt m s (receiverOf m c) opReceive c ≡ true
+        → (effect m s (pass c) .completed (receiverOf m c) ≡ suc (s .completed (receiverOf m c))
+        → effect m s (pass c) .word (receiverOf m c) ≡ x .tasks (senderOf m c) .word
+        → Agrees m (effect m s (pass c)) (y .letters) (receiverOf m c) second)
+        → wordsIn (lettersOn c (x .letters)) ++ one (x .tasks (senderOf m c) .word) ≡ wordOn c got ++ wordsIn (lettersOn c (y .letters))
+        → ((d : ChannelId) → d .0 ≢ c .0 → wordOn d got ≡ []) → Follows m s y (λ d. w d ++ wordOn d got)
+    pass-follows got turn there two words none =
+        let a = run .agrees (senderOf m c) in
+        let quiet = sender-none (x .letters) turn in
+        let value = agrees-word a quiet in
+        let may = pass-enabled m s c (turn-stands sends (senderOf m c) turn quiet) there in
+        let s' = effect m s (pass c) in
+        record {
+          end = s';
+          labels = pass c ∷ [];
+          run = take (pass c) may stop;
+          agrees = ends-agree s' first second tasks
+              (λ ne.
+              sender-agrees a (pass-born m s c (senderOf m c)) c low turn refl
+              (omega (arith, completed-grows m s (pass c) (senderOf m c) may (sender-part m c))) (pass-sender-word m s c ne)
+              (coming-apart (senderOf m c) ne))
+              (two (completed-grows m s (pass c) (receiverOf m c) may (receiver-part m c)) (pass-receiver-word m s c ∙ value))
+              (λ u r q.
+              let idle = pass-idle m s c u r q in
+              alike-agrees (run .agrees u) (pass-born m s c u) (completed-stays m s (pass c) u idle) (word-stays m s (pass c) u idle)
+              (coming-apart u r));
+          passed = passed-alike s' (one (x .tasks (senderOf m c) .word)) got (pass-here m s c ∙ rw value refl) (pass-elsewhere m s c) words none;
+        }
+
+    -- by how the word passes
+    follows : {sent got : ℕ} {value : Word} {after : List Word} {received : Received}
+        → Turn (programOf m (senderOf m c)) opSend Sending c (x .tasks (senderOf m c)) sent (x .tasks (senderOf m c) .word) first
+        → Turn (programOf m (receiverOf m c)) opReceive Receiving c (x .tasks (receiverOf m c)) got value second
+        → Passing c (x .tasks (senderOf m c) .word) (wordsIn (lettersOn c (x .letters))) sent got value after received
+        → wordsIn (lettersOn c (y .letters)) ≡ after → Invariant (viewOf m h y c) → Follows m s y (λ d. w d ++ wordOn d received)
+    unfolding wordOn
+    follows p q nothing e i =
+        still-follows Nothing p
+        (receiver-agrees (run .agrees (receiverOf m c)) refl c low q refl refl (coming-kept e (receiverOf m c))
+        (λ o. e ∙ words-none m h x c (run .views c low high) o))
+        (sym e) (λ d ne. refl)
+    follows p q (direct none) e i =
+        let a = run .agrees (receiverOf m c) in
+        let quiet = receiver-none (x .letters) q none in
+        pass-follows (GotWord c (x .tasks (senderOf m c) .word)) p (turn-stands receives (receiverOf m c) q quiet)
+        (λ k v. receiver-passed a (pass-born m s c (receiverOf m c)) c low q (k ∙ ap suc (agrees-completed a quiet)) v)
+        (rw (none, e, eq-eqb (c .0) (c .0) refl) refl) (word-elsewhere c (x .tasks (senderOf m c) .word))
+    follows p q (called none) e i =
+        let o = rw (second-at) at (words-received m h y c i (x .tasks (senderOf m c) .word) e) in
+        let (quiet, there) = receiver-there q o none in
+        pass-follows Nothing p there
+        (λ k v. receiver-ahead (run .agrees (receiverOf m c)) (pass-born m s c (receiverOf m c)) c low q o quiet k v e)
+        (rw (none, e) refl) (λ d ne. refl)
+    follows p q (taken v some) e i =
+        let a = run .agrees (receiverOf m c) in
+        let coming =
+        coming-on (programOf m (receiverOf m c)) (x .tasks (receiverOf m c)) c (x .letters)
+        (words-received m h x c (run .views c low high) v some) ∙ some in
+        still-follows (GotWord c v) p (receiver-passed a refl c low q (ahead-completed a coming) (ahead-word a coming))
+        (rw (some, e, eq-eqb (c .0) (c .0) refl) refl) (word-elsewhere c v)
+
+-- each step about one channel
+pub channel-follows : (m : Programs) → planAnswer m ≡ Accepted → (s : Net) → Consistent m s
+    → {h : Histories} {x y : Reading} {w : ChannelId → List Word} {e : Event} {received : Received} → Running m h s x w
+    → ChannelAct m h x y e received
+    → Follows m s y (λ d. w d ++ wordOn d received)
+channel-follows m accepted s consistent {h} {x} {y} {e = e} run act =
+    let c = act .channel in
+    let i : Invariant (viewOf m h y c) = rw (act .view) (keeps e (viewOf m h x c) (run .views c (act .low) (act .high)) (act .allowed)) in
+    follows m accepted s consistent run y c (act .low) (act .high) (act .other-letters) (act .sender) (act .receiver) (act .tasks) (act .sender-turn)
+    (act .receiver-turn)
+    (act .passing) refl i

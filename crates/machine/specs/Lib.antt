@@ -1,2 +1,0 @@
--- What a machine with labels is.
-pub mod Machines

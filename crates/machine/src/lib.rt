@@ -1,1 +1,0 @@
-// Theory only: see specs/ and proofs/.

@@ -1,0 +1,12 @@
+-- What reading the parts computes, entry by entry and slot by slot.
+pub mod Filling
+mod Entries
+mod Headers
+pub mod Rows
+pub mod Slots
+-- What the stages of reading give together is the paper's reading of a file; what a reader owns.
+mod Empty
+mod Answers
+mod Rest
+mod Meaning
+mod Held

@@ -1,0 +1,62 @@
+// The parts of a plan file: its header and its instructions, each read from a slice at a place.
+// Plan files checked and read. Either way a reader is put at the file's front; the header is read where it
+// stands, and then what follows of it and of the instructions behind it.
+pub mod code;
+pub mod fields;
+pub mod header;
+mod reader;
+pub mod scan;
+mod stages;
+
+ghost use mathlib.Core.Path.{_≡_};
+ghost use Rattle.plan.specs.Files.{fileAnswer};
+ghost use Rattle.plan.specs.Outcomes.{planRead};
+ghost use Rattle.plan_file.specs.Stages.{Loads};
+use plan::Plan;
+use plan::PlanAnswer;
+use plan::PlanRead;
+
+// What loading a file gives: what reading it gives, and, by argument, each task's parent and each channel's
+// sender and receiver, if it is accepted.
+pub struct Loaded {
+    pub answer: PlanAnswer,
+    pub plan: Plan,
+    pub parents: [u8; 129],
+    pub senders: [u8; 129],
+    pub receivers: [u8; 129],
+}
+
+// A plan file checked: the plan's acceptance or the refusal.
+pub fn check_plan(file: &[u8]) -> PlanAnswer
+    ensures { λ r. ⌜ r ≡ fileAnswer (now (file .entry)) ⌝ }
+{
+    let start = reader::new(file);
+    let n = reader::left(start);
+    let header = reader::header(start, n);
+    let behind = reader::advanced(start, header.size);
+    reader::answer(behind, header)
+}
+
+// A plan file loaded: the answer, the plan beside it, and who uses what.
+pub fn load(file: &[u8]) -> Loaded
+    ensures { λ r. ⌜ Loads (planRead (now (file .entry))) r ⌝ }
+{
+    let start = reader::new(file);
+    let n = reader::left(start);
+    let header = reader::header(start, n);
+    let behind = reader::advanced(start, header.size);
+    reader::loaded(behind, header)
+}
+
+// A plan file read: the answer, and the plan beside it.
+pub fn read_plan(file: &[u8]) -> PlanRead
+    ensures { λ r. ⌜ r ≡ planRead (now (file .entry)) ⌝ }
+{
+    let l = load(file);
+    let answer = l.answer;
+    let plan = l.plan;
+    PlanRead {
+        answer: answer,
+        plan: plan,
+    }
+}

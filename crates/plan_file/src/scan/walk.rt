@@ -1,0 +1,61 @@
+// The pass over the instructions of a plan file.
+ghost use Rattle.plan.specs.Programs.{programs};
+ghost use Rattle.plan_file.specs.Code.{codeOf};
+ghost use Rattle.plan_value.specs.Editions.{presentEdition};
+ghost use Rattle.plan_value.specs.Firsts.{NoFirsts};
+ghost use Rattle.plan_value.specs.Pass.{PassOf};
+ghost use Rattle.plan_file.specs.scan.Code.{Whole, secondIn};
+use crate::code::fetch;
+use plan::Instruction;
+use plan_value::instruction::present;
+use plan_value::pass::Entry;
+use plan_value::pass::Pass;
+use plan_value::pass::next;
+
+// The instructions of tasks with these numbers of instructions: they stand one behind the other. The
+// tables take, by argument, the first task that creates, sends and receives.
+pub fn walk<'a>(
+    file: &'a [u8],
+    tasks: u8,
+    lengths: &'a [u8; 64],
+    parents: &'a mut [u8; 129],
+    senders: &'a mut [u8; 129],
+    receivers: &'a mut [u8; 129],
+) -> Pass
+    requires { ⌜ Whole (now file) tasks (now lengths) × NoFirsts (now parents) (now senders) (now receivers) ⌝ }
+    ensures { λ r. ⌜
+        PassOf presentEdition (programs (codeOf (now (file .entry)) tasks (now (lengths .entry)) .plan)) (secondIn (now (file .entry)) (now (lengths .entry))) r
+        (now (parents .exit)) (now (senders .exit)) (now (receivers .exit)) ⌝ }
+{
+    let n = base::wide8(tasks);
+    let edition = present();
+    let mut p = Pass::new(tasks, true);
+    let mut at: usize = 0;
+    let mut k: usize = 0;
+    while k < n {
+        let count = base::wide8(lengths[k]);
+        let t = k as u8 + 1;
+        let mut i: usize = 0;
+        while i < count {
+            let f = fetch(file, true, at);
+            let x = Instruction {
+                opcode: f.opcode,
+                operand: f.operand,
+            };
+            let entry = Entry {
+                task: t,
+                last: i == count - 1,
+                second: f.second,
+                instruction: x,
+            };
+            p = next(p, edition, entry, parents, senders, receivers);
+            if !p.instructions {
+                return p;
+            }
+            at += 4;
+            i += 1;
+        }
+        k += 1;
+    }
+    p
+}

@@ -1,0 +1,2 @@
+pub mod ends
+pub mod user_table

@@ -1,0 +1,60 @@
+// The number of each send: how many sends on its channel the task has
+// up to it.
+ghost use mathlib.Core.Path.{_≡_};
+ghost use Prim.Native.Nat.{_<_, _≤_};
+ghost use lib.ListN.{length};
+ghost use Rattle.plan.specs.declared.PlanAnswer.the-variants.{Accepted};
+ghost use Rattle.plan.specs.Programs.{programs};
+ghost use Rattle.plan.specs.Refusals.{planAnswer};
+ghost use Rattle.plan_value.specs.Slots.{planIn};
+ghost use Rattle.plan_index.specs.ends.Derived.{endsOf};
+ghost use Rattle.plan_index.specs.ends.Numbers.{SendsFit, numberedTask};
+use plan::SEND;
+
+// The sends of task k + 1, which has `count` instructions, numbered.
+fn number_task<'a>(
+    k: usize,
+    count: usize,
+    opcodes: &'a [u8; 4096],
+    operands: &'a [u16; 4096],
+    numbers: &'a mut [u8; 4096],
+)
+    requires { ⌜ (k < 64) × (count ≤ 64) × (length (now numbers) ≡ 4096) × SendsFit (now opcodes) (now operands) k count ⌝ }
+    ensures { λ r. ⌜ now (numbers .exit) ≡ numberedTask (now (opcodes .entry)) (now (operands .entry)) (now (numbers .entry)) k count ⌝ }
+{
+    // how many sends on each channel there were
+    let mut sent = [0u8; 129];
+    let mut i: usize = 0;
+    while i < count {
+        let s = 64 * k + i;
+        if opcodes[s] == SEND {
+            let c = base::wide16(operands[s]);
+            let before = sent[c];
+            let n = before + 1;
+            sent[c] = n;
+            numbers[s] = n;
+        }
+        i += 1;
+    }
+}
+
+// The numbers of all sends of an accepted plan, task by task.
+pub fn send_numbers<'a>(
+    tasks: u8,
+    lengths: &'a [u8; 64],
+    opcodes: &'a [u8; 4096],
+    operands: &'a [u16; 4096],
+) -> [u8; 4096]
+    requires { ⌜ planAnswer (programs (planIn tasks (now lengths) (now opcodes) (now operands))) ≡ Accepted ⌝ }
+    ensures { λ r. ⌜ r ≡ endsOf (planIn tasks (now (lengths .entry)) (now (opcodes .entry)) (now (operands .entry))) .numbers ⌝ }
+{
+    let n = base::wide8(tasks);
+    let mut numbers = [0u8; 4096];
+    let mut k: usize = 0;
+    while k < n {
+        let count = base::wide8(lengths[k]);
+        number_task(k, count, opcodes, operands, &mut numbers);
+        k += 1;
+    }
+    numbers
+}

@@ -1,0 +1,3 @@
+// plan_index
+pub mod ends;
+pub mod user_table;

@@ -1,3 +1,0 @@
--- What the parts of a plan file are read as.
-pub mod Header
-pub mod Code

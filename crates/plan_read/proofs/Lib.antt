@@ -1,6 +1,0 @@
--- What the stages of reading give together is the paper's reading of a file; what a reader owns.
-mod Empty
-mod Answers
-mod Rest
-mod Meaning
-mod Held

@@ -1,0 +1,148 @@
+-- What the pass over the instructions of a plan finds is what the paper asks of the plan: its answer, and the first tasks.
+use mathlib.Core.Path.{_≡_, refl, sym, _∙_, ap}
+use mathlib.Core.Bool.{Bool, true, false, not, _&&_, _||_, and-assoc}
+use mathlib.Core.List.{List, [], _∷_, _++_}
+use Prim.Native.Nat.{ℕ, suc, _+_, _-_, _<_, _≤_}
+use native.Mathlib.Numerals.{add-one}
+use native.Mathlib.Omega.{arith}
+use lib.ListN.{length, getD}
+use lib.Dec.{eqb, leb}
+use borrow.Author.Tests.{ne-eqb, eq-eqb}
+use Rattle.base.specs.Choice.{unless}
+use Rattle.base.specs.Range.{below}
+use Rattle.base.specs.Lists.{every, table}
+use Rattle.base.proofs.Tests.{and-true}
+use Rattle.base.proofs.Folds.{fold-same, fold-more}
+use Rattle.base.proofs.Tables.{as-table, table-more, table-same, getD-table, every-table}
+use Rattle.plan.specs.declared.Instruction.{Instruction}
+use Rattle.plan.specs.declared.PlanAnswer.the-variants.{Refused}
+use Rattle.plan.specs.declared.Refusal.the-variants.{BadInstruction}
+use Rattle.plan.specs.Kinds.{opCreate, opSend, opReceive, isFinish, noInstruction}
+use Rattle.plan.specs.Programs.{Program, Programs, programAt, instructionAt}
+use Rattle.plan.specs.Layout.{countOf}
+use Rattle.plan.specs.Users.{firstOf, users}
+use Rattle.plan.specs.Refusals.{sizesOk, instructionOk, instructionsOk, finishOk, finishesOk, createOk, createsOk, channelsOk, structureAnswer}
+use Rattle.plan_laws.proofs.Answers.{sized}
+use Rattle.plan_value.specs.declared.pass.Pass.{Pass}
+use Rattle.plan_value.specs.Editions.{presentEdition}
+use Rattle.plan_value.specs.Marks.{sameTest}
+use Rattle.plan_value.specs.Firsts.{firstUsers, Firsts, hasParent, allCreated}
+use Rattle.plan_value.specs.Pass.{seen, entryOk, finishFits, usesOf, firstsOf, createFine, endsFit, endsFine, Passed, entries, PassOf, passAnswer, zerosIn}
+use Rattle.plan_value.proofs.Changes.{below-both, every-below}
+use Rattle.plan_value.proofs.Marked.{create-whole}
+use Rattle.plan_value.proofs.Uses.{uses-some}
+use Rattle.plan_value.proofs.Entries.{every-entries, uses-entries}
+use Rattle.plan_value.proofs.Present.{allowed-present}
+
+-- one task more behind the others is in order where none of them is a finish and it is one
+finish-last : (g : Program) (x : Instruction) → finishOk (g ++ (x ∷ [])) ≡ every (λ i. not (isFinish i)) g && isFinish x
+unfolding finishOk every
+finish-last [] x = refl
+finish-last (i ∷ []) x = rw (and-true (not (isFinish i))) refl
+finish-last (i ∷ j ∷ g) x = rw (finish-last (j ∷ g) x) (sym (and-assoc (not (isFinish i)) (not (isFinish j) && every (λ i. not (isFinish i)) g) (isFinish x)))
+
+same-true : (b : Bool) → sameTest b true ≡ b
+same-true true = refl
+same-true false = refl
+
+same-false : (b : Bool) → sameTest b false ≡ not b
+same-false true = refl
+same-false false = refl
+
+finish-more : (n : ℕ) (f : ℕ → Instruction) → finishOk (table (n + 1) f) ≡ below (n + 1) (λ i. sameTest (isFinish (f i)) (eqb i (n + 1 - 1)))
+finish-more n f =
+    let fits : ℕ → Bool = λ i. sameTest (isFinish (f i)) (eqb i (n + 1 - 1)) in
+    ap finishOk (table-more n f)
+    ∙ finish-last (table n f) (f n)
+    ∙ ap (λ (b : Bool). b && isFinish (f n))
+    (every-table (λ i. not (isFinish i)) n f
+    ∙ fold-same _&&_ true n (λ i. not (isFinish (f i))) fits (λ i h. sym (rw (ne-eqb i (n + 1 - 1) (λ e. omega arith)) (same-false (isFinish (f i))))))
+    ∙ ap (λ (b : Bool). below n fits && b) (sym (rw (eq-eqb n (n + 1 - 1) (omega arith)) (same-true (isFinish (f n)))))
+    ∙ sym (fold-more _&&_ true n fits)
+
+-- a program is in order where just its last instruction is a finish
+finish-of : (g : Program) → 1 ≤ length g → finishOk g ≡ below (length g) (λ i. sameTest (isFinish (instructionAt g i)) (eqb i (length g - 1)))
+finish-of g h =
+    let e : length g - 1 + 1 ≡ length g = omega arith in
+    ap finishOk (sym (as-table g noInstruction)) ∙ rw e at (finish-more (length g - 1) (instructionAt g))
+
+module _ (m : Programs) (second : ℕ → ℕ → ℕ) where
+  pub instructions-are : every (entryOk presentEdition (length m)) (entries m second) ≡ zerosIn m second && instructionsOk m
+  unfolding instructionsOk
+  instructions-are =
+      let n = length m in
+      let zero : ℕ → ℕ → Bool = λ k i. eqb (second k i) 0 in
+      let fine : ℕ → ℕ → Bool = λ k i. instructionOk n (instructionAt (programAt m k) i) in
+      every-entries m second (entryOk presentEdition n)
+      ∙ fold-same _&&_ true n _ (λ k. below (countOf m k) (zero k) && below (countOf m k) (fine k))
+      (λ k h.
+      fold-same _&&_ true (countOf m k) _ (λ i. zero k i && fine k i) (λ i q. allowed-present n (instructionAt (programAt m k) i) (second k i))
+      ∙ below-both (countOf m k) (zero k) (fine k))
+      ∙ below-both n (λ k. below (countOf m k) (zero k)) (λ k. below (countOf m k) (fine k))
+      ∙ ap (λ (b : Bool). zerosIn m second && b)
+      (sym
+      (every-below (every (instructionOk n)) m []
+      ∙ fold-same _&&_ true n _ (λ k. below (countOf m k) (fine k)) (λ k h. every-below (instructionOk n) (programAt m k) noInstruction)))
+
+  first-users : (k : ℕ) → firstsOf k (entries m second) ≡ firstUsers m k
+  first-users k = table-same 129 _ _ (λ a h. ap firstOf (uses-entries m second k a))
+
+  pub firsts-are : {p : Pass} {x y z : List ℕ} → Passed presentEdition (length m) (entries m second) (seen p x y z) → Firsts m x y z
+  firsts-are so =
+      record {
+        parents = so .parents ∙ first-users opCreate;
+        senders = so .senders ∙ first-users opSend;
+        receivers = so .receivers ∙ first-users opReceive;
+      }
+
+  module _ (sizes : sizesOk m ≡ true) where
+    finishes-are : every finishFits (entries m second) ≡ finishesOk m
+    unfolding finishesOk
+    finishes-are =
+        every-entries m second finishFits
+        ∙ fold-same _&&_ true (length m) _ (λ k. finishOk (programAt m k)) (λ k h. sym (finish-of (programAt m k) (sized m sizes .counts k h .some)))
+        ∙ sym (every-below finishOk m [])
+
+    channels-are : endsFine (entries m second) ≡ channelsOk m
+    unfolding channelsOk
+    channels-are =
+        fold-same _&&_ true 128 _ _
+        (λ k h.
+        ap (λ (l : List ℕ). endsFit l (usesOf opReceive (suc k) (entries m second))) (uses-entries m second opSend (suc k))
+        ∙ ap (endsFit (users m opSend (suc k))) (uses-entries m second opReceive (suc k)))
+
+    module _ {p : Pass} {x y z : List ℕ} (so : Passed presentEdition (length m) (entries m second) (seen p x y z)) where
+      creates-are : p .creates && allCreated (p .tasks) x ≡ createsOk m
+      unfolding createsOk
+      creates-are =
+          let n = length m in
+          let l = entries m second in
+          ap (λ (t : ℕ). p .creates && allCreated t x) (so .size)
+          ∙ ap (λ (b : Bool). b && allCreated n x) (so .creates)
+          ∙ sym (below-both n (λ k. leb (suc k) 1 || createFine (suc k) (usesOf opCreate (suc k) l)) (hasParent x))
+          ∙ fold-same _&&_ true n _ (λ k. leb (suc k) 1 || createOk m (suc k))
+          (λ k h.
+          let few : suc k < 129 = omega (arith, sized m sizes .tasks .few) in
+          let parent : getD x (k + 1) 0 ≡ firstOf (usesOf opCreate (suc k) l) =
+          rw (add-one k, so .parents) (getD-table 129 (λ a. firstOf (usesOf opCreate a l)) (suc k) 0 few) in
+          rw (parent, add-one k)
+          (go (leb (suc k) 1) (createFine (suc k) (usesOf opCreate (suc k) l)) (not (eqb (firstOf (usesOf opCreate (suc k) l)) 0))
+          ∙ ap (λ (b : Bool). leb (suc k) 1 || b) (sym (create-whole (suc k) (usesOf opCreate (suc k) l) (uses-some opCreate (suc k) l (so .tasks))))
+          ∙ rw (uses-entries m second opCreate (suc k)) refl))
+        where
+          go : (b c d : Bool) → (b || c) && (b || d) ≡ b || (c && d)
+          go true c d = refl
+          go false c d = refl
+
+    -- 3 to 6
+    pub answer-is : {p : Pass} {x y z : List ℕ} → PassOf presentEdition m second p x y z
+        → passAnswer p x ≡ unless (zerosIn m second && instructionsOk m) (Refused BadInstruction) (structureAnswer m)
+    unfolding structureAnswer
+    answer-is {p} {x} {y} {z} q = go (p .instructions) refl
+      where
+        go : (b : Bool) → p .instructions ≡ b
+            → passAnswer p x ≡ unless (zerosIn m second && instructionsOk m) (Refused BadInstruction) (structureAnswer m)
+        go false e = rw (← instructions-are, ← q .instructions, e) refl
+        go true e =
+            let so = q .passed e in
+            rw (← instructions-are, ← q .instructions, e, ← finishes-are, ← so .finishes, ← creates-are so, ← channels-are, ← so .channels) refl

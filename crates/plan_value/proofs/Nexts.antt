@@ -1,0 +1,107 @@
+-- One instruction more, kind by kind: what it leaves as it was, and what it changes.
+use mathlib.Core.Path.{_≡_, refl, sym, _∙_, ap}
+use mathlib.Core.Bool.{Bool, true, false, _&&_}
+use mathlib.Core.List.{List}
+use mathlib.Core.Logic.{_≢_}
+use Prim.Native.Nat.{ℕ, _≤_, _<_}
+use native.Mathlib.Omega.{arith}
+use lib.ListN.{getD}
+use borrow.Author.Tests.{ne-eqb}
+use Rattle.base.proofs.Tests.{and-true, and-right, within-high}
+use Rattle.plan.specs.Kinds.{opCreate, opSend, opReceive}
+use Rattle.plan_laws.proofs.Programs.{create-operand, send-operand, receive-operand}
+use Rattle.plan.specs.Refusals.{instructionOk}
+use Rattle.plan_value.specs.declared.instruction.Edition.{Edition}
+use Rattle.plan_value.specs.declared.pass.Entry.{Entry}
+use Rattle.plan_value.specs.declared.pass.Pass.{Pass}
+use Rattle.plan_value.specs.Editions.{known}
+use Rattle.plan_value.specs.Marks.{createMark, endMark, Entered}
+use Rattle.plan_value.specs.Pass.{Seen, seen, startPass, entryOk, finishFits, nextTable, nextCreate, nextEnd, nextSeen}
+
+abbrev kindOf : Entry → ℕ
+kindOf x = x .instruction .opcode
+
+abbrev argumentOf : Entry → ℕ
+argumentOf x = x .instruction .operand
+
+-- an instruction that is not refused: its argument is an entry of the tables
+module _ (e : Edition) (n : ℕ) (x : Entry) (fine : entryOk e n x ≡ true) where
+  pub argument-fine : instructionOk n (x .instruction) ≡ true
+  argument-fine = and-right (known e (kindOf x) (x .second)) (instructionOk n (x .instruction)) fine
+
+  module _ (few : n ≤ 64) where
+    pub create-fits : kindOf x ≡ opCreate → argumentOf x < 129
+    create-fits o = omega (arith, within-high 2 n (argumentOf x) (create-operand n (x .instruction) argument-fine o))
+
+    pub send-fits : kindOf x ≡ opSend → argumentOf x < 129
+    send-fits o = omega (arith, within-high 1 128 (argumentOf x) (send-operand n (x .instruction) argument-fine o))
+
+    pub receive-fits : kindOf x ≡ opReceive → argumentOf x < 129
+    receive-fits o = omega (arith, within-high 1 128 (argumentOf x) (receive-operand n (x .instruction) argument-fine o))
+
+module _ (e : Edition) (x : Entry) (s : Seen) where
+  abbrev n : ℕ
+  n = s .pass .tasks
+
+  pub next-refused : {r : Pass} → entryOk e n x ≡ false → r ≡ startPass n false → seen r (s .parents) (s .senders) (s .receivers) ≡ nextSeen e x s
+  next-refused h q = rw (q, h) refl
+
+  -- of another kind
+  other-table : (k : ℕ) (l : List ℕ) → kindOf x ≢ k → l ≡ nextTable k x l
+  other-table k l h = rw (ne-eqb (kindOf x) k h) refl
+
+  other-end : (k : ℕ) (l o : List ℕ) → kindOf x ≢ k → nextEnd k x l o ≡ true
+  other-end k l o h = rw (ne-eqb (kindOf x) k h) refl
+
+  other-create : kindOf x ≢ opCreate → s .pass .creates ≡ s .pass .creates && nextCreate x (s .parents)
+  other-create h = rw (ne-eqb (kindOf x) opCreate h) (sym (and-true (s .pass .creates)))
+
+  module _ (fine : entryOk e n x ≡ true) {f : Bool} (finish : f ≡ s .pass .finishes && finishFits x) where
+    together : {c d : Bool} {u v w : List ℕ} → c ≡ s .pass .creates && nextCreate x (s .parents)
+        → d ≡ s .pass .channels && (nextEnd opSend x (s .senders) (s .receivers) && nextEnd opReceive x (s .receivers) (s .senders))
+        → u ≡ nextTable opCreate x (s .parents) → v ≡ nextTable opSend x (s .senders) → w ≡ nextTable opReceive x (s .receivers)
+        → seen (record { tasks = n; instructions = s .pass .instructions; finishes = f; creates = c; channels = d }) u v w ≡ nextSeen e x s
+    together p q i j k =
+        rw fine
+        (λ z. seen (record { tasks = n; instructions = s .pass .instructions; finishes = finish z; creates = p z; channels = q z }) (i z) (j z) (k z))
+
+    pub next-other : kindOf x ≢ opCreate → kindOf x ≢ opSend → kindOf x ≢ opReceive
+        → seen (record { tasks = n; instructions = s .pass .instructions; finishes = f; creates = s .pass .creates; channels = s .pass .channels }) (s .parents) (s .senders) (s .receivers)
+        ≡ nextSeen e x s
+    next-other g h i =
+        together
+        (other-create g)
+        (rw (other-end opSend (s .senders) (s .receivers) h, other-end opReceive (s .receivers) (s .senders) i) (sym (and-true (s .pass .channels))))
+        (other-table opCreate (s .parents) g) (other-table opSend (s .senders) h) (other-table opReceive (s .receivers) i)
+
+    -- with argument a, entered into its table
+    module _ {a : ℕ} (on : a ≡ argumentOf x) {r c : Bool} {l : List ℕ} where
+      pub next-create : kindOf x ≡ opCreate → c ≡ s .pass .creates && r
+          → Entered a (x .task) (createMark (getD (s .parents) a 0) (x .task) a) (s .parents) r l
+          → seen (record { tasks = n; instructions = s .pass .instructions; finishes = f; creates = c; channels = s .pass .channels }) l (s .senders) (s .receivers)
+          ≡ nextSeen e x s
+      next-create o q t =
+          together
+          (q ∙ ap (λ (b : Bool). s .pass .creates && b) (t .answer ∙ rw (on, o) refl))
+          (rw o (sym (and-true (s .pass .channels))))
+          (t .table ∙ rw (on, o) refl) (rw o refl) (rw o refl)
+
+      pub next-send : kindOf x ≡ opSend → c ≡ s .pass .channels && r
+          → Entered a (x .task) (endMark (getD (s .senders) a 0) (getD (s .receivers) a 0) (x .task)) (s .senders) r l
+          → seen (record { tasks = n; instructions = s .pass .instructions; finishes = f; creates = s .pass .creates; channels = c }) (s .parents) l (s .receivers)
+          ≡ nextSeen e x s
+      next-send o q t =
+          together
+          (rw o (sym (and-true (s .pass .creates))))
+          (q ∙ ap (λ (b : Bool). s .pass .channels && b) (t .answer ∙ rw (on, o) (sym (and-true _))))
+          (rw o refl) (t .table ∙ rw (on, o) refl) (rw o refl)
+
+      pub next-receive : kindOf x ≡ opReceive → c ≡ s .pass .channels && r
+          → Entered a (x .task) (endMark (getD (s .receivers) a 0) (getD (s .senders) a 0) (x .task)) (s .receivers) r l
+          → seen (record { tasks = n; instructions = s .pass .instructions; finishes = f; creates = s .pass .creates; channels = c }) (s .parents) (s .senders) l
+          ≡ nextSeen e x s
+      next-receive o q t =
+          together
+          (rw o (sym (and-true (s .pass .creates))))
+          (q ∙ ap (λ (b : Bool). s .pass .channels && b) (t .answer ∙ rw (on, o) refl))
+          (rw o refl) (rw o refl) (t .table ∙ rw (on, o) refl)

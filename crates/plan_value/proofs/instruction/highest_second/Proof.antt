@@ -1,0 +1,16 @@
+-- `instruction::highest_second` is that of set and add, and of the other kinds.
+use borrow.Author.Tests.{eq-eqb, ne-eqb}
+use Rattle.plan_value.proofs.instruction.highest_second.Statement.{statement}
+use Rattle.plan_value.proofs.instruction.highest_second.Tie as tie
+
+returns : tie.Need-returns
+returns c = simp (eq-eqb _ _ (c .if1 .taken))
+
+returns-2 : tie.Need-returns-2
+returns-2 c = simp (ne-eqb _ _ (c .before .if1 .left), eq-eqb _ _ (c .if2 .taken))
+
+returns-3 : tie.Need-returns-3
+returns-3 c = simp (ne-eqb _ _ (c .before .if1 .left), ne-eqb _ _ (c .if2 .left))
+
+pub highest-second-spec : {M : Type 1} → statement M
+highest-second-spec = tie.close (tie.spec returns returns-2 returns-3)

@@ -1,0 +1,190 @@
+// The pass over the instructions of a plan, one after the other: 3 to 6, and who uses what.
+ghost use mathlib.Core.Path.{_≡_};
+ghost use Prim.Native.Nat.{_≤_, _<_};
+ghost use lib.ListN.{getD};
+ghost use Rattle.plan_value.specs.Firsts.{allCreated};
+ghost use Rattle.plan_value.specs.Marks.{createMark, endMark, Entered};
+ghost use Rattle.plan_value.specs.Pass.{seen, startPass, nextSeen, passAnswer};
+use crate::instruction::Edition;
+use crate::instruction::instruction_ok;
+use crate::instruction::is_known;
+use crate::marks::create_fits;
+use crate::marks::end_fits;
+use crate::marks::kept;
+use crate::marks::same;
+use plan::CREATE;
+use plan::FINISH;
+use plan::Instruction;
+use plan::PlanAnswer;
+use plan::RECEIVE;
+use plan::Refusal;
+use plan::SEND;
+
+// An instruction where it stands: its task, whether it is the last one there, and its second byte.
+pub struct Entry {
+    pub task: u8,
+    pub last: bool,
+    pub second: u8,
+    pub instruction: Instruction,
+}
+
+// The pass over a plan of `tasks` tasks: whether no instruction is refused by 3; and then whether every
+// finish is in order, every create so far, and every channel.
+pub struct Pass {
+    pub instructions: bool,
+    // it stands between the flags: four in a row would be kept as one word, which is slower
+    pub tasks: u8,
+    pub finishes: bool,
+    pub creates: bool,
+    pub channels: bool,
+}
+
+impl Pass {
+    // With true the pass that has asked nothing yet, with false the one that has met a refused instruction.
+    pub fn new(tasks: u8, instructions: bool) -> Pass
+        ensures { λ r. ⌜ r ≡ startPass tasks instructions ⌝ }
+    {
+        Pass {
+            instructions: instructions,
+            tasks: tasks,
+            finishes: instructions,
+            creates: instructions,
+            channels: instructions,
+        }
+    }
+}
+
+// A create of task a by task t: the first task that creates it stays; whether this is in order.
+fn enter_create<'a>(t: u8, a: usize, parents: &'a mut [u8; 129]) -> bool
+    requires { ⌜ a < 129 ⌝ }
+    ensures { λ r. ⌜ Entered a t (createMark (getD (now (parents .entry)) a 0) t a) (now (parents .entry)) r (now (parents .exit)) ⌝ }
+{
+    let old = parents[a];
+    parents[a] = kept(old, t);
+    create_fits(old, t, a)
+}
+
+// Task t at an end of channel a: the first task at this end stays; whether this is in order.
+fn enter_end<'a>(t: u8, a: usize, ends: &'a mut [u8; 129], others: &'a [u8; 129]) -> bool
+    requires { ⌜ a < 129 ⌝ }
+    ensures { λ r. ⌜ Entered a t (endMark (getD (now (ends .entry)) a 0) (getD (now (others .entry)) a 0) t) (now (ends .entry)) r (now (ends .exit)) ⌝ }
+{
+    let old = ends[a];
+    ends[a] = kept(old, t);
+    end_fits(old, others[a], t)
+}
+
+// One instruction more. The tables take, by argument, the first task that creates, sends and receives. Its
+// kind is told apart before its argument is tested, once for both.
+pub fn next<'a>(
+    p: Pass,
+    e: Edition,
+    x: Entry,
+    parents: &'a mut [u8; 129],
+    senders: &'a mut [u8; 129],
+    receivers: &'a mut [u8; 129],
+) -> Pass
+    requires { ⌜ p .tasks ≤ 64 ⌝ }
+    ensures { λ r. ⌜
+        seen r (now (parents .exit)) (now (senders .exit)) (now (receivers .exit))
+        ≡ nextSeen e x (seen p (now (parents .entry)) (now (senders .entry)) (now (receivers .entry))) ⌝ }
+{
+    let i = x.instruction;
+    let opcode = i.opcode;
+    if !is_known(e, opcode, x.second) {
+        return Pass::new(p.tasks, false);
+    }
+    let a = base::wide16(i.operand);
+    let t = x.task;
+    let finish = opcode == FINISH;
+    let finishes = base::both(p.finishes, same(finish, x.last));
+    if opcode == CREATE {
+        if !instruction_ok(p.tasks, i) {
+            return Pass::new(p.tasks, false);
+        }
+        let creates = base::both(p.creates, enter_create(t, a, parents));
+        return Pass {
+            instructions: p.instructions,
+            tasks: p.tasks,
+            finishes: finishes,
+            creates: creates,
+            channels: p.channels,
+        };
+    }
+    if opcode == SEND {
+        if !instruction_ok(p.tasks, i) {
+            return Pass::new(p.tasks, false);
+        }
+        let channels = base::both(p.channels, enter_end(t, a, senders, receivers));
+        return Pass {
+            instructions: p.instructions,
+            tasks: p.tasks,
+            finishes: finishes,
+            creates: p.creates,
+            channels: channels,
+        };
+    }
+    if opcode == RECEIVE {
+        if !instruction_ok(p.tasks, i) {
+            return Pass::new(p.tasks, false);
+        }
+        let channels = base::both(p.channels, enter_end(t, a, receivers, senders));
+        return Pass {
+            instructions: p.instructions,
+            tasks: p.tasks,
+            finishes: finishes,
+            creates: p.creates,
+            channels: channels,
+        };
+    }
+    if !instruction_ok(p.tasks, i) {
+        return Pass::new(p.tasks, false);
+    }
+    Pass {
+        instructions: p.instructions,
+        tasks: p.tasks,
+        finishes: finishes,
+        creates: p.creates,
+        channels: p.channels,
+    }
+}
+
+// Each task but the first has a parent.
+fn all_created(tasks: u8, parents: &[u8; 129]) -> bool
+    requires { ⌜ (1 ≤ tasks) × (tasks ≤ 64) ⌝ }
+    ensures { λ r. ⌜ r ≡ allCreated tasks (now (parents .entry)) ⌝ }
+{
+    let n = base::wide8(tasks);
+    let mut k: usize = 1;
+    while k < n {
+        if parents[k + 1] == 0 {
+            return false;
+        }
+        k += 1;
+    }
+    true
+}
+
+// What the pass over all instructions of a plan and the tables that it has filled say: 3 to 6, in the
+// paper's order.
+pub fn answer(p: Pass, parents: &[u8; 129]) -> PlanAnswer
+    requires { ⌜ (1 ≤ p .tasks) × (p .tasks ≤ 64) ⌝ }
+    ensures { λ r. ⌜ r ≡ passAnswer p (now (parents .entry)) ⌝ }
+{
+    if !p.instructions {
+        return PlanAnswer::Refused(Refusal::BadInstruction);
+    }
+    if !p.finishes {
+        return PlanAnswer::Refused(Refusal::BadFinish);
+    }
+    if !p.creates {
+        return PlanAnswer::Refused(Refusal::BadCreate);
+    }
+    if !all_created(p.tasks, parents) {
+        return PlanAnswer::Refused(Refusal::BadCreate);
+    }
+    if !p.channels {
+        return PlanAnswer::Refused(Refusal::BadChannel);
+    }
+    PlanAnswer::Accepted
+}

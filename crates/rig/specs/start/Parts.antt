@@ -1,0 +1,32 @@
+-- The parts of a rig at the start, each by itself: `started` is made of these.
+use mathlib.Core.List.{List}
+use mathlib.Core.Path.{_≡_}
+use Prim.Native.Nat.{ℕ}
+use lib.ListN.{set}
+use Rattle.rules.specs.declared.task.Task.{Task}
+use Rattle.rules.specs.declared.system.Store.{Store}
+use Rattle.rules.specs.Numbers.{taskId, processorId}
+use Rattle.rules.specs.Tasks.{born}
+use Rattle.rules.specs.Systems.{store}
+use Rattle.rules.specs.Starts.{unbornTasks, noTables, noChannels}
+use Rattle.rig_parts.specs.declared.sweep.CellRule.the-variants.{Locate}
+use Rattle.rig_parts.specs.Sweeps.{forEnds}
+use Rattle.board.specs.Lent.{Whole, tasksOn, channelsOn}
+
+-- task 1 is born at desk 1, the rest are unborn
+abbrev pub startTasks : List Task
+startTasks = set unbornTasks 0 (born (processorId 1))
+
+-- nothing is kept for channels
+abbrev pub noStore : Store
+noStore = store noTables noChannels
+
+-- the pointers of desk 1 for the channels that task 1 receives on
+abbrev pub startStore : List ℕ → Store
+startStore receivers = forEnds receivers (taskId 1) (processorId 1) (Locate (processorId 1) 1) noStore
+
+-- the tasks and the channels on a board are those of the start
+pub record StartsOn (board : List ℕ) : Type 0 where
+  pub whole : Whole board
+  pub tasks : tasksOn board ≡ startTasks
+  pub channels : channelsOn board ≡ noChannels

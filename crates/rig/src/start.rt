@@ -1,0 +1,168 @@
+// The rig at the start, and its parts.
+
+ghost use mathlib.Core.Path.{_≡_};
+ghost use lib.ListN.{replicate};
+ghost use Rattle.plan.specs.declared.PlanAnswer.the-variants.{Accepted};
+ghost use Rattle.plan.specs.Programs.{programs};
+ghost use Rattle.plan.specs.Refusals.{planAnswer};
+ghost use Rattle.rules.specs.Starts.{started, noLetters, noTables, noChannels};
+ghost use Rattle.rules.specs.Numbers.{processorId};
+ghost use Rattle.rules.specs.Tasks.{unborn, born};
+ghost use Rattle.plan_index.specs.ends.Derived.{endsOf};
+ghost use Rattle.rig.specs.start.Parts.{startTasks, StartsOn};
+use board::put_task;
+use board::sweeps::locate;
+use plan::Plan;
+use plan::ProcessorId;
+use plan::TaskId;
+use plan::Word;
+use plan_index::ends::Ends;
+use plan_index::user_table::users::build;
+use rules::channel::Hint;
+use rules::message::Message;
+use rules::message::Network;
+use rules::message::Slot;
+use rules::system::Channels;
+use rules::system::System;
+use rules::system::Tables;
+use rules::task::Task;
+use rules::task::TaskState;
+
+// A task before its birth.
+fn unborn() -> Task
+    ensures { λ r. ⌜ r ≡ unborn ⌝ }
+{
+    Task {
+        state: TaskState::Unborn,
+        processor: ProcessorId(0),
+        pc: 1,
+        home: ProcessorId(0),
+        word: Word(0),
+        moves: 0,
+        children: 0,
+    }
+}
+
+// Task 1, born at desk 1.
+fn first_task() -> Task
+    ensures { λ r. ⌜ r ≡ born (processorId 1) ⌝ }
+{
+    let none = unborn();
+    none.birth(ProcessorId(1))
+}
+
+// Task 1 is born at desk 1, the others are unborn.
+pub fn start_tasks() -> [Task; 64]
+    ensures { λ r. ⌜ r ≡ startTasks ⌝ }
+{
+    let none = unborn();
+    let mut tasks = [none; 64];
+    let first = first_task();
+    tasks[0] = first;
+    tasks
+}
+
+// The mail without a letter.
+pub fn no_letters() -> Network
+    ensures { λ r. ⌜ r ≡ noLetters ⌝ }
+{
+    let slot = Slot {
+        message: Message::Empty,
+    };
+    let slots = [slot; 256];
+    Network {
+        slots: slots,
+        used: 0,
+    }
+}
+
+// Nothing in the tables.
+pub fn no_tables() -> Tables
+    ensures { λ r. ⌜ r ≡ noTables ⌝ }
+{
+    Tables {
+        hintprocessors: [0; 768],
+        hintmoves: [0; 768],
+        heldprocessors: [0; 768],
+        heldnumbers: [0; 768],
+        notes: [0; 768],
+    }
+}
+
+// Nothing is kept for the channels.
+fn no_channels() -> Channels
+    ensures { λ r. ⌜ r ≡ noChannels ⌝ }
+{
+    Channels {
+        granted: [0; 128],
+        awaiting: [false; 128],
+        carriedprocessors: [0; 128],
+        carriednumbers: [0; 128],
+        travellingprocessors: [0; 128],
+        travellingmoves: [0; 128],
+    }
+}
+
+// The start on a board: an unborn task is at place 1, and has nothing else; task 1 is born at desk 1.
+pub fn start_board(board: &mut [u64; 256])
+    requires { ⌜ now board ≡ replicate 256 0 ⌝ }
+    ensures { λ r. ⌜ StartsOn (now (board .exit)) ⌝ }
+{
+    let mut k: usize = 0;
+    while k < 64 {
+        board[128 + 2 * k] = 65536;
+        k += 1;
+    }
+    let first = first_task();
+    put_task(board, TaskId(1), first);
+}
+
+// The start of an accepted plan p on so many desks: a birth of task 1 at desk 1.
+pub fn start(processors: u8, p: Plan, e: Ends) -> System
+    requires { ⌜ (e ≡ endsOf p) × (planAnswer (programs p) ≡ Accepted) ⌝ }
+    ensures { λ r. ⌜ r ≡ started processors p ⌝ }
+{
+    let senders = e.senders;
+    let receivers = e.receivers;
+    let parents = e.parents;
+    let mut users = [0u8; 1024];
+    build(&senders, &receivers, &parents, &mut users);
+    let first = TaskId(1);
+    let one = ProcessorId(1);
+    let here = Hint {
+        processor: one,
+        moves: 1,
+    };
+    let none = no_tables();
+    let mut hintprocessors = none.hintprocessors;
+    let mut hintmoves = none.hintmoves;
+    locate(
+        &users,
+        &mut hintprocessors,
+        &mut hintmoves,
+        first,
+        one,
+        here,
+    );
+    let heldprocessors = none.heldprocessors;
+    let heldnumbers = none.heldnumbers;
+    let notes = none.notes;
+    let tables = Tables {
+        hintprocessors: hintprocessors,
+        hintmoves: hintmoves,
+        heldprocessors: heldprocessors,
+        heldnumbers: heldnumbers,
+        notes: notes,
+    };
+    let tasks = start_tasks();
+    let channels = no_channels();
+    let network = no_letters();
+    System {
+        processors: processors,
+        plan: p,
+        tasks: tasks,
+        tables: tables,
+        channels: channels,
+        network: network,
+    }
+}

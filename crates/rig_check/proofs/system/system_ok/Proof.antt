@@ -1,0 +1,99 @@
+-- `system_ok` is the test of refusal 9.
+use mathlib.Core.Path.{refl, sym, _∙_}
+use borrow.Author.Tests.{not-true, not-false}
+use Rattle.plan.specs.Programs.{programs}
+use Rattle.rules.specs.Sound.{systemOk}
+use Rattle.rig_check.proofs.system.EachTask.{sizes-passed}
+use borrow.Author.Needs.{needs}
+use Rattle.rig_check.proofs.system.system_ok.Statement.{statement}
+use Rattle.rig_check.proofs.system.system_ok.Tie as tie
+
+desks-ok-requires : tie.Need-desks-ok-requires
+desks-ok-requires c κs = search needs
+
+returns : tie.Need-returns
+unfolding systemOk
+returns c = rw (← c .before .desks-ok .ensures, not-true (c .before .desks-ok .result) (c .if1 .taken)) refl
+
+plan-ok-requires : tie.Need-plan-ok-requires
+plan-ok-requires c κs = search needs
+
+returns-2 : tie.Need-returns-2
+unfolding systemOk
+returns-2 c =
+    let d = c .before .before .before in
+    rw (
+      ← d .before .desks-ok .ensures,
+      not-false (d .before .desks-ok .result) (d .if1 .left),
+      ← c .before .plan-ok .ensures,
+      not-true (c .before .plan-ok .result) (c .if2 .taken),
+    )
+    refl
+
+tasks-ok-requires : tie.Need-tasks-ok-requires
+tasks-ok-requires c κs =
+    let d = c .before .before .before in
+    sizes-passed (programs (d .before .before .args .r .plan)) (sym (c .before .plan-ok .ensures) ∙ not-false (c .before .plan-ok .result) (c .if2 .left))
+
+returns-3 : tie.Need-returns-3
+unfolding systemOk
+returns-3 c =
+    let e = c .before .before in
+    let d = e .before .before .before in
+    rw (
+      ← d .before .desks-ok .ensures,
+      not-false (d .before .desks-ok .result) (d .if1 .left),
+      ← e .before .plan-ok .ensures,
+      not-false (e .before .plan-ok .result) (e .if2 .left),
+      ← c .before .tasks-ok .ensures,
+      not-true (c .before .tasks-ok .result) (c .if3 .taken),
+    )
+    refl
+
+tables-ok-requires : tie.Need-tables-ok-requires
+tables-ok-requires c κs = search needs
+
+channel-entries-ok-requires : tie.Need-channel-entries-ok-requires
+channel-entries-ok-requires c κs = search needs
+
+both-requires : tie.Need-both-requires
+both-requires c κs = search needs
+
+network-ok-requires : tie.Need-network-ok-requires
+network-ok-requires c κs = search needs
+
+both-requires-2 : tie.Need-both-requires-2
+both-requires-2 c κs = search needs
+
+returns-4 : tie.Need-returns-4
+unfolding systemOk
+returns-4 c =
+    let f = c .before .before .before .before .before .before .before .before in
+    let e = f .before .before in
+    let d = e .before .before .before in
+    rw (
+      ← d .before .desks-ok .ensures,
+      not-false (d .before .desks-ok .result) (d .if1 .left),
+      ← e .before .plan-ok .ensures,
+      not-false (e .before .plan-ok .result) (e .if2 .left),
+      ← f .before .tasks-ok .ensures,
+      not-false (f .before .tasks-ok .result) (f .if3 .left),
+    )
+    (cc)
+
+pub system-ok-spec : {M : Type 1} → statement M
+system-ok-spec =
+    tie.close
+    (tie.spec
+    desks-ok-requires
+    returns
+    plan-ok-requires
+    returns-2
+    tasks-ok-requires
+    returns-3
+    channel-entries-ok-requires
+    network-ok-requires
+    both-requires
+    tables-ok-requires
+    both-requires-2
+    returns-4)

@@ -1,0 +1,3 @@
+pub mod limits
+pub mod system
+pub mod tasks

@@ -1,0 +1,40 @@
+-- What is derived of a plan once a run, and the parts of a rig beside it.
+use mathlib.Core.Path.{_≡_}
+use mathlib.Core.Bool.{true}
+use mathlib.Core.List.{List}
+use Prim.Native.Nat.{ℕ}
+use Rattle.plan.specs.declared.Plan.{Plan}
+use Rattle.rules.specs.declared.task.Task.{Task}
+use Rattle.rules.specs.declared.system.System.{System}
+use Rattle.rules.specs.declared.system.Store.{Store}
+use Rattle.rules.specs.Sound.{systemOk}
+use Rattle.rules.specs.Systems.{storeIn}
+use Rattle.rules_laws.specs.Shapes.{Shaped}
+use Rattle.plan_index.specs.ends.Derived.{endsOf}
+
+pub record Facts : Type 0 where
+  pub tasks : ℕ
+  pub opcodes : List ℕ
+  pub operands : List ℕ
+  pub numbers : List ℕ
+  pub senders : List ℕ
+  pub receivers : List ℕ
+  pub parents : List ℕ
+
+abbrev pub facts : ℕ → List ℕ → List ℕ → List ℕ → List ℕ → List ℕ → List ℕ → Facts
+facts n opcodes operands numbers senders receivers parents =
+    record { tasks = n; opcodes = opcodes; operands = operands; numbers = numbers; senders = senders; receivers = receivers; parents = parents }
+
+abbrev pub factsOf : Plan → Facts
+factsOf p = facts (p .tasks) (p .opcodes) (p .operands) (endsOf p .numbers) (endsOf p .senders) (endsOf p .receivers) (endsOf p .parents)
+
+-- these are the parts of a rig that 9 does not refuse: desks, tasks, what is kept for channels, how many letters
+pub record PartsOf (f : Facts) (n : ℕ) (ts : List Task) (s : Store) (used : ℕ) : Type 0 where
+  pub system : System
+  pub shaped : Shaped system
+  pub sound : systemOk system ≡ true
+  pub facts-of : f ≡ factsOf (system .plan)
+  pub processors : n ≡ system .processors
+  pub tasks : ts ≡ system .tasks
+  pub store : s ≡ storeIn system
+  pub letters : used ≡ system .network .used

@@ -1,0 +1,14 @@
+-- One step carried out on the parts of a rig, and what the driver keeps of them.
+pub mod Turns
+-- What a step would do, said of the parts of a rig: what its functions compute, one by one.
+pub mod Sweeps
+pub mod Facts
+pub mod Fetches
+pub mod Scopes
+pub mod Answers
+pub mod RunVerdicts
+pub mod MoveVerdicts
+pub mod Openings
+pub mod Feasible
+pub mod Rests
+pub mod Effects

@@ -1,0 +1,2 @@
+-- A rig on a board, with its mail.
+pub mod Rigs

@@ -1,0 +1,23 @@
+-- A rig that 9 does not refuse on what is lent, with its mail.
+use mathlib.Core.Path.{_≡_}
+use mathlib.Core.List.{List}
+use Prim.Native.Nat.{ℕ}
+use Rattle.rules.specs.declared.message.Network.{Network}
+use Rattle.rules.specs.declared.step.Report.{Report}
+use Rattle.rules.specs.declared.step.Step.{Step}
+use Rattle.rig_parts.specs.Facts.{Facts}
+use Rattle.rig_parts.specs.Turns.{Rig, turnOf}
+use Rattle.plan_index.specs.user_table.Users.{Indexed}
+use Rattle.board.specs.declared.act.Size.{Size}
+use Rattle.board.specs.Lent.{Lent, Whole, tasksOf, storeOf}
+use Rattle.board.specs.Rigs.{factsIn}
+
+pub record RigWith (opcodes operands numbers users : List ℕ) (n : Size) (k : Network) (l : Lent) : Type 0 where
+  pub rig : Rig (factsIn (n .tasks) opcodes operands numbers users) (n .processors) (tasksOf l) k (storeOf l)
+  pub letters : n .used ≡ k .used
+  pub whole : Whole (l .board)
+  pub indexed : Indexed users
+
+-- what a step says there
+abbrev pub saidOf : Facts → ℕ → Lent → Network → Step → Report
+saidOf f n l k x = turnOf f n (tasksOf l) k (storeOf l) x .report

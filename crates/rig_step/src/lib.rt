@@ -1,0 +1,87 @@
+// One step of any rig.
+mod pack;
+mod turn;
+
+ghost use mathlib.Core.Path.{_≡_};
+ghost use Rattle.rules.specs.Steps.{step, refused};
+use rules::rule::Received;
+use rules::step::Report;
+use rules::step::Step;
+use rules::step::StepAnswer;
+use rules::step::Stepped;
+use rules::system::Store;
+use rules::system::System;
+use turn::turn;
+
+// A refused step gives the rig back.
+fn refused(r: System, a: StepAnswer) -> Stepped
+    ensures { λ q. ⌜ q ≡ refused r a ⌝ }
+{
+    let report = Report {
+        answer: a,
+        received: Received::Nothing,
+    };
+    Stepped {
+        report: report,
+        system: r,
+    }
+}
+
+// 9 first, then as the paper orders. The rig is taken apart, and put together again.
+pub fn step(r: System, s: Step) -> Stepped
+    ensures { λ q. ⌜ q ≡ step r s ⌝ }
+{
+    if !rig_check::system::system_ok(r) {
+        return refused(r, StepAnswer::BadSystem);
+    }
+    let plan = r.plan;
+    let e = plan_index::ends::derive(plan);
+    let count = plan.tasks;
+    let opcodes = plan.opcodes;
+    let operands = plan.operands;
+    let numbers = e.numbers;
+    let senders = e.senders;
+    let receivers = e.receivers;
+    let parents = e.parents;
+    let processors = r.processors;
+    let tables = r.tables;
+    let channels = r.channels;
+    let store = Store {
+        tables: tables,
+        channels: channels,
+    };
+    let tasks = r.tasks;
+    let network = r.network;
+    let t = turn(
+        count,
+        &opcodes,
+        &operands,
+        &numbers,
+        &senders,
+        &receivers,
+        &parents,
+        processors,
+        tasks,
+        network,
+        store,
+        s,
+    );
+    let report = t.report;
+    let after = t.tasks;
+    let mail = t.network;
+    let kept = t.store;
+    let now_tables = kept.tables;
+    let now_channels = kept.channels;
+    let system = System {
+        processors: processors,
+        plan: plan,
+        tasks: after,
+        tables: now_tables,
+        channels: now_channels,
+        network: mail,
+    };
+    Stepped {
+        report: report,
+        system: system,
+    }
+}

@@ -1,0 +1,198 @@
+// One step on the parts of a rig that 9 does not refuse: what it says is decided, and it is carried out as a run of one step.
+ghost use mathlib.Core.List.{_∷_, []};
+ghost use mathlib.Core.Path.{_≡_};
+ghost use Rattle.rules.specs.StepFiles.{fileSteps};
+ghost use Rattle.rig_parts.specs.Facts.{facts};
+ghost use Rattle.rig_parts.specs.Turns.{Rig, turnOf};
+ghost use Rattle.board.specs.Lent.{lent};
+ghost use Rattle.board.specs.Rigs.{factsIn};
+ghost use Rattle.rig_step.specs.Rigs.{RigWith, saidOf};
+use crate::pack::channels_on;
+use crate::pack::put_channels;
+use crate::pack::put_tasks;
+use crate::pack::tasks_on;
+use board::act::Size;
+use network::position;
+use plan_index::user_table::users::build;
+use rig_parts::turn::Turn;
+use rules::message::Network;
+use rules::step::Report;
+use rules::step::Step;
+use rules::system::Store;
+use rules::system::Tables;
+use rules::task::Task;
+use run::all_steps::run_steps;
+use steps::message::letter_decided;
+use steps::step_decided;
+
+// A step as the four bytes of a step file.
+fn step_bytes(s: Step) -> [u8; 4]
+    ensures { λ r. ⌜ fileSteps r ≡ s ∷ [] ⌝ }
+{
+    [
+        s.kind,
+        s.task,
+        (s.number % 256) as u8,
+        (s.number / 256) as u8,
+    ]
+}
+
+// What a step would say, with this mail.
+fn decided<'a>(
+    opcodes: &'a [u8; 4096],
+    operands: &'a [u16; 4096],
+    numbers: &'a [u8; 4096],
+    users: &'a [u8; 1024],
+    hintprocessors: &'a [u8; 768],
+    hintmoves: &'a [u16; 768],
+    heldprocessors: &'a [u8; 768],
+    heldnumbers: &'a [u8; 768],
+    notes: &'a [u8; 768],
+    board: &'a [u64; 256],
+    n: Size,
+    network: Network,
+    s: Step,
+) -> Report
+    requires { ⌜ RigWith (now opcodes) (now operands) (now numbers) (now users) n network
+        (lent (now hintprocessors) (now hintmoves) (now heldprocessors) (now heldnumbers) (now notes) (now board)) ⌝ }
+    ensures { λ r. ⌜ r ≡ saidOf (factsIn (n .tasks) (now (opcodes .entry)) (now (operands .entry)) (now (numbers .entry)) (now (users .entry))) (n .processors)
+        (lent (now (hintprocessors .entry)) (now (hintmoves .entry)) (now (heldprocessors .entry)) (now (heldnumbers .entry)) (now (notes .entry)) (now (board .entry)))
+        network s ⌝ }
+{
+    let p = position(n.used, s);
+    if p != 0 {
+        let slot = network.slots[p - 1];
+        let m = slot.message;
+        let r = letter_decided(
+            operands,
+            users,
+            hintprocessors,
+            hintmoves,
+            heldprocessors,
+            heldnumbers,
+            notes,
+            board,
+            m,
+        );
+        let received = r.received;
+        let answer = r.answer;
+        return Report {
+            answer: answer,
+            received: received,
+        };
+    }
+    let r = step_decided(
+        opcodes,
+        operands,
+        numbers,
+        users,
+        hintprocessors,
+        hintmoves,
+        heldprocessors,
+        heldnumbers,
+        notes,
+        board,
+        n,
+        s,
+    );
+    let received = r.received;
+    let answer = r.answer;
+    Report {
+        answer: answer,
+        received: received,
+    }
+}
+
+// One step: the parts are put on a board, and taken from it after the step.
+pub fn turn<'a>(
+    count: u8,
+    opcodes: &'a [u8; 4096],
+    operands: &'a [u16; 4096],
+    numbers: &'a [u8; 4096],
+    senders: &'a [u8; 129],
+    receivers: &'a [u8; 129],
+    parents: &'a [u8; 129],
+    processors: u8,
+    tasks: [Task; 64],
+    network: Network,
+    store: Store,
+    s: Step,
+) -> Turn
+    requires { ⌜ Rig (facts count (now opcodes) (now operands) (now numbers) (now senders) (now receivers) (now parents))
+        processors tasks network store ⌝ }
+    ensures { λ r. ⌜ r ≡ turnOf
+        (facts count (now (opcodes .entry)) (now (operands .entry)) (now (numbers .entry)) (now (senders .entry)) (now (receivers .entry)) (now (parents .entry)))
+        processors tasks network store s ⌝ }
+{
+    let mut users = [0u8; 1024];
+    build(senders, receivers, parents, &mut users);
+    let mut board = [0u64; 256];
+    put_tasks(&mut board, tasks);
+    let channels = store.channels;
+    put_channels(&mut board, channels);
+    let tables = store.tables;
+    let mut hintprocessors = tables.hintprocessors;
+    let mut hintmoves = tables.hintmoves;
+    let mut heldprocessors = tables.heldprocessors;
+    let mut heldnumbers = tables.heldnumbers;
+    let mut notes = tables.notes;
+    let n = Size {
+        tasks: count,
+        processors: processors,
+        used: network.used,
+    };
+    let report = decided(
+        opcodes,
+        operands,
+        numbers,
+        &users,
+        &hintprocessors,
+        &hintmoves,
+        &heldprocessors,
+        &heldnumbers,
+        &notes,
+        &board,
+        n,
+        network,
+        s,
+    );
+    let steps = step_bytes(s);
+    let mut out = [0u8; 1];
+    let mut progress = [0usize; 2];
+    let mail = run_steps(
+        opcodes,
+        operands,
+        numbers,
+        &users,
+        &mut hintprocessors,
+        &mut hintmoves,
+        &mut heldprocessors,
+        &mut heldnumbers,
+        &mut notes,
+        &mut board,
+        n,
+        network,
+        &steps,
+        &mut out,
+        &mut progress,
+    );
+    let after = tasks_on(&board);
+    let now_tables = Tables {
+        hintprocessors: hintprocessors,
+        hintmoves: hintmoves,
+        heldprocessors: heldprocessors,
+        heldnumbers: heldnumbers,
+        notes: notes,
+    };
+    let now_channels = channels_on(&board);
+    let kept = Store {
+        tables: now_tables,
+        channels: now_channels,
+    };
+    Turn {
+        report: report,
+        tasks: after,
+        network: mail,
+        store: kept,
+    }
+}

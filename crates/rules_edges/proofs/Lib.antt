@@ -1,2 +1,0 @@
--- Each input has its outcome.
-pub mod Edges

@@ -1,3 +1,0 @@
--- Inputs and outcomes.
-pub mod Edges
-pub mod SystemEdges

@@ -1,2 +1,0 @@
--- Each run has its trace.
-pub mod Scenes

@@ -1,2 +1,0 @@
--- Runs of the rig with their traces.
-pub mod Scenes

@@ -1,1 +1,0 @@
-// Runs of the rig with their traces; see specs/Scenes.

@@ -1,0 +1,159 @@
+-- `drive` makes the table of who uses what and the parts of the start, runs the steps on them and writes the last line.
+use mathlib.Core.Path.{refl, sym, _∙_}
+use borrow.Author.Needs.{needs}
+use Rattle.plan.specs.declared.Plan.{Plan}
+use Rattle.rig_parts.specs.Facts.{Facts, facts}
+use Rattle.rig_parts.specs.Turns.{Rig}
+use Rattle.rig.proofs.rest.Refusals.{rest-quiet}
+use Rattle.steps.proofs.instruction.Refusals.{placed}
+use Rattle.board.specs.Lent.{Lent, lent, tasksOf, storeOf}
+use Rattle.board.specs.Rigs.{factsIn}
+use Rattle.run.specs.file.Begins.{Begins}
+use Rattle.run.proofs.file.Beginning.{few-users, begun}
+use Rattle.run.proofs.file.Traces.{rig-letters, driven-short, ran-rig, ran-room, driven-end}
+use Rattle.run.proofs.file.drive.drive.Statement.{statement}
+use Rattle.run.proofs.file.drive.drive.Tie as tie
+
+-- the stages: where the table of who uses what, the tables, the board and the mail were made
+abbrev begin : tie.After-build → tie.Start
+begin c = c .before .before .before .before
+
+abbrev tabled : tie.After-start-board → tie.After-no-tables
+tabled c = c .before .before .before .before .before .before .before
+
+abbrev boarded : tie.After-no-letters → tie.After-start-board
+boarded c = c .before .before .before .before .before
+
+abbrev mailed : tie.After-run-steps → tie.After-no-letters
+mailed c = c .before .before .before .before .before .before .before .before .before .before
+
+-- what is derived of the plan, as it is passed, and with who uses what in one table
+abbrev derived : tie.Start → Facts
+derived c = let a = c .args in facts (a .count) (a .opcodes .now) (a .operands .now) (a .numbers .now) (a .senders .now) (a .receivers .now) (a .parents .now)
+
+abbrev given : tie.After-build → Facts
+given c = let a = begin c .args in factsIn (a .count) (a .opcodes .now) (a .operands .now) (a .numbers .now) (c .build .last .1 .1 .1 .0)
+
+-- what is lent at the start
+abbrev begins-on : tie.After-locate → Lent
+begins-on c =
+    let after-start-board = c .before .before .before .before in
+    let after-no-tables = tabled after-start-board in
+    let z = after-no-tables .no-tables .result in
+    lent (c .locate .last .1 .0) (c .locate .last .1 .1 .0) (z .heldprocessors) (z .heldnumbers) (z .notes) (after-start-board .start-board .last .0)
+
+-- it is a rig
+abbrev RigAt : tie.After-no-letters → Type 0
+RigAt c =
+    let l = begins-on (c .before) in
+    Rig (given (tabled (boarded c) .before)) (begin (tabled (boarded c) .before) .args .processors) (tasksOf l) (c .no-letters .result) (storeOf l)
+
+-- that of any plan of which this is derived
+abbrev rig : (c : tie.After-no-letters) {p : Plan} → Begins (begin (tabled (boarded c) .before) .args .processors) p (derived (begin (tabled (boarded c) .before))) → RigAt c
+rig c b =
+    let after-locate = c .before in
+    let after-start-board = after-locate .before .before .before .before in
+    let after-no-tables = tabled after-start-board in
+    let after-build = after-no-tables .before in
+    let start = begin after-build in
+    let a = start .args in
+    let z = after-no-tables .no-tables in
+    let on = after-start-board .start-board in
+    begun (a .count) (a .opcodes .now) (a .operands .now) (a .numbers .now) (after-build .build .ensures) b (c .no-letters .ensures) (z .ensures) (on .ensures)
+    (after-locate .locate .ensures (z .result .heldprocessors) (z .result .heldnumbers) (z .result .notes) (on .last .0) (on .ensures .whole))
+
+-- that of the plan that is known
+abbrev known : (c : tie.After-no-letters) → RigAt c
+known c = rig c (begin (tabled (boarded c) .before) .pre .0 .begins)
+
+build-requires : tie.Need-build-requires
+build-requires c κs = (refl, few-users (c .before .before .before .pre .0 .begins))
+
+no-tables-requires : tie.Need-no-tables-requires
+no-tables-requires c κs = search needs
+
+start-board-requires : tie.Need-start-board-requires
+start-board-requires c κs = search needs
+
+locate-requires : tie.Need-locate-requires
+locate-requires c κs = search needs
+
+no-letters-requires : tie.Need-no-letters-requires
+no-letters-requires c κs = search needs
+
+run-steps-requires : tie.Need-run-steps-requires
+run-steps-requires c κs =
+    let after-no-letters = c .before .before .before .before .before .before .before .before .before in
+    let after-start-board = boarded after-no-letters in
+    let after-build = tabled after-start-board .before in
+    let start = begin after-build in
+    record {
+      rig = known after-no-letters;
+      whole = after-start-board .start-board .ensures .whole;
+      indexed = after-build .build .ensures .indexed;
+      few = start .pre .1;
+      blank = refl;
+    }
+
+array-read-filled : tie.Need-array-read-filled
+array-read-filled c = search needs
+
+array-read-if1 : tie.Need-array-read-if1
+array-read-if1 c = search needs
+
+same-length : tie.Need-same-length
+same-length c = search needs
+
+returns : tie.Need-returns
+returns c p b =
+    let after-run-steps = c .before .before .before in
+    let after-no-letters = mailed after-run-steps in
+    driven-short (rig after-no-letters b) _ (after-run-steps .run-steps .ensures) (c .if1 .taken)
+
+at-rest-requires : tie.Need-at-rest-requires
+at-rest-requires c κs =
+    let after-run-steps = c .before .before .before .before in
+    let after-no-letters = mailed after-run-steps in
+    placed (ran-rig (known after-no-letters) _ (after-run-steps .run-steps .ensures) .parts)
+
+write-end-requires : tie.Need-write-end-requires
+write-end-requires c κs =
+    let else1 = c .before .before .before in
+    let after-run-steps = else1 .before .before .before in
+    let after-no-letters = mailed after-run-steps in
+    let g = known after-no-letters in
+    let ran = after-run-steps .run-steps .ensures in
+    (rig-letters (ran-rig g _ ran), ran-room g _ ran (else1 .if1 .left))
+
+same-length-2 : tie.Need-same-length-2
+same-length-2 c = search needs
+
+returns-2 : tie.Need-returns-2
+returns-2 c p b =
+    let after-write-end = c .before .before in
+    let after-at-rest = after-write-end .before .before in
+    let else1 = after-at-rest .before .before in
+    let after-run-steps = else1 .before .before .before in
+    let after-no-letters = mailed after-run-steps in
+    let g = rig after-no-letters b in
+    let ran = after-run-steps .run-steps .ensures in
+    driven-end g _ ran (else1 .if1 .left) _ (after-at-rest .at-rest .ensures ∙ sym (rest-quiet (ran-rig g _ ran .parts))) (after-write-end .write-end .ensures)
+
+pub drive-spec : {M : Type 1} → statement M
+drive-spec =
+    tie.close
+    (tie.spec
+    build-requires
+    no-tables-requires
+    start-board-requires
+    locate-requires
+    no-letters-requires
+    run-steps-requires
+    array-read-filled
+    array-read-if1
+    same-length
+    returns
+    at-rest-requires
+    write-end-requires
+    same-length-2
+    returns-2)

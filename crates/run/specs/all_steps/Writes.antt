@@ -1,0 +1,64 @@
+-- Lines written into a lent output, as far as they fit, and steps carried out one after the other.
+use mathlib.Core.Path.{_≡_}
+use mathlib.Core.Bool.{Bool}
+use mathlib.Core.List.{List, [], _∷_, _++_}
+use Prim.Native.Nat.{ℕ}
+use lib.Dec.{leb, eqb}
+use lib.ListN.{length, drop, getD}
+use Rattle.rules.specs.declared.task.Task.{Task}
+use Rattle.rules.specs.declared.message.Network.{Network}
+use Rattle.rules.specs.declared.step.Step.{Step}
+use Rattle.rules.specs.declared.step.Report.{Report}
+use Rattle.rules.specs.declared.system.Store.{Store}
+use Rattle.rules.specs.Trace.{stepLines}
+use Rattle.rules.specs.StepFiles.{text, fitting, fileSteps}
+use Rattle.rig_parts.specs.Facts.{Facts}
+use Rattle.rig_parts.specs.Turns.{turnOf}
+use Rattle.board.specs.Lent.{Lent, tasksOf, storeOf}
+
+-- as many whole lines as fit: how many bytes are filled, whether all fit, and the output then
+pub record Written (lines : List (List ℕ)) (before : List ℕ) (filled : ℕ) (whole : Bool) (after : List ℕ) : Type 0 where
+  pub count : filled ≡ length (fitting (length before) lines)
+  pub all : whole ≡ leb (length (text lines)) (length before)
+  pub bytes : after ≡ fitting (length before) lines ++ drop (length (fitting (length before) lines)) before
+
+-- steps on the parts of a rig: their reports, and the parts then
+pub record Turns : Type 0 where
+  pub reports : List Report
+  pub tasks : List Task
+  pub network : Network
+  pub store : Store
+
+unfoldable pub turnsOf : Facts → ℕ → List Task → Network → Store → List Step → Turns
+turnsOf f n ts k s [] = record { reports = []; tasks = ts; network = k; store = s }
+turnsOf f n ts k s (x ∷ xs) =
+    let t = turnOf f n ts k s x in
+    let h = turnsOf f n (t .tasks) (t .network) (t .store) xs in
+    record { reports = t .report ∷ h .reports; tasks = h .tasks; network = h .network; store = h .store }
+
+-- so many bytes are filled, and whether every line fitted, by a progress
+abbrev pub filledBy : List ℕ → ℕ
+filledBy progress = getD progress 0 0
+
+abbrev pub wholeBy : List ℕ → Bool
+wholeBy progress = eqb (getD progress 1 0) 0
+
+abbrev pub WrittenBy : List (List ℕ) → List ℕ → List ℕ → List ℕ → Type 0
+WrittenBy lines before progress after = Written lines before (filledBy progress) (wholeBy progress) after
+
+-- a line more, behind whatever lines were written before it
+pub record LineNext (line progress out progress' out' : List ℕ) : Type 0 where
+  pub long : length progress' ≡ length progress
+  pub more : (lines : List (List ℕ)) (before : List ℕ) → WrittenBy lines before progress out → WrittenBy (lines ++ (line ∷ [])) before progress' out'
+
+-- the steps are carried out, and their lines written as far as they fit
+pub record RanTo (h : Turns) (before : List ℕ) (ts : List Task) (k : Network) (s : Store) (progress after : List ℕ) : Type 0 where
+  pub lines : WrittenBy (stepLines 0 (h .reports)) before progress after
+  pub tasks : ts ≡ h .tasks
+  pub network : k ≡ h .network
+  pub store : s ≡ h .store
+
+-- the same of the steps of a file, with what is lent before and after them
+abbrev pub RanOn : Facts → ℕ → Lent → Network → List ℕ → List ℕ → Lent → Network → List ℕ → List ℕ → Type 0
+RanOn f n l k steps before l' k' progress after =
+    RanTo (turnsOf f n (tasksOf l) k (storeOf l) (fileSteps steps)) before (tasksOf l') k' (storeOf l') progress after

@@ -1,0 +1,151 @@
+// The steps of a file, carried out one after the other, each with its line: the loop owns the mail, five tables and the board are lent.
+mod decode;
+mod lines;
+
+ghost use Rattle.board.specs.Lent.{lent};
+ghost use Rattle.board.specs.Rigs.{factsIn};
+ghost use Rattle.run.specs.all_steps.Begins.{Begins};
+ghost use Rattle.run.specs.all_steps.Writes.{RanOn};
+use crate::all_steps::decode::step_at;
+use crate::all_steps::lines::emit_next;
+use board::act::Size;
+use network::position;
+use rules::message::Network;
+use rules::rule::Received;
+use rules::step::Report;
+use rules::step::StepAnswer;
+use steps::message::deliver;
+use steps::other;
+use steps::word::word_run;
+
+// Each step, and a line for it behind those before it, as long as they fit.
+pub fn run_steps<'a>(
+    opcodes: &'a [u8; 4096],
+    operands: &'a [u16; 4096],
+    numbers: &'a [u8; 4096],
+    users: &'a [u8; 1024],
+    hintprocessors: &'a mut [u8; 768],
+    hintmoves: &'a mut [u16; 768],
+    heldprocessors: &'a mut [u8; 768],
+    heldnumbers: &'a mut [u8; 768],
+    notes: &'a mut [u8; 768],
+    board: &'a mut [u64; 256],
+    size: Size,
+    network: Network,
+    steps: &'a [u8],
+    out: &'a mut [u8],
+    progress: &'a mut [usize; 2],
+) -> Network
+    requires { ⌜
+        Begins (now opcodes) (now operands) (now numbers) (now users) size network
+        (lent (now hintprocessors) (now hintmoves) (now heldprocessors) (now heldnumbers) (now notes) (now board))
+        (now steps) (now progress) ⌝ }
+    ensures { λ r. ⌜
+        RanOn (factsIn (size .tasks) (now (opcodes .entry)) (now (operands .entry)) (now (numbers .entry)) (now (users .entry))) (size .processors)
+        (lent (now (hintprocessors .entry)) (now (hintmoves .entry)) (now (heldprocessors .entry)) (now (heldnumbers .entry)) (now (notes .entry)) (now (board .entry)))
+        network (now (steps .entry)) (now (out .entry))
+        (lent (now (hintprocessors .exit)) (now (hintmoves .exit)) (now (heldprocessors .exit)) (now (heldnumbers .exit)) (now (notes .exit)) (now (board .exit)))
+        r (now (progress .exit)) (now (out .exit)) ⌝ }
+{
+    let n = steps.len() / 4;
+    let mut mail = network;
+    let mut k: usize = 0;
+    while k < n {
+        let next = k + 1;
+        let s = step_at(steps, k);
+        let used = mail.used;
+        let p = position(used, s);
+        if p != 0 {
+            // a delivery: the letter leaves the mail, and the last place holds what is posted, a letter or nothing
+            let place = p - 1;
+            let slot = mail.slots[place];
+            let m = slot.message;
+            let r = deliver(
+                operands,
+                users,
+                hintprocessors,
+                hintmoves,
+                heldprocessors,
+                heldnumbers,
+                notes,
+                board,
+                m,
+            );
+            let last = used - 1;
+            let mut j: usize = 0;
+            while place + j < last {
+                let moved = mail.slots[place + j + 1];
+                mail.slots[place + j] = moved;
+                j += 1;
+            }
+            let posting = r.posting;
+            let l = network::letter(posting, 0);
+            mail.slots[last] = l;
+            mail.used = last + base::wide8(network::rounds(1, posting));
+            let answer = r.answer;
+            let received = r.received;
+            let report = Report {
+                answer: answer,
+                received: received,
+            };
+            emit_next(out, progress, next, report);
+        } else {
+            let now_size = Size {
+                tasks: size.tasks,
+                processors: size.processors,
+                used: used,
+            };
+            if word_run(opcodes, operands, board, now_size, s) {
+                // a set or an add: nothing is posted
+                let plain = Report {
+                    answer: StepAnswer::Accepted,
+                    received: Received::Nothing,
+                };
+                emit_next(out, progress, next, plain);
+            } else {
+                // any other step: what is posted goes behind the letters, one letter at once
+                let r = other(
+                    opcodes,
+                    operands,
+                    numbers,
+                    users,
+                    hintprocessors,
+                    hintmoves,
+                    heldprocessors,
+                    heldnumbers,
+                    notes,
+                    board,
+                    now_size,
+                    s,
+                );
+                let posting = r.posting;
+                if network::posts(posting) {
+                    let l = network::letter(posting, 0);
+                    mail.slots[used] = l;
+                    mail.used = used + 1;
+                } else {
+                    let rounds = network::rounds(size.processors, posting);
+                    let mut e: u8 = 0;
+                    while e < rounds {
+                        if !network::skips(posting, e) {
+                            let l = network::letter(posting, e);
+                            let free = mail.used;
+                            mail.slots[free] = l;
+                            mail.used = free + 1;
+                        }
+                        e += 1;
+                    }
+                }
+                let answer = r.answer;
+                let received = r.received;
+                let report = Report {
+                    answer: answer,
+                    received: received,
+                };
+                emit_next(out, progress, next, report);
+            }
+        }
+        k = next;
+    }
+    mail
+}

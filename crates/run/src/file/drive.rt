@@ -1,0 +1,124 @@
+// The driver: makes the table of who uses what and the parts of a rig at its start, runs the steps on them and writes the trace.
+ghost use Prim.Native.Nat.{_≤_, _/_};
+ghost use lib.ListN.{length};
+ghost use Rattle.rig_parts.specs.Facts.{facts};
+ghost use Rattle.trace.specs.Lines.{endText};
+ghost use Rattle.run.specs.file.Begins.{Begun};
+ghost use Rattle.run.specs.file.Writes.{Ended, TraceOf};
+use crate::all_steps::run_steps;
+use board::act::Size;
+use board::sweeps::locate;
+use plan::ProcessorId;
+use plan::TaskId;
+use plan_index::user_table::users::build;
+use rig::rest::at_rest;
+use rig::start::no_letters;
+use rig::start::no_tables;
+use rig::start::start_board;
+use rules::channel::Hint;
+use trace::direct::emit_end;
+
+// How much of the output is filled, and whether every line fitted.
+pub struct Driven {
+    pub filled: usize,
+    pub whole: bool,
+}
+
+// The last line.
+fn write_end(rest: bool, letters: usize, out: &mut [u8], filled: usize) -> Driven
+    requires { ⌜ (letters ≤ 256) × (filled ≤ length (now out)) ⌝ }
+    ensures { λ r. ⌜ Ended (endText rest letters) (now (out .entry)) filled r (now (out .exit)) ⌝ }
+{
+    let written = emit_end(out, filled, rest, letters);
+    if written == 0 {
+        return Driven {
+            filled: filled,
+            whole: false,
+        };
+    }
+    Driven {
+        filled: filled + written,
+        whole: true,
+    }
+}
+
+// The trace of an accepted plan from its start, by what is derived of it. The birth of task 1 at desk 1 sets pointers; the other
+// tables have nothing yet.
+pub fn drive<'a>(
+    count: u8,
+    opcodes: &'a [u8; 4096],
+    operands: &'a [u16; 4096],
+    numbers: &'a [u8; 4096],
+    senders: &'a [u8; 129],
+    receivers: &'a [u8; 129],
+    parents: &'a [u8; 129],
+    processors: u8,
+    steps: &'a [u8],
+    out: &'a mut [u8],
+) -> Driven
+    requires { ⌜
+        (Begun processors (facts count (now opcodes) (now operands) (now numbers) (now senders) (now receivers) (now parents)))
+        × (length (now steps) / 4 ≤ 2000) ⌝ }
+    ensures { λ d. ⌜
+        TraceOf processors
+        (facts count (now (opcodes .entry)) (now (operands .entry)) (now (numbers .entry)) (now (senders .entry)) (now (receivers .entry)) (now (parents .entry)))
+        (now (steps .entry)) (now (out .entry)) d (now (out .exit)) ⌝ }
+{
+    let mut users = [0u8; 1024];
+    build(senders, receivers, parents, &mut users);
+    let tables = no_tables();
+    let mut hintprocessors = tables.hintprocessors;
+    let mut hintmoves = tables.hintmoves;
+    let mut heldprocessors = tables.heldprocessors;
+    let mut heldnumbers = tables.heldnumbers;
+    let mut notes = tables.notes;
+    let mut board = [0u64; 256];
+    start_board(&mut board);
+    let one = ProcessorId(1);
+    let born = Hint {
+        processor: one,
+        moves: 1,
+    };
+    locate(
+        &users,
+        &mut hintprocessors,
+        &mut hintmoves,
+        TaskId(1),
+        one,
+        born,
+    );
+    let size = Size {
+        tasks: count,
+        processors: processors,
+        used: 0,
+    };
+    let network = no_letters();
+    let mut progress = [0usize; 2];
+    let mail = run_steps(
+        opcodes,
+        operands,
+        numbers,
+        &users,
+        &mut hintprocessors,
+        &mut hintmoves,
+        &mut heldprocessors,
+        &mut heldnumbers,
+        &mut notes,
+        &mut board,
+        size,
+        network,
+        steps,
+        out,
+        &mut progress,
+    );
+    let filled = progress[0];
+    if progress[1] != 0 {
+        return Driven {
+            filled: filled,
+            whole: false,
+        };
+    }
+    let letters = mail.used;
+    let rest = at_rest(count, opcodes, operands, &board, letters);
+    write_end(rest, letters, out, filled)
+}

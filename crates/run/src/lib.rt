@@ -1,0 +1,3 @@
+// run
+pub mod all_steps;
+pub mod file;

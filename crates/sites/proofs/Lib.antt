@@ -1,2 +1,0 @@
--- What a step finds.
-pub mod Finding

@@ -1,0 +1,85 @@
+-- The site of a channel at a desk, and a letter about it that is opened there.
+use mathlib.Core.Path.{_≡_, refl, sym, ap, _∙_}
+use mathlib.Core.List.{List}
+use Prim.Native.Nat.{ℕ, _≤_}
+use native.Mathlib.Omega.{arith}
+use borrow.Author.Tests.{ne-eqb}
+use Rattle.plan.specs.declared.ChannelId.{ChannelId}
+use Rattle.plan.specs.declared.ProcessorId.{ProcessorId}
+use Rattle.rules.specs.declared.task.TaskState.the-variants.{Sending, Receiving}
+use Rattle.rules.specs.declared.message.Message.{Message}
+use Rattle.rules.specs.declared.rule.Site.{Site}
+use Rattle.rules.specs.declared.rule.Outcome.{Outcome}
+use Rattle.rules.specs.Systems.{cellIn, cellStored, taskIn, taskStored}
+use Rattle.rig_parts.specs.declared.sweep.Sweep.the-variants.{Nothing}
+use Rattle.rig_parts.specs.Fetches.{isOnIn, cellOf, cellPut, siteIn}
+use Rattle.rig_parts.specs.Scopes.{letterScope}
+use Rattle.rig_parts.specs.RunVerdicts.{change}
+use Rattle.rig_parts.specs.Openings.{openedIn}
+use Rattle.plan_index.specs.user_table.Users.{sendersOf, receiversOf, parentsOf}
+use Rattle.board.specs.declared.act.Act.{Act}
+use Rattle.board.specs.Lent.{Lent, Whole, tasksOf, storeOf}
+use Rattle.board.specs.Acted.{acceptedAct}
+use Rattle.board.specs.Rigs.{factsIn, Opened, Opening}
+use Rattle.steps.specs.message.Seen.{Found}
+use Rattle.steps.proofs.message.Bounds.{senderIn, receiverIn}
+use Rattle.steps.proofs.message.Rules.{Kind}
+
+-- what channel c's rules see at desk d
+abbrev pub siteAt : (operands users : List ℕ) → Lent → ChannelId → ProcessorId → Site
+siteAt operands users l c d =
+    let s = senderIn users c in
+    let u = receiverIn users c in
+    let a = taskIn (tasksOf l) s in
+    let b = taskIn (tasksOf l) u in
+    record { sender = a; receiver = b; sending = isOnIn operands Sending s c a; receiving = isOnIn operands Receiving u c b; cell = cellIn (storeOf l) d c }
+
+-- m is such a letter
+module _ {rule : Site → Message → Outcome} {sees : Site → Site} {leaves : Site → Outcome → Outcome} {m x : Message} {c : ChannelId} {d : ProcessorId}
+    (k : Kind rule sees leaves x c d) (e : m ≡ x) (operands users : List ℕ) (l : Lent) where
+  -- the letter's site
+  abbrev here : Site
+  here = siteIn operands (tasksOf l) (storeOf l) (letterScope (sendersOf users) (receiversOf users) (parentsOf users) x)
+
+  -- what opening it does, by what the rule leaves of what it sees
+  opens : {o : Outcome} → Found rule sees operands users x l o → (count : ℕ) (opcodes numbers : List ℕ)
+      → openedIn (factsIn count opcodes operands numbers users) (tasksOf l) (storeOf l) x
+      ≡ change (letterScope (sendersOf users) (receiversOf users) (parentsOf users) x) (leaves here o) Nothing
+  unfolding openedIn
+  opens f count opcodes numbers =
+      let scope = letterScope (sendersOf users) (receiversOf users) (parentsOf users) x in
+      k .does scope here ∙ ap (λ (z : Outcome). change scope z Nothing) (k .rest here ∙ ap (leaves here) (sym f))
+
+  -- it is decided
+  pub opening : {o : Outcome} {r : Act} → Found rule sees operands users m l o → r ≡ acceptedAct (leaves here o) → Opening operands users m l r
+  opening f er = rw e (λ count opcodes numbers. rw (opens (rw e at f) count opcodes numbers) er)
+
+  module _ (some : 1 ≤ c .0) where
+    -- the letter's site is the channel's
+    site-at : here ≡ siteAt operands users l c d
+    unfolding siteIn cellOf
+    site-at = rw (k .at (sendersOf users) (receiversOf users) (parentsOf users), ne-eqb (c .0) 0 (λ z. omega arith)) refl
+
+    -- the rule was asked at what it sees of the site
+    pub found : {y : Site} {o : Outcome} → y ≡ sees (siteAt operands users l c d) → o ≡ rule y x → Found rule sees operands users m l o
+    found ey eo = rw e (eo ∙ ap (λ (z : Site). rule z x) (ey ∙ ap sees (sym site-at)))
+
+    -- what it leaves is stored
+    pub opened : {o : Outcome} {r : Act} (l' : Lent) → Found rule sees operands users x l o
+        → let q = leaves (siteAt operands users l c d) o in
+        r ≡ acceptedAct q
+        → Whole (l' .board)
+        → tasksOf l' ≡ taskStored (taskStored (tasksOf l) (senderIn users c) (q .sender)) (receiverIn users c) (q .receiver)
+        → storeOf l' ≡ cellStored (storeOf l) d c (q .cell)
+        → Opened operands users m l r l'
+    unfolding cellPut
+    opened l' f er w et es =
+        rw e
+        (λ count opcodes numbers.
+        rw (opens f count opcodes numbers, site-at, k .at (sendersOf users) (receiversOf users) (parentsOf users))
+        (record {
+          whole = w;
+          act = er;
+          tasks = et;
+          store = rw (ne-eqb (c .0) 0 (λ z. omega arith)) es;
+        }))

@@ -1,0 +1,138 @@
+// A step that delivers no letter: a run, a move, or a refusal.
+pub mod instruction;
+pub mod message;
+pub mod moves;
+pub mod word;
+
+ghost use mathlib.Core.Path.{_≡_};
+ghost use Rattle.plan_index.specs.user_table.Users.{sendersOf, receiversOf};
+ghost use Rattle.board.specs.Lent.{lent, tasksOf, storeOf};
+ghost use Rattle.board.specs.Acted.{Acted, actOf, refusedAct};
+ghost use Rattle.board.specs.Rigs.{RigOn, factsIn};
+ghost use Rattle.board.specs.Verdicts.{stepVerdict};
+ghost use Rattle.steps.specs.Kinds.{kindRefusal};
+use crate::instruction::run::run;
+use crate::instruction::run::run_decided;
+use board::act::Act;
+use board::act::Size;
+use board::act::refused;
+use moves::move_decided;
+use moves::move_task;
+use plan::TaskId;
+use rules::step::Step;
+use rules::step::StepAnswer;
+
+// A step that is no run and no move, and delivers nothing.
+fn no_letter(s: Step) -> Act
+    ensures { λ r. ⌜ r ≡ refusedAct (kindRefusal s) ⌝ }
+{
+    if s.kind != 2 {
+        return refused(StepAnswer::BadStep);
+    }
+    if s.task != 0 {
+        return refused(StepAnswer::BadStep);
+    }
+    refused(StepAnswer::NoMessage)
+}
+
+// The step is carried out, by its kind.
+pub fn other<'a>(
+    opcodes: &'a [u8; 4096],
+    operands: &'a [u16; 4096],
+    numbers: &'a [u8; 4096],
+    users: &'a [u8; 1024],
+    hintprocessors: &'a mut [u8; 768],
+    hintmoves: &'a mut [u16; 768],
+    heldprocessors: &'a mut [u8; 768],
+    heldnumbers: &'a mut [u8; 768],
+    notes: &'a mut [u8; 768],
+    board: &'a mut [u64; 256],
+    n: Size,
+    s: Step,
+) -> Act
+    requires { ⌜ RigOn (now opcodes) (now operands) (now numbers) (now users) n
+        (lent (now hintprocessors) (now hintmoves) (now heldprocessors) (now heldnumbers) (now notes) (now board)) ⌝ }
+    ensures { λ r. ⌜ (let l = lent (now (hintprocessors .entry)) (now (hintmoves .entry)) (now (heldprocessors .entry)) (now (heldnumbers .entry)) (now (notes .entry)) (now (board .entry)) in
+        Acted (sendersOf (now (users .entry))) (receiversOf (now (users .entry)))
+        (stepVerdict (factsIn (n .tasks) (now (opcodes .entry)) (now (operands .entry)) (now (numbers .entry)) (now (users .entry))) (n .processors) (tasksOf l) (storeOf l) (n .used) s)
+        l
+        r
+        (lent (now (hintprocessors .exit)) (now (hintmoves .exit)) (now (heldprocessors .exit)) (now (heldnumbers .exit)) (now (notes .exit)) (now (board .exit)))) ⌝ }
+{
+    if s.kind == 1 {
+        if s.number != 0 {
+            return refused(StepAnswer::BadStep);
+        }
+        return run(
+            opcodes,
+            operands,
+            numbers,
+            users,
+            hintprocessors,
+            hintmoves,
+            heldprocessors,
+            heldnumbers,
+            notes,
+            board,
+            n,
+            TaskId(s.task),
+        );
+    }
+    if s.kind == 3 {
+        return move_task(
+            users,
+            hintprocessors,
+            hintmoves,
+            board,
+            n,
+            TaskId(s.task),
+            s.number,
+        );
+    }
+    no_letter(s)
+}
+
+// What the step is answered and would post; nothing is changed.
+pub fn step_decided<'a>(
+    opcodes: &'a [u8; 4096],
+    operands: &'a [u16; 4096],
+    numbers: &'a [u8; 4096],
+    users: &'a [u8; 1024],
+    hintprocessors: &'a [u8; 768],
+    hintmoves: &'a [u16; 768],
+    heldprocessors: &'a [u8; 768],
+    heldnumbers: &'a [u8; 768],
+    notes: &'a [u8; 768],
+    board: &'a [u64; 256],
+    n: Size,
+    s: Step,
+) -> Act
+    requires { ⌜ RigOn (now opcodes) (now operands) (now numbers) (now users) n
+        (lent (now hintprocessors) (now hintmoves) (now heldprocessors) (now heldnumbers) (now notes) (now board)) ⌝ }
+    ensures { λ r. ⌜ (let l = lent (now (hintprocessors .entry)) (now (hintmoves .entry)) (now (heldprocessors .entry)) (now (heldnumbers .entry)) (now (notes .entry)) (now (board .entry)) in
+        r ≡ actOf (stepVerdict (factsIn (n .tasks) (now (opcodes .entry)) (now (operands .entry)) (now (numbers .entry)) (now (users .entry))) (n .processors) (tasksOf l) (storeOf l) (n .used) s)) ⌝ }
+{
+    if s.kind == 1 {
+        if s.number != 0 {
+            return refused(StepAnswer::BadStep);
+        }
+        return run_decided(
+            opcodes,
+            operands,
+            numbers,
+            users,
+            hintprocessors,
+            hintmoves,
+            heldprocessors,
+            heldnumbers,
+            notes,
+            board,
+            n,
+            TaskId(s.task),
+        );
+    }
+    if s.kind == 3 {
+        return move_decided(board, n, TaskId(s.task), s.number);
+    }
+    no_letter(s)
+}

@@ -1,0 +1,58 @@
+// A mover letter.
+ghost use mathlib.Core.List.{List};
+ghost use Prim.Native.Nat.{ℕ};
+ghost use Rattle.board.specs.Lent.{lent};
+ghost use Rattle.board.specs.Rigs.{Opened};
+ghost use Rattle.steps.specs.message.TaskLetters.{MoverOpens};
+use board::act::Act;
+use board::act::posted;
+use board::put_task;
+use board::sweeps::arrive;
+use board::task_at;
+use rules::channel::Hint;
+use rules::message::Message;
+use rules::rule::Posting;
+use rules::task::TaskState;
+
+// A moving task arrives; another stays as it is.
+pub fn mover<'a>(
+    users: &'a [u8; 1024],
+    hintprocessors: &'a mut [u8; 768],
+    hintmoves: &'a mut [u16; 768],
+    heldprocessors: &'a mut [u8; 768],
+    heldnumbers: &'a mut [u8; 768],
+    board: &'a mut [u64; 256],
+    m: Message,
+) -> Act
+    requires { ⌜ MoverOpens (now users) (now hintprocessors) (now hintmoves) (now heldprocessors) (now heldnumbers) (now board) m ⌝ }
+    ensures { λ r. ⌜ ((operands notes : List ℕ)
+        → Opened operands (now (users .entry)) m
+        (lent (now (hintprocessors .entry)) (now (hintmoves .entry)) (now (heldprocessors .entry)) (now (heldnumbers .entry)) notes (now (board .entry)))
+        r
+        (lent (now (hintprocessors .exit)) (now (hintmoves .exit)) (now (heldprocessors .exit)) (now (heldnumbers .exit)) notes (now (board .exit)))) ⌝ }
+{
+    let Message::Migration(d, t) = m else {
+        return posted(Posting::Nothing);
+    };
+    let a = task_at(board, t);
+    if !task_rules::state::is_in(a, TaskState::Moving) {
+        return posted(Posting::Nothing);
+    }
+    let y = channel_rules::messages::migration(a, m);
+    put_task(board, t, y);
+    let h = Hint {
+        processor: d,
+        moves: a.moves,
+    };
+    arrive(
+        users,
+        hintprocessors,
+        hintmoves,
+        heldprocessors,
+        heldnumbers,
+        board,
+        t,
+        h,
+    );
+    posted(Posting::Nothing)
+}

@@ -1,0 +1,60 @@
+// A run that changes nothing but a word: the loop's short cut, to which the board alone is lent.
+ghost use mathlib.Core.Path.{_≡_};
+ghost use Prim.Native.Nat.{_<_};
+ghost use Rattle.board.specs.Lent.{Whole};
+ghost use Rattle.board.specs.Rigs.{RunsOn, Worded};
+ghost use Rattle.steps.specs.Words.{wordChanged};
+use board::act::Size;
+use board::put_task;
+use board::task_at;
+use plan::Instruction;
+use plan::SET;
+use plan::TaskId;
+use rules::step::Step;
+use rules::task::Task;
+use rules::task::TaskState;
+
+// What a set or an add leaves of its task.
+fn word_changed(x: Task, i: Instruction) -> Task
+    requires { ⌜ x .pc < 255 ⌝ }
+    ensures { λ r. ⌜ r ≡ wordChanged x i ⌝ }
+{
+    if i.opcode == SET {
+        return task_rules::instructions::set_rule(x, i);
+    }
+    task_rules::instructions::add_rule(x, i)
+}
+
+// Such a run is carried out; else nothing is.
+pub fn word_run<'a>(
+    opcodes: &'a [u8; 4096],
+    operands: &'a [u16; 4096],
+    board: &'a mut [u64; 256],
+    n: Size,
+    s: Step,
+) -> bool
+    requires { ⌜ (Whole (now board)) × (RunsOn (now opcodes) (now operands) n (now board)) ⌝ }
+    ensures { λ r. ⌜ Worded (now (opcodes .entry)) (now (operands .entry)) n s (now (board .entry)) r (now (board .exit)) ⌝ }
+{
+    if s.kind != 1 {
+        return false;
+    }
+    if s.number != 0 {
+        return false;
+    }
+    if !base::is_within(1, base::wide8(n.tasks), base::wide8(s.task)) {
+        return false;
+    }
+    let t = TaskId(s.task);
+    let x = task_at(board, t);
+    if !task_rules::state::is_in(x, TaskState::Ready) {
+        return false;
+    }
+    let i = board::fetch::instruction_in(opcodes, operands, t, x.pc);
+    if i.opcode < SET {
+        return false;
+    }
+    let y = word_changed(x, i);
+    put_task(board, t, y);
+    true
+}

@@ -1,0 +1,16 @@
+-- `add_rule` adds to the word and goes on.
+use borrow.Author.Needs.{needs}
+use Rattle.task_rules.proofs.instructions.add_rule.Statement.{statement}
+use Rattle.task_rules.proofs.instructions.add_rule.Tie as tie
+
+add-requires : tie.Need-add-requires
+add-requires c κs = search needs
+
+advanced-requires : tie.Need-advanced-requires
+advanced-requires c κs = search needs
+
+returns : tie.Need-returns
+returns c = simp (c .advanced .ensures, c .before .add .ensures)
+
+pub add-rule-spec : {M : Type 1} → statement M
+add-rule-spec = tie.close (tie.spec add-requires advanced-requires returns)

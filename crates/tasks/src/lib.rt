@@ -1,5 +1,0 @@
-// One task's record: its state and desk, its place and word, its living children.
-pub mod change;
-pub mod children;
-mod set;
-pub mod state;

@@ -1,0 +1,102 @@
+-- The bound of a trace: at most 17 bytes a step and 10 for the last line, so at most 34,010 bytes.
+use mathlib.Core.Path.{_≡_, refl}
+use mathlib.Core.Bool.{Bool, true, false}
+use mathlib.Core.List.{List, [], _∷_, _++_}
+use Prim.Native.Nat.{ℕ, _+_, _-_, _*_, _/_, _%_, _≤_}
+use native.Mathlib.Omega.{arith}
+use lib.Dec.{eqb, leb}
+use lib.ListN.{length, length-append}
+use borrow.Author.Tests.{leb-true}
+use Rattle.base.specs.Choice.{unless, within}
+use Rattle.base.proofs.Choices.{pick-either}
+use Rattle.base.proofs.Tables.{length-table}
+use Rattle.base.proofs.Tests.{and-right, within-low, within-high}
+use Rattle.plan.specs.declared.PlanAnswer.{PlanAnswer}
+use Rattle.plan.specs.declared.PlanAnswer.the-variants.{Accepted, Refused}
+use Rattle.plan.specs.declared.Refusal.the-variants.{BadProcessors}
+use Rattle.plan.specs.Programs.{canonical}
+use Rattle.plan.specs.Files.{filePrograms, fileAnswer, startAnswer}
+use Rattle.plan_laws.proofs.Answers.{plan-passed, unless-accepted}
+use Rattle.plan_laws.proofs.Canonical.{meaning-canonical}
+use Rattle.plan_laws.proofs.LayoutRead.{file-plan}
+use Rattle.rules.specs.declared.step.Step.{Step}
+use Rattle.rules.specs.declared.step.RunAnswer.the-variants.{Traced, OutputShort}
+use Rattle.rules.specs.declared.system.System.{System}
+use Rattle.rules.specs.Sound.{systemOk}
+use Rattle.rules.specs.Starts.{started}
+use Rattle.rules.specs.Steps.{steps}
+use Rattle.rules.specs.Trace.{stepLines, endLine}
+use Rattle.rules.specs.StepFiles.{fileSteps, startOf, traceLines, text, stepsOk, answerAfter, runFileAnswer, fitting, writtenAfter, runFileText}
+use Rattle.rules_laws.specs.Shapes.{Shaped}
+use Rattle.rules_laws.proofs.Shapes.{started-shaped}
+use Rattle.rules_laws.proofs.Sound.{letters-fit}
+use Rattle.rules_sound.proofs.Kept.{steps-kept}
+use Rattle.rules_sound.proofs.Starts.{started-ok}
+use Rattle.trace.specs.Words.{FitSystem}
+use Rattle.trace.proofs.Lengths.{end-short}
+use Rattle.trace.proofs.Systems.{started-fits}
+use Rattle.trace.proofs.Steps.{steps-short}
+use Rattle.trace.proofs.Texts.{text-more}
+
+-- the trace of a rig whose words fit
+pub trace-short : (r : System) → Shaped r → systemOk r ≡ true → FitSystem r → (ss : List Step) → length ss ≤ 2000
+    → length (text (traceLines r ss)) ≤ 17 * length ss + 10
+unfolding traceLines
+trace-short r z ok h ss l =
+    let q = steps r ss .system in
+    let lines = stepLines 0 (steps r ss .reports) in
+    rw (text-more lines (endLine q))
+    (omega (
+      arith,
+      length-append (text lines) (endLine q),
+      steps-short r z ok h 0 ss (omega arith),
+      end-short q (letters-fit q (steps-kept r ss z ok)),
+    ))
+
+-- an accepted file on desks of a right number
+start-ok : (n : ℕ) (p : List ℕ) → startAnswer n p ≡ Accepted → systemOk (startOf n p) ≡ true
+unfolding startAnswer startOf
+start-ok n p h =
+    let (d, a) = unless-accepted (within 1 6 n) BadProcessors (fileAnswer p) h in
+    let ok = file-plan p a in
+    started-ok n (canonical (filePrograms p)) (within-low 1 6 n d) (within-high 1 6 n d)
+    (rw (meaning-canonical (filePrograms p) (plan-passed (filePrograms p) ok .sizes)) ok)
+
+steps-few : (b : List ℕ) → stepsOk b ≡ true → length (fileSteps b) ≤ 2000
+unfolding stepsOk fileSteps
+steps-few b h = rw length-table (leb-true (length b / 4) 2000 (and-right (eqb (length b % 4) 0) (leb (length b / 4) 2000) h))
+
+-- what fits is no longer than all
+fitting-short : (room : ℕ) (ls : List (List ℕ)) → length (fitting room ls) ≤ length (text ls)
+unfolding fitting text
+fitting-short room [] = omega arith
+fitting-short room (l ∷ ls) =
+    let rest = fitting (room - length l) ls in
+    pick-either (λ t. length t ≤ length (l ++ text ls)) (leb (length l) room) (l ++ rest) []
+    (omega (arith, fitting-short (room - length l) ls, length-append l rest, length-append l (text ls)))
+    (omega arith)
+
+-- what is written of lines of at most k bytes, where none is written of a refused file
+written-short : (a : PlanAnswer) (ok : Bool) (ls : List (List ℕ)) (room k : ℕ) → (a ≡ Accepted → ok ≡ true → length (text ls) ≤ k)
+    → length (writtenAfter (answerAfter a ok ls room) ls room) ≤ k
+written-short (Refused x) ok ls room k h = omega arith
+written-short Accepted false ls room k h = omega arith
+written-short Accepted true ls room k h = go (leb (length (text ls)) room)
+  where
+    go : (b : Bool) → length (writtenAfter (unless b OutputShort Traced) ls room) ≤ k
+    go true = h refl refl
+    go false = omega (arith, fitting-short room ls, h refl refl)
+
+-- the trace of an accepted file
+pub start-short : (n : ℕ) (p b : List ℕ) → startAnswer n p ≡ Accepted → stepsOk b ≡ true → length (text (traceLines (startOf n p) (fileSteps b))) ≤ 34010
+unfolding startOf
+start-short n p b a s =
+    let x = canonical (filePrograms p) in
+    let few = steps-few b s in
+    omega (arith, few, trace-short (started n x) (started-shaped n x) (start-ok n p a) (started-fits n x) (fileSteps b) few)
+
+-- any number of desks, plan file, step file and output
+pub run-text-short : (n : ℕ) (p b out : List ℕ) → length (runFileText n p b out) ≤ 34010
+unfolding runFileText runFileAnswer
+run-text-short n p b out =
+    written-short (startAnswer n p) (stepsOk b) (traceLines (startOf n p) (fileSteps b)) (length out) 34010 (start-short n p b)

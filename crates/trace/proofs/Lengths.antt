@@ -1,0 +1,85 @@
+-- How long the trace's lines are.
+use mathlib.Core.Path.{_≡_, refl}
+use mathlib.Core.Bool.{true}
+use mathlib.Core.List.{List, [], _∷_}
+use Prim.Native.Nat.{ℕ, _+_, _≤_, _<_}
+use native.Mathlib.Omega.{arith}
+use lib.Dec.{leb}
+use lib.ListN.{length, length-append}
+use borrow.Author.Tests.{leb-true, ltb-true}
+use Rattle.base.specs.Choice.{pick}
+use Rattle.base.proofs.Choices.{pick-either}
+use Rattle.base.proofs.Tests.{and-left, and-right}
+use Rattle.rules.specs.declared.rule.Received.{Received}
+use Rattle.rules.specs.declared.rule.Received.the-variants.{Nothing, Word}
+use Rattle.rules.specs.declared.step.StepAnswer.{StepAnswer}
+use Rattle.rules.specs.declared.step.StepAnswer.the-variants.{Accepted, BadSystem, NoTask, NotReady, FinishWithChildren, NetworkFull, NoMessage, NoProcessor, AlreadyThere, MoveWithChildren, MovesSpent, BadStep}
+use Rattle.rules.specs.declared.step.Report.{Report}
+use Rattle.rules.specs.declared.system.System.{System}
+use Rattle.rules.specs.Answers.{stepNumber}
+use Rattle.rules.specs.Steps.{quiescent}
+use Rattle.rules.specs.Trace.{decimal, fields, receivedFields, stepLine, endLine}
+use Rattle.trace.specs.Words.{wordFits, receivedFits}
+use Rattle.trace.proofs.Decimals.{few-digits}
+
+-- fields behind one of at most d digits
+field-more : (n d : ℕ) (ns : List ℕ) → length (decimal n) ≤ d → length (fields (n ∷ ns)) ≤ 1 + d + length (fields ns)
+unfolding fields
+field-more n d ns h = omega (arith, length-append (decimal n) (fields ns))
+
+last-field : length (fields []) ≡ 1
+unfolding fields
+last-field = refl
+
+answer-few : (a : StepAnswer) → stepNumber a < 100
+answer-few Accepted = omega arith
+answer-few BadSystem = omega arith
+answer-few NoTask = omega arith
+answer-few NotReady = omega arith
+answer-few FinishWithChildren = omega arith
+answer-few NetworkFull = omega arith
+answer-few NoMessage = omega arith
+answer-few NoProcessor = omega arith
+answer-few AlreadyThere = omega arith
+answer-few MoveWithChildren = omega arith
+answer-few MovesSpent = omega arith
+answer-few BadStep = omega arith
+
+-- what a line says behind its step's number
+abbrev pub reportText : Report → List ℕ
+reportText q = fields (stepNumber (q .answer) ∷ receivedFields (q .received))
+
+-- no word is received with a refusal
+pub refused-short : (a : StepAnswer) → length (reportText (record { answer = a; received = Nothing })) ≤ 4
+refused-short a = omega (arith, field-more (stepNumber a) 2 [] (few-digits 1 (stepNumber a) (answer-few a)), last-field)
+
+pub accepted-short : (w : Received) → receivedFits w ≡ true → length (reportText (record { answer = Accepted; received = w })) ≤ 13
+unfolding receivedFits
+accepted-short Nothing h = omega (arith, refused-short Accepted)
+accepted-short (Word c w) h =
+    let channel : c .0 ≤ 128 = leb-true (c .0) 128 (and-left (leb (c .0) 128) (wordFits w) h) in
+    let word : w .0 < 65536 = ltb-true (w .0) 65536 (and-right (leb (c .0) 128) (wordFits w) h) in
+    omega (
+      arith,
+      field-more 0 1 (c .0 ∷ w .0 ∷ []) (few-digits 0 0 (omega arith)),
+      field-more (c .0) 3 (w .0 ∷ []) (few-digits 2 (c .0) (omega arith)),
+      field-more (w .0) 5 [] (few-digits 4 (w .0) (omega arith)),
+      last-field,
+    )
+
+pub line-short : (k : ℕ) (q : Report) → k < 10000 → length (reportText q) ≤ 13 → length (stepLine k q) ≤ 17
+unfolding stepLine
+line-short k q l h = omega (arith, few-digits 3 k l, length-append (decimal k) (reportText q))
+
+pub end-short : (r : System) → r .network .used ≤ 256 → length (endLine r) ≤ 10
+unfolding endLine
+end-short r h =
+    let n = r .network .used in
+    let rest : length (decimal (pick (quiescent r) 1 0)) ≤ 1 =
+    pick-either (λ (k : ℕ). length (decimal k) ≤ 1) (quiescent r) 1 0 (few-digits 0 1 (omega arith)) (few-digits 0 0 (omega arith)) in
+    omega (
+      arith,
+      field-more (pick (quiescent r) 1 0) 1 (n ∷ []) rest,
+      field-more n 3 [] (few-digits 2 n (omega arith)),
+      last-field,
+    )
