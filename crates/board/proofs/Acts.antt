@@ -9,7 +9,7 @@ use lib.ListN.{length}
 use borrow.Author.Tests.{ne-eqb}
 use Rattle.rules.specs.declared.rule.Outcome.{Outcome}
 use Rattle.rules.specs.declared.step.StepAnswer.the-variants.{NetworkFull}
-use Rattle.rules.specs.Networks.{lettersOf}
+use Rattle.rules.specs.Networks.{messagesOf}
 use Rattle.rules.specs.Systems.{cellStored, taskStored}
 use Rattle.rig_parts.specs.declared.sweep.Sweep.the-variants.{Nothing}
 use Rattle.rig_parts.specs.declared.change.Scope.{Scope}
@@ -21,7 +21,7 @@ use Rattle.board.specs.Acted.{refusedAct, acceptedAct}
 use Rattle.board.specs.Lent.{Lent, Whole, tasksOf, storeOf}
 use Rattle.board.specs.Acted.{Acted}
 
-module _ (n used : ℕ) (k : Scope) {o q : Outcome} (ss rs : List ℕ) (e : o ≡ q) {b : Bool} (fits : b ≡ leb (used + length (lettersOf n (o .posting))) 256) {r : Act} where
+module _ (n used : ℕ) (k : Scope) {o q : Outcome} (ss rs : List ℕ) (e : o ≡ q) {b : Bool} (fits : b ≡ leb (used + length (messagesOf n (o .posting))) 256) {r : Act} where
   -- its letters do not fit
   pub none-fits : {before : Lent} → b ≡ false → r ≡ refusedAct NetworkFull → Whole (before .board) → Acted ss rs (fittingIn n used (change k q Nothing)) before r before
   none-fits not er w =

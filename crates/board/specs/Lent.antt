@@ -60,8 +60,8 @@ storeOf l =
 
 -- desk d is one of six, and channel c one of 128
 pub record AtCell (d : ProcessorId) (c : ChannelId) : Type 0 where
-  pub desk-low : 1 ≤ d .0
-  pub desk : d .0 ≤ 6
+  pub processor-low : 1 ≤ d .0
+  pub processor : d .0 ≤ 6
   pub channel-low : 1 ≤ c .0
   pub channel : c .0 ≤ 128
 

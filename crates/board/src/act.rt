@@ -3,7 +3,7 @@ ghost use mathlib.Core.Path.{_≡_};
 ghost use Prim.Native.Nat.{_≤_, _+_};
 ghost use lib.Dec.{leb};
 ghost use lib.ListN.{length};
-ghost use Rattle.rules.specs.Networks.{lettersOf};
+ghost use Rattle.rules.specs.Networks.{messagesOf};
 ghost use Rattle.board.specs.Acted.{refusedAct, acceptedAct, postedAct};
 use rules::rule::Outcome;
 use rules::rule::Posting;
@@ -60,8 +60,8 @@ pub fn posted(p: Posting) -> Act
 // Whether what a rule posts fits into the mail.
 pub fn fits(n: Size, p: Posting) -> bool
     requires { ⌜ n .used ≤ 256 ⌝ }
-    ensures { λ r. ⌜ r ≡ leb (n .used + length (lettersOf (n .processors) p)) 256 ⌝ }
+    ensures { λ r. ⌜ r ≡ leb (n .used + length (messagesOf (n .processors) p)) 256 ⌝ }
 {
-    let needed = network::letters_needed(n.processors, p);
+    let needed = network::messages_needed(n.processors, p);
     n.used + needed <= 256
 }

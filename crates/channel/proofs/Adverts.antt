@@ -11,11 +11,11 @@ use Rattle.base.specs.Choice.{pick}
 use Rattle.base.specs.Range.{fold}
 use Rattle.base.proofs.Choices.{pick-cases}
 use Rattle.channel.specs.Bags.{In, one, total}
-use Rattle.channel.specs.Letters.{Letter, advert, kind, adverts}
+use Rattle.channel.specs.Messages.{ChannelMessage, advert, kind, adverts}
 use Rattle.channel.proofs.Bags.{total-append, in-new, in-front}
 
 -- one of the adverts of desk d to n desks
-pub record AdvertFrom (d n : ℕ) (m : Letter) : Type 0 where
+pub record AdvertFrom (d n : ℕ) (m : ChannelMessage) : Type 0 where
   pub to : ℕ
   pub is : m ≡ advert to d
   pub other : to ≢ d
@@ -23,7 +23,7 @@ pub record AdvertFrom (d n : ℕ) (m : Letter) : Type 0 where
   pub high : to ≤ n
 
 -- the advert to the desk after the n-th, if there is one
-abbrev last : ℕ → ℕ → List Letter
+abbrev last : ℕ → ℕ → List ChannelMessage
 last d n = pick (eqb (suc n) d) [] (one (advert (suc n) d))
 
 more : (d n : ℕ) → adverts d (suc n) ≡ adverts d n ++ last d n
@@ -36,7 +36,7 @@ none d = refl
 
 module _ (d : ℕ) where
   -- each is an advert to another desk, and there is one to each
-  pub adverts-in : (n : ℕ) {m : Letter} → In m (adverts d n) → AdvertFrom d n m
+  pub adverts-in : (n : ℕ) {m : ChannelMessage} → In m (adverts d n) → AdvertFrom d n m
   adverts-in zero h = absurd (List·Memᴰ·not-nil (rw (none d) at h))
   adverts-in (suc n) {m} h =
       ⊎-elim (λ k. let a = adverts-in n k in record { to = a .to; is = a .is; other = a .other; low = a .low; high = omega arith }) is-last
@@ -59,11 +59,11 @@ module _ (d : ℕ) where
       (λ nx. rw (more d n) (in-front (last d n) (in-adverts n x l (omega arith) ne)))
 
 -- a letter of another kind was there before them
-pub post-adverts : (xs : List Letter) (d n : ℕ) {m : Letter} → kind m ≢ 1 → In m (xs ++ adverts d n) → In m xs
+pub post-adverts : (xs : List ChannelMessage) (d n : ℕ) {m : ChannelMessage} → kind m ≢ 1 → In m (xs ++ adverts d n) → In m xs
 unfolding kind
 post-adverts xs d n ne h = ⊎-elim (λ k. k) (λ k. absurd (ne (ap kind (adverts-in d n k .is)))) (List·Memᴰ·append-cases xs h)
 
-module _ (f : Letter → ℕ) (d : ℕ) where
+module _ (f : ChannelMessage → ℕ) (d : ℕ) where
   -- their sum: each adds at most 1, or each adds nothing
   total-more : (n : ℕ) → total f (adverts d (suc n)) ≤ total f (adverts d n) + f (advert (suc n) d)
   unfolding total

@@ -4,14 +4,14 @@ pub mod Bags
 pub mod Hints
 pub mod Forwards
 pub mod Adverts
-pub mod Letters
+pub mod Messages
 pub mod Offers
 pub mod PlacesKeep
 pub mod TransfersKeep
 pub mod DeliveriesKeep
 pub mod Keep
 pub mod Claims
-pub mod Mail
+pub mod Network
 pub mod Chases
 pub mod Measure
 pub mod Sample

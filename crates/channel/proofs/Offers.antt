@@ -17,7 +17,7 @@ use Rattle.rules.specs.Cells.{larger, firstNoted}
 use Rattle.channel.specs.Updates.{atNumber}
 use Rattle.channel.specs.Bags.{In}
 use Rattle.channel.specs.Hints.{Right}
-use Rattle.channel.specs.Letters.{Letter, offer, advert, call, word, calls, words}
+use Rattle.channel.specs.Messages.{ChannelMessage, offer, advert, call, word, calls, words}
 use Rattle.channel.specs.Views.{View, offerOf}
 use Rattle.channel.specs.Places.{takingOver}
 use Rattle.channel.specs.Invariant.{Counts, Way, Live, Advertised, CallOk, Offered, Coming, Invariant}
@@ -34,7 +34,7 @@ IsNext v n = n ≡ suc (v .sender .sent)
 
 -- the next send is offered; it has to be while it is under way and not called for
 abbrev pub NextOffered : View → Type 0
-NextOffered v = Offered (v .processors) (v .sender .sent) (v .sender .at) (v .tables .held) (v .tables .noted) (v .state .carried) (v .letters)
+NextOffered v = Offered (v .processors) (v .sender .sent) (v .sender .at) (v .tables .held) (v .tables .noted) (v .state .carried) (v .messages)
 
 abbrev pub SendOffered : View → Type 0
 SendOffered v = v .sender .sending ≡ 1 → v .state .granted ≡ v .sender .sent → NextOffered v
@@ -48,18 +48,18 @@ abbrev pub IdleCarried : View → Type 0
 IdleCarried v = v .receiver .receiving ≡ 1 → v .state .awaiting ≡ 0 → v .state .carried .number ≤ v .state .granted
 
 -- the numbers, with the letters l
-abbrev pub CountsWith : View → List Letter → Type 0
+abbrev pub CountsWith : View → List ChannelMessage → Type 0
 CountsWith v l =
     Counts (v .sender .sent) (v .sender .sending) (v .receiver .received) (v .receiver .receiving) (v .state .granted) (v .state .awaiting)
     (calls l) (words l)
 
 -- what is said of letters
-pub record MailOk (v : View) : Type 0 where
-  pub way : (to d w k : ℕ) → In (offer to d w k) (v .letters) → Way (v .receiver .history) (v .receiver .moves) to k
-  pub offers : (to d w k : ℕ) → In (offer to d w k) (v .letters) → OfferLive v (offerOf d w)
-  pub adverts : (to d : ℕ) → In (advert to d) (v .letters) → v .state .granted ≡ 0 → Advertised (v .sender .sending) (v .sender .at) d to
-  pub calls : (to d k : ℕ) → In (call to d k) (v .letters) → CallOk (v .sender .sending) (v .sender .at) (v .receiver .at) (v .receiver .moves) to d k
-  pub words : (to : ℕ) (x : Word) → In (word to x) (v .letters) → to ≡ v .receiver .at
+pub record NetworkOk (v : View) : Type 0 where
+  pub way : (to d w k : ℕ) → In (offer to d w k) (v .messages) → Way (v .receiver .history) (v .receiver .moves) to k
+  pub offers : (to d w k : ℕ) → In (offer to d w k) (v .messages) → OfferLive v (offerOf d w)
+  pub adverts : (to d : ℕ) → In (advert to d) (v .messages) → v .state .granted ≡ 0 → Advertised (v .sender .sending) (v .sender .at) d to
+  pub calls : (to d k : ℕ) → In (call to d k) (v .messages) → CallOk (v .sender .sending) (v .sender .at) (v .receiver .at) (v .receiver .moves) to d k
+  pub words : (to : ℕ) (x : Word) → In (word to x) (v .messages) → to ≡ v .receiver .at
 
 -- of two offers one is kept
 pub larger-elim : (Q : Offer → Type 0) (a b : Offer) → Q a → Q b → Q (larger a b)
@@ -141,8 +141,8 @@ coming v i x (last, born) ne = record { moving = away (i .table) x last (λ e. n
 
 -- while nothing is sent, what is said of offers, adverts and calls holds of whatever the sender does next
 module _ (v : View) (i : Invariant v) (z : v .sender .sending ≡ 0) where
-  pub quiet-letters : (s n at to d w k : ℕ) → In (offer to d w k) (v .letters) → Live (v .state .granted) s n at d w
-  quiet-letters s n at to d w k m = quiet z (i .offer-letters to d w k m)
+  pub quiet-messages : (s n at to d w k : ℕ) → In (offer to d w k) (v .messages) → Live (v .state .granted) s n at d w
+  quiet-messages s n at to d w k m = quiet z (i .offer-messages to d w k m)
 
   pub quiet-held : (s n at x : ℕ) → Live (v .state .granted) s n at (v .tables .held x .processor .0) (v .tables .held x .number)
   quiet-held s n at x = quiet z (i .offer-held x)
@@ -150,13 +150,13 @@ module _ (v : View) (i : Invariant v) (z : v .sender .sending ≡ 0) where
   pub quiet-carried : (s n at : ℕ) → Live (v .state .granted) s n at (v .state .carried .processor .0) (v .state .carried .number)
   quiet-carried s n at = quiet z (i .offer-carried)
 
-  pub quiet-adverts : (s at to d : ℕ) → In (advert to d) (v .letters) → v .state .granted ≡ 0 → Advertised s at d to
-  quiet-adverts s at to d m = advert-quiet z (i .advert-letters to d m)
+  pub quiet-adverts : (s at to d : ℕ) → In (advert to d) (v .messages) → v .state .granted ≡ 0 → Advertised s at d to
+  quiet-adverts s at to d m = advert-quiet z (i .advert-messages to d m)
 
   pub quiet-noted : (s at x : ℕ) → 1 ≤ v .tables .noted x .0 → v .state .granted ≡ 0 → Advertised s at (v .tables .noted x .0) x
   quiet-noted s at x l = advert-quiet z (i .advert-noted x l)
 
-  pub quiet-calls : (s at r n to d k : ℕ) → In (call to d k) (v .letters) → CallOk s at r n to d k
-  quiet-calls s at r n to d k m = let q = i .call-letters to d k m .on in absurd (omega arith)
+  pub quiet-calls : (s at r n to d k : ℕ) → In (call to d k) (v .messages) → CallOk s at r n to d k
+  quiet-calls s at r n to d k m = let q = i .call-messages to d k m .on in absurd (omega arith)
 
-pub ruleset quiets = (quiet-letters, quiet-held, quiet-carried, quiet-adverts, quiet-noted, quiet-calls)
+pub ruleset quiets = (quiet-messages, quiet-held, quiet-carried, quiet-adverts, quiet-noted, quiet-calls)

@@ -10,13 +10,13 @@ use Rattle.rules.specs.declared.channel.Offer.{Offer}
 use Rattle.channel.specs.Updates.{atNumber}
 use Rattle.channel.specs.Bags.{In}
 use Rattle.channel.specs.Hints.{hintTo, Right, Table}
-use Rattle.channel.specs.Letters.{offer, calls, words}
+use Rattle.channel.specs.Messages.{offer, calls, words}
 use Rattle.channel.specs.Views.{View, offerOf, senderAt, receiverAt, sentWith, hintsAre, heldAre, carriedIs, travellingIs}
 use Rattle.channel.specs.Places.{SenderBorn, senderBorn, SenderDeparts, senderDeparts, SenderArrives, senderArrives, ReceiverBorn, receiverBorn, ReceiverDeparts, receiverDeparts, ReceiverArrives, receiverArrives}
-use Rattle.channel.specs.Invariant.{Way, by-letter, by-held, by-carried, by-adverts, Coming, Invariant}
+use Rattle.channel.specs.Invariant.{Way, by-message, by-held, by-carried, by-adverts, Coming, Invariant}
 use Rattle.channel.proofs.Updates.{at-elim}
 use Rattle.channel.proofs.Hints.{newer-right, right-more, depart, arrive, bear, learn}
-use Rattle.channel.proofs.Letters.{no-call, no-word}
+use Rattle.channel.proofs.Messages.{no-call, no-word}
 use Rattle.channel.proofs.Offers.{OfferLive, NextOffered, SendOffered, takingOver-elim, taking-number, way-more, quiets}
 
 module _ (v : View) (i : Invariant v) where
@@ -48,7 +48,7 @@ module _ (v : View) (i : Invariant v) where
       sender-placed d (senderArrives d v .tables .hints) (hintTo 0 0)
       (let a = i .sender-stands in let b = g .moving in omega arith)
       (λ a b. let x = newer-right (v .tables .hints d) (v .state .travelling) in let y = i .known-travelling a (g .moving) in rw updated-same (omega arith))
-      (λ a b. absurd (let y = g .desk in omega arith))
+      (λ a b. absurd (let y = g .processor in omega arith))
       (learn d (v .state .travelling) (i .travelling) (i .table))
       (record { old = omega arith; says = sym (i .table .none) })
 
@@ -62,7 +62,7 @@ module _ (v : View) (i : Invariant v) where
       → Table (v .processors) h m d hints
       → (1 ≤ v .sender .sent → 1 ≤ v .sender .at → 1 ≤ hints (v .sender .at) .moves)
       → Right h m (v .state .travelling)
-      → ((to d w k : ℕ) → In (offer to d w k) (v .letters) → Way h m to k)
+      → ((to d w k : ℕ) → In (offer to d w k) (v .messages) → Way h m to k)
       → ((x : ℕ) → v .state .granted < held x .number → Coming d m x (h m))
       → ((x : ℕ) → OfferLive v (held x))
       → OfferLive v c
@@ -71,15 +71,15 @@ module _ (v : View) (i : Invariant v) where
   receiver-placed d m h hints held c z table known right way held-for live-held live-carried offered =
       let n = i .counts in
       let no : v .receiver .receiving ≢ 1 = omega arith in
-      let c0 : calls (v .letters) ≡ 0 = omega arith in
-      let w0 : words (v .letters) ≡ 0 = omega arith in
+      let c0 : calls (v .messages) ≡ 0 = omega arith in
+      let w0 : words (v .messages) ≡ 0 = omega arith in
       search (arith, no, no-call, no-word)
 
   pub receiverBorn-keeps : (d : ℕ) → ReceiverBorn d v → Invariant (receiverBorn d v)
   receiverBorn-keeps d g =
       receiver-placed d 1 (receiverBorn d v .receiver .history) (receiverBorn d v .tables .hints) (v .tables .held) (v .state .carried)
       (let a = i .receiver-stands in let b = g .nowhere in omega arith)
-      (bear d (g .desk) (g .last) (rw (g .nowhere, g .first) at (i .table))) (pointer-known d d 1 (omega arith))
+      (bear d (g .processor) (g .last) (rw (g .nowhere, g .first) at (i .table))) (pointer-known d d 1 (omega arith))
       (right-more d (rw (g .first) at (i .travelling)))
       (λ to e w k m. let y = i .way to e w k m in let a = y .some in let b = y .old in let c = g .first in absurd (omega arith))
       (λ x l. let c = i .held-for x l .born in let e = g .first in absurd (omega arith))
@@ -89,7 +89,7 @@ module _ (v : View) (i : Invariant v) where
   receiverDeparts-keeps e g =
       let m : ℕ = suc (v .receiver .moves) in
       receiver-placed 0 m (receiverDeparts e v .receiver .history) (receiverDeparts e v .tables .hints) (v .tables .held) (v .state .carried) (g .idle)
-      (depart (v .receiver .at) e (g .stands) (g .desk) (g .last) (i .table)) (pointer-known (v .receiver .at) e m (omega arith))
+      (depart (v .receiver .at) e (g .stands) (g .processor) (g .last) (i .table)) (pointer-known (v .receiver .at) e m (omega arith))
       (right-more e (i .travelling))
       (λ to d w k l. way-more e (i .way to d w k l))
       (λ x l. let c = i .held-for x l .moving in let s = g .stands in absurd (omega arith))
@@ -97,7 +97,7 @@ module _ (v : View) (i : Invariant v) where
 
   -- what is held where it arrives is carried now
   arrived-offered : (d : ℕ) → v .state .granted ≡ v .sender .sent → NextOffered v → NextOffered (receiverArrives d v)
-  arrived-offered d e (by-letter to d' k' m) = by-letter to d' k' m
+  arrived-offered d e (by-message to d' k' m) = by-message to d' k' m
   arrived-offered d e (by-held y q) = by-cases (ℕ-discrete y d)
       (λ (z : y ≡ d). by-carried (taking-number v (v .state .carried) (v .tables .held d) (i .offer-carried) (i .offer-held d) e (inr (rw z at q))))
       (λ ne. by-held y (rw updated-other q))

@@ -36,13 +36,13 @@ pub record Ended (v : View) : Type 0 where
   pub sent : v .sender .sent ≡ 1
   pub received : v .receiver .received ≡ 1
   pub granted : v .state .granted ≡ 1
-  pub letters : v .letters ≡ []
+  pub messages : v .messages ≡ []
   pub at : v .receiver .at ≡ 2
   pub known : v .tables .hints 1 ≡ hintTo 2 2
 
 pub sample-ends : (x : Word) → Ended (afterAll (sample x) (blank 2))
 unfolding evaluated sample
-sample-ends x = record { sent = refl; received = refl; granted = refl; letters = refl; at = refl; known = refl }
+sample-ends x = record { sent = refl; received = refl; granted = refl; messages = refl; at = refl; known = refl }
 
 pub sample-keeps : (x : Word) → Invariant (afterAll (sample x) (blank 2))
 sample-keeps x = all-keep (sample x) (blank 2) (sample-met x) (starts 2)
@@ -62,12 +62,12 @@ hunt-met = let older : 3 ≤ 4 = omega arith in search (arith, inr)
 
 pub record Hunted (v : View) : Type 0 where
   pub moves : v .receiver .moves ≡ 4
-  pub letters : v .letters ≡ []
+  pub messages : v .messages ≡ []
   pub held : v .tables .held 2 .number ≡ 1
 
 pub hunt-ends : Hunted (afterAll (posted ++ hunt) (blank 3))
 unfolding evaluated posted hunt
-hunt-ends = record { moves = refl; letters = refl; held = refl }
+hunt-ends = record { moves = refl; messages = refl; held = refl }
 
 pub hunt-twice : chased hunt (afterAll posted (blank 3)) 0 ≡ 2
 unfolding evaluated posted hunt chased forwardedBy

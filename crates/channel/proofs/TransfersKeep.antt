@@ -10,15 +10,15 @@ use Rattle.plan.specs.declared.ProcessorId.{ProcessorId}
 use Rattle.rules.specs.declared.channel.Offer.{Offer}
 use Rattle.rules.specs.Cells.{larger}
 use Rattle.channel.specs.Bags.{In}
-use Rattle.channel.specs.Letters.{Letter, offer, call, isCall, isWord, calls, words, kind, adverts}
-use Rattle.channel.specs.Views.{View, offerOf, withLetters, sendingIs, sentIs, receivingIs, receivedIs, notedAre, grantedIs, awaitingIs, carriedIs}
+use Rattle.channel.specs.Messages.{ChannelMessage, offer, call, isCall, isWord, calls, words, kind, adverts}
+use Rattle.channel.specs.Views.{View, offerOf, withMessages, sendingIs, sentIs, receivingIs, receivedIs, notedAre, grantedIs, awaitingIs, carriedIs}
 use Rattle.channel.specs.Transfers.{Sends, SendPasses, sendPasses, SendCarried, sendCarried, SendAdvertised, sendAdvertised, SendHeld, sendHeld, SendPosted, sendPosted, ReceivePasses, receivePasses, ReceiveWaits, receiveWaits, answered, CarriedAnswered, carriedAnswered, NotedAnswered, notedAnswered}
-use Rattle.channel.specs.Invariant.{Way, Live, CallOk, by-letter, by-held, by-carried, by-adverts, Invariant}
+use Rattle.channel.specs.Invariant.{Way, Live, CallOk, by-message, by-held, by-carried, by-adverts, Invariant}
 use Rattle.channel.proofs.Bags.{total-append, total-post, in-new}
 use Rattle.channel.proofs.Hints.{unknown, known, names-itself}
 use Rattle.channel.proofs.Adverts.{adverts-in, in-adverts, post-adverts, total-adverts-zero}
-use Rattle.channel.proofs.Letters.{post-other, post-offer, post-call, no-call, no-word}
-use Rattle.channel.proofs.Offers.{OfferLive, IsNext, NextOffered, SendOffered, ComingTo, CountsWith, IdleCarried, MailOk, larger-elim, held-elim, larger-number, quiet, advert-quiet, live-more, done, pointed, coming, quiets}
+use Rattle.channel.proofs.Messages.{post-other, post-offer, post-call, no-call, no-word}
+use Rattle.channel.proofs.Offers.{OfferLive, IsNext, NextOffered, SendOffered, ComingTo, CountsWith, IdleCarried, NetworkOk, larger-elim, held-elim, larger-number, quiet, advert-quiet, live-more, done, pointed, coming, quiets}
 
 -- the offer of a send that begins: it is of the send under way, and its number is kept where it stands beside another
 abbrev nextOffer : View → Offer
@@ -62,50 +62,50 @@ module _ (v : View) (i : Invariant v) where
       let d : ℕ = v .sender .at in
       let n : ℕ = v .processors in
       let c = i .counts in
-      let a = total-append isCall (v .letters) (adverts d n) in
-      let b = total-append isWord (v .letters) (adverts d n) in
+      let a = total-append isCall (v .messages) (adverts d n) in
+      let b = total-append isWord (v .messages) (adverts d n) in
       let e = total-adverts-zero isCall d (λ x. refl) n in
       let f = total-adverts-zero isWord d (λ x. refl) n in
-      let mail : MailOk (sendAdvertised v) = record {
+      let network : NetworkOk (sendAdvertised v) = record {
         way = λ to e w k m. i .way to e w k (old (omega arith) m);
-        offers = λ to e w k m. quiet z (i .offer-letters to e w k (old (omega arith) m));
-        adverts = λ to e m. ⊎-elim (λ q. advert-quiet z (i .advert-letters to e q))
+        offers = λ to e w k m. quiet z (i .offer-messages to e w k (old (omega arith) m));
+        adverts = λ to e m. ⊎-elim (λ q. advert-quiet z (i .advert-messages to e q))
             (λ q c.
             let a = adverts-in d n q in
             let r = a .is in
             let s : to ≡ a .to = cc in
-            record { on = refl; from = (cc); other = λ q. a .other (sym s ∙ q) }) (List·Memᴰ·append-cases (v .letters) m);
-        calls = λ to e k m. let q = i .call-letters to e k (old (omega arith) m) .on in absurd (omega arith);
-        words = λ to x m. i .word-letters to x (old (omega arith) m);
+            record { on = refl; from = (cc); other = λ q. a .other (sym s ∙ q) }) (List·Memᴰ·append-cases (v .messages) m);
+        calls = λ to e k m. let q = i .call-messages to e k (old (omega arith) m) .on in absurd (omega arith);
+        words = λ to x m. i .word-messages to x (old (omega arith) m);
       } in
       let unsent : v .sender .sent ≡ 0 = by-cases (decLe 1 (v .sender .sent))
       (λ l. let q = i .known l (g .send .stands) in let u = unknown (i .table) d (g .unknown) in absurd (omega arith)) (λ l. omega arith) in
-      let next : NextOffered (sendAdvertised v) = by-adverts unsent (λ x l u ne. inl (Memᴰ·append-right (v .letters) (in-adverts d n x l u ne))) in
+      let next : NextOffered (sendAdvertised v) = by-adverts unsent (λ x l u ne. inl (Memᴰ·append-right (v .messages) (in-adverts d n x l u ne))) in
       let apart : d ≢ v .receiver .at = λ r. g .away (sym r) in
       search (arith, quiets)
     where
-      old : {m : Letter} → kind m ≢ 1 → In m (sendAdvertised v .letters) → In m (v .letters)
-      old = post-adverts (v .letters) (v .sender .at) (v .processors)
+      old : {m : ChannelMessage} → kind m ≢ 1 → In m (sendAdvertised v .messages) → In m (v .messages)
+      old = post-adverts (v .messages) (v .sender .at) (v .processors)
 
   pub sendPosted-keeps : SendPosted v → Invariant (sendPosted v)
   unfolding isCall isWord kind
   sendPosted-keeps g =
       let z : v .sender .sending ≡ 0 = g .send .idle in
       let d : ℕ = v .sender .at in
-      let x : Letter = offer (v .tables .hints d .processor .0) d (suc (v .sender .sent)) (v .tables .hints d .moves) in
+      let x : ChannelMessage = offer (v .tables .hints d .processor .0) d (suc (v .sender .sent)) (v .tables .hints d .moves) in
       let c = i .counts in
-      let e = total-post isCall (v .letters) x in
-      let f = total-post isWord (v .letters) x in
-      let mail : MailOk (sendPosted v) = record {
-        way = λ to e w k m. post-offer (λ to e w k. Way (v .receiver .history) (v .receiver .moves) to k) (v .letters)
+      let e = total-post isCall (v .messages) x in
+      let f = total-post isWord (v .messages) x in
+      let network : NetworkOk (sendPosted v) = record {
+        way = λ to e w k m. post-offer (λ to e w k. Way (v .receiver .history) (v .receiver .moves) to k) (v .messages)
             (pointed (i .table .right d) (known (i .table) d (let k = g .known in omega arith))) (i .way to e w k) m;
-        offers = λ to e w k m. post-offer (λ to e w k. Live (v .state .granted) 1 (v .sender .sent) d e w) (v .letters)
-            (next-live v) (λ m. quiet z (i .offer-letters to e w k m)) m;
-        adverts = λ to e m. advert-quiet z (i .advert-letters to e (post-other (v .letters) x (omega arith) m));
-        calls = λ to e k m. let q = i .call-letters to e k (post-other (v .letters) x (omega arith) m) .on in absurd (omega arith);
-        words = λ to y m. i .word-letters to y (post-other (v .letters) x (omega arith) m);
+        offers = λ to e w k m. post-offer (λ to e w k. Live (v .state .granted) 1 (v .sender .sent) d e w) (v .messages)
+            (next-live v) (λ m. quiet z (i .offer-messages to e w k m)) m;
+        adverts = λ to e m. advert-quiet z (i .advert-messages to e (post-other (v .messages) x (omega arith) m));
+        calls = λ to e k m. let q = i .call-messages to e k (post-other (v .messages) x (omega arith) m) .on in absurd (omega arith);
+        words = λ to y m. i .word-messages to y (post-other (v .messages) x (omega arith) m);
       } in
-      let next : NextOffered (sendPosted v) = by-letter (v .tables .hints d .processor .0) d (v .tables .hints d .moves) (in-new (v .letters) x) in
+      let next : NextOffered (sendPosted v) = by-message (v .tables .hints d .processor .0) d (v .tables .hints d .moves) (in-new (v .messages) x) in
       let apart : d ≢ v .receiver .at = λ r. g .away (sym r) in
       search (arith, quiets)
 
@@ -125,13 +125,13 @@ module _ (v : View) (i : Invariant v) where
         table = i .table;
         travelling = i .travelling;
         way = i .way;
-        offer-letters = λ to e w k m. gone e w (i .offer-letters to e w k m);
+        offer-messages = λ to e w k m. gone e w (i .offer-messages to e w k m);
         offer-held = λ x. gone _ _ (i .offer-held x);
         offer-carried = gone _ _ live;
-        advert-letters = λ to e m q. absurd (omega arith);
+        advert-messages = λ to e m q. absurd (omega arith);
         advert-noted = λ x l q. absurd (omega arith);
-        call-letters = λ to e k m. no-call (omega arith) m;
-        word-letters = λ to x m. no-word (omega arith) m;
+        call-messages = λ to e k m. no-call (omega arith) m;
+        word-messages = λ to x m. no-word (omega arith) m;
         known = λ a b. let t = i .table .top stands in let u = i .table .born stands in rw here (omega arith);
         known-travelling = λ a e. absurd (omega arith);
         offered = λ on e. absurd (omega arith);
@@ -152,13 +152,13 @@ module _ (v : View) (i : Invariant v) where
       (let c = i .counts in let z = g .idle in omega arith) (g .stands) (g .here)
 
   -- an answer to desk d, the sender's; no letter is new but the call, and none of those that are gone was a call or a word
-  pub answered-keeps : (d r : ℕ) (c : Offer) (noted : ℕ → ProcessorId) (ls : List Letter) → r ≡ 1 → 1 ≤ v .receiver .at
+  pub answered-keeps : (d r : ℕ) (c : Offer) (noted : ℕ → ProcessorId) (ls : List ChannelMessage) → r ≡ 1 → 1 ≤ v .receiver .at
       → v .state .awaiting ≡ 0 → v .sender .sending ≡ 1 → d ≡ v .sender .at → OfferLive v c
-      → ((m : Letter) → In m ls → In m (v .letters)) → CountsWith v ls
-      → Invariant (answered d (receivingIs r (carriedIs c (notedAre noted (withLetters ls v)))))
+      → ((m : ChannelMessage) → In m ls → In m (v .messages)) → CountsWith v ls
+      → Invariant (answered d (receivingIs r (carriedIs c (notedAre noted (withMessages ls v)))))
   unfolding isCall isWord kind
   answered-keeps d r c noted ls on stands zero sending from live old n =
-      let x : Letter = call d (v .receiver .at) (v .receiver .moves) in
+      let x : ChannelMessage = call d (v .receiver .at) (v .receiver .moves) in
       record {
         counts = let e = total-post isCall ls x in let f = total-post isWord ls x in omega arith;
         sender-stands = i .sender-stands;
@@ -166,14 +166,14 @@ module _ (v : View) (i : Invariant v) where
         table = i .table;
         travelling = i .travelling;
         way = λ to e w k m. i .way to e w k (old _ (post-other ls x (omega arith) m));
-        offer-letters = λ to e w k m. live-more (i .offer-letters to e w k (old _ (post-other ls x (omega arith) m)));
+        offer-messages = λ to e w k m. live-more (i .offer-messages to e w k (old _ (post-other ls x (omega arith) m)));
         offer-held = λ x. live-more (i .offer-held x);
         offer-carried = live-more live;
-        advert-letters = λ to e m q. absurd (omega arith);
+        advert-messages = λ to e m q. absurd (omega arith);
         advert-noted = λ x l q. absurd (omega arith);
-        call-letters = λ to e k m. post-call (CallOk (v .sender .sending) (v .sender .at) (v .receiver .at) (v .receiver .moves)) ls
-            (record { on = sending; to-sender = from; from-receiver = refl; count = refl }) (λ m. i .call-letters to e k (old _ m)) m;
-        word-letters = λ to y m. i .word-letters to y (old _ (post-other ls x (omega arith) m));
+        call-messages = λ to e k m. post-call (CallOk (v .sender .sending) (v .sender .at) (v .receiver .at) (v .receiver .moves)) ls
+            (record { on = sending; to-sender = from; from-receiver = refl; count = refl }) (λ m. i .call-messages to e k (old _ m)) m;
+        word-messages = λ to y m. i .word-messages to y (old _ (post-other ls x (omega arith) m));
         known = i .known;
         known-travelling = i .known-travelling;
         offered = λ on e. absurd (omega arith);
@@ -188,7 +188,7 @@ module _ (v : View) (i : Invariant v) where
       let now = i .offer-carried (g .counts) in
       let c = i .counts in
       let z = g .receive .idle in
-      answered-keeps (v .state .carried .processor .0) 1 (offerOf 0 0) (v .tables .noted) (v .letters) refl (g .receive .stands)
+      answered-keeps (v .state .carried .processor .0) 1 (offerOf 0 0) (v .tables .noted) (v .messages) refl (g .receive .stands)
       (omega arith) (now .on) (now .from) (λ l. absurd (omega arith)) (λ x m. m) c
 
   pub notedAnswered-keeps : NotedAnswered v → Invariant (notedAnswered v)
@@ -196,5 +196,5 @@ module _ (v : View) (i : Invariant v) where
       let now = i .advert-noted (v .receiver .at) (g .noted) (g .first) in
       let c = i .counts in
       let z = g .receive .idle in
-      answered-keeps (v .tables .noted (v .receiver .at) .0) 1 (v .state .carried) (notedAnswered v .tables .noted) (v .letters) refl (g .receive .stands)
+      answered-keeps (v .tables .noted (v .receiver .at) .0) 1 (v .state .carried) (notedAnswered v .tables .noted) (v .messages) refl (g .receive .stands)
       (omega arith) (now .on) (now .from) (i .offer-carried) (λ x m. m) c

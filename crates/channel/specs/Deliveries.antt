@@ -12,22 +12,22 @@ use Rattle.rules.specs.Cells.{newer, larger, firstNoted}
 use Rattle.channel.specs.Updates.{atNumber}
 use Rattle.channel.specs.Bags.{one, without}
 use Rattle.channel.specs.Hints.{hintTo}
-use Rattle.channel.specs.Letters.{offer, advert, call, word}
-use Rattle.channel.specs.Views.{offerOf, View, withLetters, sendingIs, sentIs, receivingIs, receivedIs, hintsAre, heldAre, notedAre, awaitingIs, carriedIs}
+use Rattle.channel.specs.Messages.{offer, advert, call, word}
+use Rattle.channel.specs.Views.{offerOf, View, withMessages, sendingIs, sentIs, receivingIs, receivedIs, hintsAre, heldAre, notedAre, awaitingIs, carriedIs}
 use Rattle.channel.specs.Transfers.{answered}
 
 abbrev pub taken : ℕ → View → View
-taken p v = withLetters (without (v .letters) p) v
+taken p v = withMessages (without (v .messages) p) v
 
 -- an offer that counts no more, where the receiver is: the offer to desk x, of desk d, number w, count k
 pub record Dropped (p x d w k : ℕ) (v : View) : Type 0 where
-  pub letter : getElem? (v .letters) p ≡ some (offer x d w k)
+  pub message : getElem? (v .messages) p ≡ some (offer x d w k)
   pub here : v .receiver .at ≡ x
   pub stale : w ≤ v .state .granted
 
 -- one that counts, where the receiver waits for one
 pub record OfferAnswered (p x d w k : ℕ) (v : View) : Type 0 where
-  pub letter : getElem? (v .letters) p ≡ some (offer x d w k)
+  pub message : getElem? (v .messages) p ≡ some (offer x d w k)
   pub here : v .receiver .at ≡ x
   pub counts : v .state .granted < w  -- the offer counts
   pub receiving : v .receiver .receiving ≡ 1
@@ -38,7 +38,7 @@ offerAnswered p d v = answered d (taken p v)
 
 -- where the receiver is otherwise
 pub record Carried (p x d w k : ℕ) (v : View) : Type 0 where
-  pub letter : getElem? (v .letters) p ≡ some (offer x d w k)
+  pub message : getElem? (v .messages) p ≡ some (offer x d w k)
   pub here : v .receiver .at ≡ x
   pub counts : v .state .granted < w
   pub busy : v .receiver .receiving ≡ 1 → v .state .awaiting ≢ 0
@@ -48,18 +48,18 @@ carried p d w v = carriedIs (larger (v .state .carried) (offerOf d w)) (taken p 
 
 -- where the receiver is not, and a newer pointer names another desk
 pub record Forwarded (p x d w k : ℕ) (v : View) : Type 0 where
-  pub letter : getElem? (v .letters) p ≡ some (offer x d w k)
+  pub message : getElem? (v .messages) p ≡ some (offer x d w k)
   pub away : v .receiver .at ≢ x
   pub other : v .tables .hints x .processor .0 ≢ x
   pub newer : k < v .tables .hints x .moves
 
 abbrev pub forwarded : ℕ → ℕ → ℕ → ℕ → View → View
 forwarded p x d w v =
-    withLetters (without (v .letters) p ++ one (offer (v .tables .hints x .processor .0) d w (v .tables .hints x .moves))) v
+    withMessages (without (v .messages) p ++ one (offer (v .tables .hints x .processor .0) d w (v .tables .hints x .moves))) v
 
 -- where it is not, and none does
 pub record Held (p x d w k : ℕ) (v : View) : Type 0 where
-  pub letter : getElem? (v .letters) p ≡ some (offer x d w k)
+  pub message : getElem? (v .messages) p ≡ some (offer x d w k)
   pub away : v .receiver .at ≢ x
   pub nothing-newer : (v .tables .hints x .processor .0 ≡ x) ⊎ (v .tables .hints x .moves ≤ k)
 
@@ -68,14 +68,14 @@ held p x d w v = heldAre (atNumber (v .tables .held) x (larger (v .tables .held 
 
 -- an advert, where the receiver waits and nothing was called
 pub record AdvertAnswered (p x d : ℕ) (v : View) : Type 0 where
-  pub letter : getElem? (v .letters) p ≡ some (advert x d)
+  pub message : getElem? (v .messages) p ≡ some (advert x d)
   pub here : v .receiver .at ≡ x
   pub receiving : v .receiver .receiving ≡ 1
   pub first : v .state .granted ≡ 0
 
 -- any other
 pub record AdvertNoted (p x d : ℕ) (v : View) : Type 0 where
-  pub letter : getElem? (v .letters) p ≡ some (advert x d)
+  pub message : getElem? (v .messages) p ≡ some (advert x d)
   pub not-now : v .receiver .at ≡ x → v .receiver .receiving ≡ 1 → v .state .granted ≢ 0
 
 abbrev pub advertNoted : ℕ → ℕ → ℕ → View → View
@@ -83,7 +83,7 @@ advertNoted p x d v = notedAre (atNumber (v .tables .noted) x (firstNoted (v .ta
 
 -- a call, and the sender's word leaves
 pub record Called (p x d k : ℕ) (v : View) : Type 0 where
-  pub letter : getElem? (v .letters) p ≡ some (call x d k)
+  pub message : getElem? (v .messages) p ≡ some (call x d k)
   pub sending : v .sender .sending ≡ 1
   pub here : v .sender .at ≡ x
 
@@ -92,11 +92,11 @@ called p x d k value v =
     sentIs (suc (v .sender .sent))
     (sendingIs 0
     (hintsAre (atNumber (v .tables .hints) x (newer (v .tables .hints x) (hintTo d k)))
-    (withLetters (without (v .letters) p ++ one (word d value)) v)))
+    (withMessages (without (v .messages) p ++ one (word d value)) v)))
 
 -- a word
 pub record WordTaken (p x : ℕ) (value : Word) (v : View) : Type 0 where
-  pub letter : getElem? (v .letters) p ≡ some (word x value)
+  pub message : getElem? (v .messages) p ≡ some (word x value)
   pub here : v .receiver .at ≡ x
   pub receiving : v .receiver .receiving ≡ 1
   pub called : v .state .awaiting ≡ 1

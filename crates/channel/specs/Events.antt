@@ -116,5 +116,5 @@ blank n =
       receiver = record { at = 0; receiving = 0; received = 0; moves = 0; history = λ k. 0 };
       tables = record { hints = λ x. hintTo 0 0; held = λ x. offerOf 0 0; noted = λ x. processorId 0 };
       state = record { granted = 0; awaiting = 0; carried = offerOf 0 0; travelling = hintTo 0 0 };
-      letters = [];
+      messages = [];
     }

@@ -8,7 +8,7 @@ use Rattle.plan.specs.declared.Word.{Word}
 use Rattle.rules.specs.declared.channel.Offer.{Offer}
 use Rattle.channel.specs.Bags.{In}
 use Rattle.channel.specs.Hints.{Right, Table}
-use Rattle.channel.specs.Letters.{Letter, offer, advert, call, word, calls, words}
+use Rattle.channel.specs.Messages.{ChannelMessage, offer, advert, call, word, calls, words}
 use Rattle.channel.specs.Views.{View}
 
 -- the numbers of one channel, with c calls and w words in the mail: what is called is sent or called for, what is sent is received or under
@@ -51,11 +51,11 @@ pub record CallOk (sending senderAt receiverAt moves to d k : ℕ) : Type 0 wher
   pub count : k ≡ moves
 
 -- nothing is lost: the next send is offered by a letter, held, carried, or, being the first, by an advert to or at every other desk
-pub data Offered (n sent at : ℕ) (held : ℕ → Offer) (noted : ℕ → ProcessorId) (carried : Offer) (letters : List Letter) : Type 0 where
-  by-letter : (to d k : ℕ) → In (offer to d (suc sent) k) letters → Offered n sent at held noted carried letters
-  by-held : (x : ℕ) → held x .number ≡ suc sent → Offered n sent at held noted carried letters
-  by-carried : carried .number ≡ suc sent → Offered n sent at held noted carried letters
-  by-adverts : sent ≡ 0 → ((x : ℕ) → 1 ≤ x → x ≤ n → x ≢ at → In (advert x at) letters ⊎ (1 ≤ noted x .0)) → Offered n sent at held noted carried letters
+pub data Offered (n sent at : ℕ) (held : ℕ → Offer) (noted : ℕ → ProcessorId) (carried : Offer) (messages : List ChannelMessage) : Type 0 where
+  by-message : (to d k : ℕ) → In (offer to d (suc sent) k) messages → Offered n sent at held noted carried messages
+  by-held : (x : ℕ) → held x .number ≡ suc sent → Offered n sent at held noted carried messages
+  by-carried : carried .number ≡ suc sent → Offered n sent at held noted carried messages
+  by-adverts : sent ≡ 0 → ((x : ℕ) → 1 ≤ x → x ≤ n → x ≢ at → In (advert x at) messages ⊎ (1 ≤ noted x .0)) → Offered n sent at held noted carried messages
 
 -- the receiver is on its way to desk x
 pub record Coming (at moves x last : ℕ) : Type 0 where
@@ -66,33 +66,33 @@ pub record Coming (at moves x last : ℕ) : Type 0 where
 pub record Invariant (v : View) : Type 0 where
   pub counts :
       Counts (v .sender .sent) (v .sender .sending) (v .receiver .received) (v .receiver .receiving) (v .state .granted) (v .state .awaiting)
-      (calls (v .letters)) (words (v .letters))
+      (calls (v .messages)) (words (v .messages))
   -- who sends or receives stands at a desk
   pub sender-stands : v .sender .sending ≤ v .sender .at
   pub receiver-stands : v .receiver .receiving ≤ v .receiver .at
   -- every pointer is one that was true
   pub table : Table (v .processors) (v .receiver .history) (v .receiver .moves) (v .receiver .at) (v .tables .hints)
   pub travelling : Right (v .receiver .history) (v .receiver .moves) (v .state .travelling)
-  pub way : (to d w k : ℕ) → In (offer to d w k) (v .letters) → Way (v .receiver .history) (v .receiver .moves) to k
+  pub way : (to d w k : ℕ) → In (offer to d w k) (v .messages) → Way (v .receiver .history) (v .receiver .moves) to k
   -- an offer or an advert that counts is of the send under way
-  pub offer-letters : (to d w k : ℕ) → In (offer to d w k) (v .letters)
+  pub offer-messages : (to d w k : ℕ) → In (offer to d w k) (v .messages)
       → Live (v .state .granted) (v .sender .sending) (v .sender .sent) (v .sender .at) d w
   pub offer-held : (x : ℕ)
       → Live (v .state .granted) (v .sender .sending) (v .sender .sent) (v .sender .at) (v .tables .held x .processor .0) (v .tables .held x .number)
   pub offer-carried :
       Live (v .state .granted) (v .sender .sending) (v .sender .sent) (v .sender .at) (v .state .carried .processor .0) (v .state .carried .number)
-  pub advert-letters : (to d : ℕ) → In (advert to d) (v .letters)
+  pub advert-messages : (to d : ℕ) → In (advert to d) (v .messages)
       → v .state .granted ≡ 0 → Advertised (v .sender .sending) (v .sender .at) d to
   pub advert-noted : (x : ℕ) → 1 ≤ v .tables .noted x .0 → v .state .granted ≡ 0 → Advertised (v .sender .sending) (v .sender .at) (v .tables .noted x .0) x
   -- calls and words find what they suppose
-  pub call-letters : (to d k : ℕ) → In (call to d k) (v .letters)
+  pub call-messages : (to d k : ℕ) → In (call to d k) (v .messages)
       → CallOk (v .sender .sending) (v .sender .at) (v .receiver .at) (v .receiver .moves) to d k
-  pub word-letters : (to : ℕ) (x : Word) → In (word to x) (v .letters) → to ≡ v .receiver .at
+  pub word-messages : (to : ℕ) (x : Word) → In (word to x) (v .messages) → to ≡ v .receiver .at
   -- after the first word the sender's desk, or the sender on its way, knows where the receiver was
   pub known : 1 ≤ v .sender .sent → 1 ≤ v .sender .at → 1 ≤ v .tables .hints (v .sender .at) .moves
   pub known-travelling : 1 ≤ v .sender .sent → v .sender .at ≡ 0 → 1 ≤ v .state .travelling .moves
   pub offered : v .sender .sending ≡ 1 → v .state .granted ≡ v .sender .sent
-      → Offered (v .processors) (v .sender .sent) (v .sender .at) (v .tables .held) (v .tables .noted) (v .state .carried) (v .letters)
+      → Offered (v .processors) (v .sender .sent) (v .sender .at) (v .tables .held) (v .tables .noted) (v .state .carried) (v .messages)
   -- an offer that counts is held only where the receiver is about to arrive
   pub held-for : (x : ℕ) → v .state .granted < v .tables .held x .number
       → Coming (v .receiver .at) (v .receiver .moves) x (v .receiver .history (v .receiver .moves))

@@ -2,7 +2,7 @@
 pub mod Updates
 pub mod Bags
 pub mod Hints
-pub mod Letters
+pub mod Messages
 pub mod Views
 pub mod Places
 pub mod Transfers

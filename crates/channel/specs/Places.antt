@@ -13,7 +13,7 @@ use Rattle.channel.specs.Views.{offerOf, View, senderAt, receiverAt, sen
 pub record SenderBorn (d : ℕ) (v : View) : Type 0 where
   pub nowhere : v .sender .at ≡ 0
   pub first : v .sender .sent ≡ 0
-  pub desk : 1 ≤ d
+  pub processor : 1 ≤ d
   pub last : d ≤ v .processors
 
 abbrev pub senderBorn : ℕ → View → View
@@ -30,7 +30,7 @@ senderDeparts v = travellingIs (v .tables .hints (v .sender .at)) (senderAt 0 v)
 -- it arrives at desk d
 pub record SenderArrives (d : ℕ) (v : View) : Type 0 where
   pub moving : v .sender .at ≡ 0
-  pub desk : 1 ≤ d
+  pub processor : 1 ≤ d
   pub last : d ≤ v .processors
 
 abbrev pub senderArrives : ℕ → View → View
@@ -40,7 +40,7 @@ senderArrives d v = hintsAre (atNumber (v .tables .hints) d (newer (v .tables .h
 pub record ReceiverBorn (d : ℕ) (v : View) : Type 0 where
   pub nowhere : v .receiver .at ≡ 0
   pub first : v .receiver .moves ≡ 0
-  pub desk : 1 ≤ d
+  pub processor : 1 ≤ d
   pub last : d ≤ v .processors
 
 abbrev pub receiverBorn : ℕ → View → View
@@ -50,7 +50,7 @@ receiverBorn d v = hintsAre (atNumber (v .tables .hints) d (hintTo d 1)) (sentWi
 pub record ReceiverDeparts (e : ℕ) (v : View) : Type 0 where
   pub stands : 1 ≤ v .receiver .at
   pub idle : v .receiver .receiving ≡ 0
-  pub desk : 1 ≤ e
+  pub processor : 1 ≤ e
   pub last : e ≤ v .processors
 
 abbrev pub receiverDeparts : ℕ → View → View

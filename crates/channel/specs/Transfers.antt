@@ -7,8 +7,8 @@ use Rattle.plan.specs.Numbers.{processorId}
 use Rattle.rules.specs.Cells.{larger}
 use Rattle.channel.specs.Updates.{atNumber}
 use Rattle.channel.specs.Bags.{one}
-use Rattle.channel.specs.Letters.{offer, call, adverts}
-use Rattle.channel.specs.Views.{offerOf, View, withLetters, sendingIs, sentIs, receivingIs, receivedIs, heldAre, notedAre, grantedIs, awaitingIs, carriedIs}
+use Rattle.channel.specs.Messages.{offer, call, adverts}
+use Rattle.channel.specs.Views.{offerOf, View, withMessages, sendingIs, sentIs, receivingIs, receivedIs, heldAre, notedAre, grantedIs, awaitingIs, carriedIs}
 
 -- the sender is about to send; its next send is number sent + 1
 pub record Sends (v : View) : Type 0 where
@@ -41,7 +41,7 @@ pub record SendAdvertised (v : View) : Type 0 where
   pub unknown : v .tables .hints (v .sender .at) .processor .0 ≡ 0
 
 abbrev pub sendAdvertised : View → View
-sendAdvertised v = sendingIs 1 (withLetters (v .letters ++ adverts (v .sender .at) (v .processors)) v)
+sendAdvertised v = sendingIs 1 (withMessages (v .messages ++ adverts (v .sender .at) (v .processors)) v)
 
 -- it is elsewhere, and is to come here
 pub record SendHeld (v : View) : Type 0 where
@@ -64,7 +64,7 @@ pub record SendPosted (v : View) : Type 0 where
 abbrev pub sendPosted : View → View
 sendPosted v =
     let h = v .tables .hints (v .sender .at) in
-    sendingIs 1 (withLetters (v .letters ++ one (offer (h .processor .0) (v .sender .at) (suc (v .sender .sent)) (h .moves))) v)
+    sendingIs 1 (withMessages (v .messages ++ one (offer (h .processor .0) (v .sender .at) (suc (v .sender .sent)) (h .moves))) v)
 
 -- the sender waits at the same desk
 pub record ReceivePasses (v : View) : Type 0 where
@@ -94,7 +94,7 @@ receiveWaits v = receivingIs 1 v
 
 -- an offer or an advert of desk d is answered by a call
 abbrev pub answered : ℕ → View → View
-answered d v = awaitingIs 1 (grantedIs (suc (v .state .granted)) (withLetters (v .letters ++ one (call d (v .receiver .at) (v .receiver .moves))) v))
+answered d v = awaitingIs 1 (grantedIs (suc (v .state .granted)) (withMessages (v .messages ++ one (call d (v .receiver .at) (v .receiver .moves))) v))
 
 -- a carried offer that counts is answered
 pub record CarriedAnswered (v : View) : Type 0 where

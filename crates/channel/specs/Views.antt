@@ -6,7 +6,7 @@ use Rattle.plan.specs.Numbers.{processorId}
 use Rattle.rules.specs.declared.channel.Hint.{Hint}
 use Rattle.rules.specs.declared.channel.Offer.{Offer}
 use Rattle.rules.specs.Cells.{offer}
-use Rattle.channel.specs.Letters.{Letter}
+use Rattle.channel.specs.Messages.{ChannelMessage}
 
 abbrev pub offerOf : ℕ → ℕ → Offer
 offerOf d w = offer (processorId d) w
@@ -44,23 +44,23 @@ pub record View : Type 0 where
   pub receiver : Receiver
   pub tables : Tables
   pub state : State
-  pub letters : List Letter
+  pub messages : List ChannelMessage
 
 -- a view with one part changed
 abbrev pub withSender : Sender → View → View
-withSender x v = record { processors = v .processors; sender = x; receiver = v .receiver; tables = v .tables; state = v .state; letters = v .letters }
+withSender x v = record { processors = v .processors; sender = x; receiver = v .receiver; tables = v .tables; state = v .state; messages = v .messages }
 
 abbrev pub withReceiver : Receiver → View → View
-withReceiver x v = record { processors = v .processors; sender = v .sender; receiver = x; tables = v .tables; state = v .state; letters = v .letters }
+withReceiver x v = record { processors = v .processors; sender = v .sender; receiver = x; tables = v .tables; state = v .state; messages = v .messages }
 
 abbrev pub withTables : Tables → View → View
-withTables x v = record { processors = v .processors; sender = v .sender; receiver = v .receiver; tables = x; state = v .state; letters = v .letters }
+withTables x v = record { processors = v .processors; sender = v .sender; receiver = v .receiver; tables = x; state = v .state; messages = v .messages }
 
 abbrev pub withState : State → View → View
-withState x v = record { processors = v .processors; sender = v .sender; receiver = v .receiver; tables = v .tables; state = x; letters = v .letters }
+withState x v = record { processors = v .processors; sender = v .sender; receiver = v .receiver; tables = v .tables; state = x; messages = v .messages }
 
-abbrev pub withLetters : List Letter → View → View
-withLetters x v = record { processors = v .processors; sender = v .sender; receiver = v .receiver; tables = v .tables; state = v .state; letters = x }
+abbrev pub withMessages : List ChannelMessage → View → View
+withMessages x v = record { processors = v .processors; sender = v .sender; receiver = v .receiver; tables = v .tables; state = v .state; messages = x }
 
 -- the sender at desk d; the sender sending, or not; with n sends completed
 abbrev pub senderAt : ℕ → View → View

@@ -1,2 +1,2 @@
 -- What each letter does where it goes to: to a channel's site, or to a task.
-pub mod Letters
+pub mod Messages

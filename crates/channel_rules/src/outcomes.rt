@@ -23,7 +23,7 @@ pub fn call_to(from: ProcessorId, c: ChannelId, x: Task) -> Posting
         processor: d,
         moves: x.moves,
     };
-    Posting::Letter(Message::ReadyToReceive(c, from, h))
+    Posting::Single(Message::ReadyToReceive(c, from, h))
 }
 
 // Both tasks stay as they are.

@@ -83,5 +83,5 @@ pub fn send_rule(x: Site, c: ChannelId, w: u8) -> Outcome
         let held = cell_rules::change::holding(x.cell, o);
         return send_waits(x, held, Posting::Nothing);
     }
-    send_waits(x, x.cell, Posting::Letter(Message::Offered(c, o, h)))
+    send_waits(x, x.cell, Posting::Single(Message::Offered(c, o, h)))
 }

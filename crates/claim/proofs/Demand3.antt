@@ -31,24 +31,24 @@ use Rattle.rules.specs.Places.{nextIn}
 use Rattle.rules.specs.Systems.{taskAt}
 use Rattle.rules.specs.Starts.{started}
 use Rattle.rules.specs.Steps.{isRun, isDeliver, isMove, stepAnswer, stepsBy, steps, quiescent, receivedOn}
-use Rattle.rules_laws.proofs.Letters.{length-letters}
+use Rattle.rules_laws.proofs.Messages.{length-messages}
 use Rattle.rules_laws.proofs.Steps.{accepted-is, step-answer, step-passed}
 use Rattle.rules_laws.proofs.StepKinds.{answer-deliver, deliver-passed}
-use Rattle.rules_laws.proofs.Sound.{letters-fit}
+use Rattle.rules_laws.proofs.Sound.{messages-fit}
 use Rattle.rules_sound.proofs.Answers.{number-not-9}
 use Rattle.net.specs.States.{Net}
 use Rattle.net.specs.Nets.{net}
 use Rattle.net.proofs.Meaning.{passed-beginning, same-end}
 use Rattle.transitions.specs.Readings.{reading}
 use Rattle.transitions.specs.Progress.{programOf, unexecuted}
-use Rattle.transitions.specs.Letters.{flat, lettersOn, wordsIn}
+use Rattle.transitions.specs.Messages.{flat, messagesOn, wordsIn}
 use Rattle.transitions.specs.Agreement.{Running}
 use Rattle.claim.specs.Statement.{wastes, noneWasted, acceptedOf, anyStep, from, answeredNine, notExecuted, underWay, ComesToRest, SameTask, Claim}
 use Rattle.claim.specs.Statement.{Demand3}
 use Rattle.invariant.proofs.Falls.{few-left}
 use Rattle.invariant.proofs.Next.{Kept}
 use Rattle.claim.proofs.Lists.{kept-step, runs-counted, few-accepted}
-use Rattle.claim.proofs.Quiet.{rest-refuses, refuses-rest, quiet-letters, quiet-ready}
+use Rattle.claim.proofs.Quiet.{rest-refuses, refuses-rest, quiet-messages, quiet-ready}
 use Rattle.claim.proofs.Whole.{start-kept, list-kept, start-work, rested}
 use Rattle.invariant.proofs.Rest.{Resting, rest-normal, at-rest-same}
 use Rattle.claim.proofs.Finds.{finds}
@@ -84,8 +84,8 @@ module _ (p : Plan) (a : planAnswer (programs p) ≡ PlanAccepted) where
 
   -- at rest nothing is under way, and the net is in its normal form
   module _ {r : System} {w : ChannelId → List Word} (k : Kept p r w) (quiet : quiescent r ≡ true) where
-    no-letters : reading r .letters ≡ []
-    no-letters = quiet-letters r (k .shaped) (k .ok) quiet
+    no-messages : reading r .messages ≡ []
+    no-messages = quiet-messages r (k .shaped) (k .ok) quiet
 
     resting : Resting m (reading r)
     unfolding reading
@@ -95,16 +95,16 @@ module _ (p : Plan) (a : planAnswer (programs p) ≡ PlanAccepted) where
         subst (λ (z : Plan). (isFinish (nextIn (programOf (programs z) t) (taskAt r t)) ≡ true) × (isChildless (taskAt r t) ≡ false)) (k .plan) q
 
     pub normal : Normal (net m) (k .state)
-    normal = rest-normal m a (k .reached) (k .running) no-letters resting
+    normal = rest-normal m a (k .reached) (k .running) no-messages resting
 
     -- all words that have passed are received
     pub all-received : (c : ChannelId) → k .state .passed c ≡ w c
     unfolding flat
-    all-received c = k .running .passed c ∙ ap (λ (ms : List Message). w c ++ wordsIn (lettersOn c ms)) no-letters ∙ append-nil (w c)
+    all-received c = k .running .passed c ∙ ap (λ (ms : List Message). w c ++ wordsIn (messagesOn c ms)) no-messages ∙ append-nil (w c)
 
   -- what is received is a beginning of what has passed
   received-beginning : {r : System} {w : ChannelId → List Word} (k : Kept p r w) (c : ChannelId) → Beginning (w c) (k .state .passed c)
-  received-beginning {r} {w} k c = record { rest = wordsIn (lettersOn c (reading r .letters)); whole = k .running .passed c }
+  received-beginning {r} {w} k c = record { rest = wordsIn (messagesOn c (reading r .messages)); whole = k .running .passed c }
 
   -- a rig, and another of the same plan that is at rest
   module _ {r q : System} {w v : ChannelId → List Word} (k : Kept p r w) (l : Kept p q v) (rests : quiescent q ≡ true) where
@@ -127,7 +127,7 @@ module _ (p : Plan) (a : planAnswer (programs p) ≡ PlanAccepted) where
       same-task t is =
           let there = subst (λ (s : Net). Running m (k .histories) s (reading r) w) same-net (k .running) in
           let e =
-          at-rest-same m a (l .reached) there (l .running) (no-letters k quiet) (no-letters l rests) (resting k quiet) (resting l rests) t
+          at-rest-same m a (l .reached) there (l .running) (no-messages k quiet) (no-messages l rests) (resting k quiet) (resting l rests) t
           (rw (tasks-of p) is) in
           record { state = e .state; place = e .pc; word = e .word }
 
@@ -143,8 +143,8 @@ module _ (n : ℕ) (p : Plan) (ss : List Step) (some : 1 ≤ n) (few : n ≤ 6) 
   there : (ts : List Step) → Kept p (from 1 p ts .system) (λ c. receivedOn c (from 1 p ts .reports))
   there ts = list-kept 1 p (omega arith) (omega arith) a ts
 
-  one-desk : ComesToRest p
-  one-desk =
+  one-processor : ComesToRest p
+  one-processor =
       let done = rested p a (start-kept 1 p (omega arith) (omega arith) a) in
       record { list = done .list; rests = done .rests }
 
@@ -152,12 +152,12 @@ module _ (n : ℕ) (p : Plan) (ss : List Step) (some : 1 ≤ n) (few : n ≤ 6) 
   pub counted : totalOf (programs p) ≡ acceptedOf isRun (started n p) ss + unexecuted (programs p) (reading rig .tasks)
   counted = sym (start-work n p some few a) ∙ runs-counted p a (start-kept n p some few a) ss
 
-  letters-there : length (reading rig .letters) ≡ rig .network .used
+  messages-there : length (reading rig .messages) ≡ rig .network .used
   unfolding reading
-  letters-there = length-letters (rig .network) (omega (arith, here .shaped .slots, letters-fit rig (here .ok)))
+  messages-there = length-messages (rig .network) (omega (arith, here .shaped .slots, messages-fit rig (here .ok)))
 
   few-steps : (us : List Step) → acceptedOf isMove rig us ≡ 0 → acceptedOf anyStep rig us ≤ 10 * (notExecuted n p ss + underWay n p ss)
-  few-steps us none = omega (arith, few-accepted p a here us none, few-left (programs p) (here .running), counted, letters-there)
+  few-steps us none = omega (arith, few-accepted p a here us none, few-left (programs p) (here .running), counted, messages-there)
 
   parts : Demand3 n p ss
   parts =
@@ -165,7 +165,7 @@ module _ (n : ℕ) (p : Plan) (ss : List Step) (some : 1 ≤ n) (few : n ≤ 6) 
         no-nine = no-nine p a (start-kept n p some few a) ss;
         none-wasted = none-wasted p a (start-kept n p some few a) ss;
         beginning = λ ts rests c. beginning p a here (there ts) rests c;
-        one-desk = one-desk;
+        one-processor = one-processor;
         same-words = λ quiet ts rests c. same-words p a here (there ts) rests quiet c;
         same-tasks = λ quiet ts rests t is. same-task p a here (there ts) rests quiet t is;
         few-runs = omega (arith, counted);

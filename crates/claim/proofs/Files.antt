@@ -18,9 +18,9 @@ use Rattle.claim.specs.Statement.{Demand3}
 use Rattle.claim.proofs.Demand3.{demand-3}
 
 module _ (n : ℕ) (b : List ℕ) (accepted : startAnswer n b ≡ Accepted) where
-  desks : within 1 6 n ≡ true
+  processors : within 1 6 n ≡ true
   unfolding startAnswer
-  desks = unless-accepted (within 1 6 n) BadProcessors (fileAnswer b) accepted .0
+  processors = unless-accepted (within 1 6 n) BadProcessors (fileAnswer b) accepted .0
 
   plan-ok : planAnswer (filePrograms b) ≡ Accepted
   unfolding startAnswer
@@ -31,4 +31,4 @@ module _ (n : ℕ) (b : List ℕ) (accepted : startAnswer n b ≡ Accepted) wher
 
   pub demand-3-file : (ss : List ℕ) → Demand3 n (canonical (filePrograms b)) (fileSteps ss)
   demand-3-file ss =
-      demand-3 n (canonical (filePrograms b)) (fileSteps ss) (within-low 1 6 n desks) (within-high 1 6 n desks) (rw means plan-ok)
+      demand-3 n (canonical (filePrograms b)) (fileSteps ss) (within-low 1 6 n processors) (within-high 1 6 n processors) (rw means plan-ok)

@@ -10,4 +10,4 @@ pub mod Demand3
 pub mod Files
 pub mod Corollaries
 pub mod Moves
-pub mod OneLetter
+pub mod OneMessage

@@ -39,13 +39,13 @@ use Rattle.transitions.specs.Progress.{flag}
 use Rattle.invariant.proofs.StartViews.{read-started, start-cases}
 use Rattle.invariant.proofs.Next.{Kept, next}
 use Rattle.claim.specs.Statement.{acceptedOf, from}
-use Rattle.claim.specs.Moves.{NoMoveOnOneDesk, NothingMoves, FewMoves}
+use Rattle.claim.specs.Moves.{NoMoveOnOneProcessor, NothingMoves, FewMoves}
 use Rattle.claim.proofs.Lists.{step-either, left, kept-step}
 use Rattle.claim.proofs.Whole.{start-kept, list-kept}
 
 -- an accepted move goes to a desk of the rig where its task is not, and the task is at one
-pub no-move-on-one-desk : NoMoveOnOneDesk
-no-move-on-one-desk r s one kind =
+pub no-move-on-one-processor : NoMoveOnOneProcessor
+no-move-on-one-processor r s one kind =
     is-false (isAccepted (stepAnswer r s)) (λ e.
     let t = taskId (s .task) in
     let d = processorId (s .number) in
@@ -57,7 +57,7 @@ no-move-on-one-desk r s one kind =
     let at = settled (r .processors) (r .plan .tasks) (taskProgram r t) (taskAt r t) Ready refl (m .ready) ok in
     let to-low = within-low 1 (r .processors) (d .0) (m .processor) in
     let to-high = within-high 1 (r .processors) (d .0) (m .processor) in
-    eqb-false (taskAt r t .processor .0) (d .0) (m .elsewhere) (omega (arith, one, at .desk, at .desk-few, to-low, to-high)))
+    eqb-false (taskAt r t .processor .0) (d .0) (m .elsewhere) (omega (arith, one, at .processor, at .processor-few, to-low, to-high)))
 
 nothing-moves-from : (r : System) (ss : List Step) → r .processors ≡ 1 → acceptedOf isMove r ss ≡ 0
 unfolding acceptedOf
@@ -67,7 +67,7 @@ nothing-moves-from r (s ∷ ss) one =
     rw (no-move (isMove s) refl) (omega (arith, rest))
   where
     no-move : (b : Bool) → isMove s ≡ b → isMove s && isAccepted (stepAnswer r s) ≡ false
-    no-move true e = rw (e, no-move-on-one-desk r s one e) refl
+    no-move true e = rw (e, no-move-on-one-processor r s one e) refl
     no-move false e = rw e refl
 
 pub nothing-moves : NothingMoves

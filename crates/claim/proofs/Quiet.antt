@@ -22,18 +22,18 @@ use Rattle.rules.specs.declared.system.System.{System}
 use Rattle.rules.specs.Answers.{isAccepted}
 use Rattle.rules.specs.Deliver.{deliverAnswer}
 use Rattle.rules.specs.Steps.{isRun, isDeliver, wellFormed, kindAnswer, ruledAnswer, stepAnswer, runStep, quiescent}
-use Rattle.rules.specs.Networks.{letters, lettersOf}
+use Rattle.rules.specs.Networks.{messages, messagesOf}
 use Rattle.rules.specs.Tasks.{isIn, isChildless}
 use Rattle.rules.specs.Systems.{taskAt}
 use Rattle.rules.specs.Runs.{nextOf, ran, fits, finishesEarly, runAnswer}
 use Rattle.rules.specs.Sound.{systemOk}
 use Rattle.rules_laws.specs.Shapes.{Shaped}
-use Rattle.rules_laws.proofs.Letters.{few-letters}
+use Rattle.rules_laws.proofs.Messages.{few-messages}
 use Rattle.rules_laws.proofs.Steps.{accepted-is, step-passed}
 use Rattle.rules_laws.proofs.StepKinds.{answer-run, answer-deliver, deliver-passed}
 use Rattle.rules_sound.proofs.Answers.{run-passed}
 use Rattle.transitions.specs.Readings.{reading}
-use Rattle.transitions.proofs.Rigs.{desks-few}
+use Rattle.transitions.proofs.Rigs.{processors-few}
 
 -- a delivery of position p
 abbrev pub deliverStep : ℕ → Step
@@ -47,9 +47,9 @@ module _ (r : System) (ok : systemOk r ≡ true) where
 
   module _ (quiet : quiescent r ≡ true) where
     -- what rest says: no letters, and no run is accepted
-    no-letters : r .network .used ≡ 0
+    no-messages : r .network .used ≡ 0
     unfolding quiescent
-    no-letters = eqb-true (r .network .used) 0 (and-left (eqb (r .network .used) 0) _ quiet)
+    no-messages = eqb-true (r .network .used) 0 (and-left (eqb (r .network .used) 0) _ quiet)
 
     no-run : (t : ℕ) → 1 ≤ t → t ≤ r .plan .tasks → isAccepted (stepAnswer r (runStep t)) ≡ false
     unfolding quiescent
@@ -71,7 +71,7 @@ module _ (r : System) (ok : systemOk r ≡ true) where
     deliver-refused : (s : Step) → isDeliver s ≡ true → stepAnswer r s ≡ Accepted → ⊥
     deliver-refused s kind a =
         let (l, u) = deliver-passed r (s .number) (sym (answer-deliver r s kind) ∙ step-passed r s a .rule) in
-        omega (arith, no-letters)
+        omega (arith, no-messages)
 
     pub rest-refuses : (s : Step) → (isRun s || isDeliver s) ≡ true → isAccepted (stepAnswer r s) ≡ false
     rest-refuses s kind =
@@ -91,19 +91,19 @@ module _ (r : System) (ok : systemOk r ≡ true) where
       (below-all (λ k. not (isAccepted (stepAnswer r (runStep (suc k))))) (r .plan .tasks) (λ k l. rw (none (runStep (suc k)) refl) refl))
 
 module _ (r : System) (shaped : Shaped r) (ok : systemOk r ≡ true) (quiet : quiescent r ≡ true) where
-  pub quiet-letters : reading r .letters ≡ []
-  unfolding reading letters
-  quiet-letters = rw (no-letters r ok quiet) refl
+  pub quiet-messages : reading r .messages ≡ []
+  unfolding reading messages
+  quiet-messages = rw (no-messages r ok quiet) refl
 
   -- with an empty mail a ready task is kept from running by its finish alone
   pub quiet-ready : (t : TaskId) → within 1 (r .plan .tasks) (t .0) ≡ true → isIn Ready (taskAt r t) ≡ true
       → (isFinish (nextOf r t) ≡ true) × (isChildless (taskAt r t) ≡ false)
   unfolding stepAnswer ruledAnswer wellFormed kindAnswer runAnswer fits
   quiet-ready t is ready =
-      let few = desks-few r shaped ok in
-      let posted = few-letters (r .processors) (ran r t .posting) in
-      let fit : leb (r .network .used + length (lettersOf (r .processors) (ran r t .posting))) 256 ≡ true =
-      le-leb (r .network .used + length (lettersOf (r .processors) (ran r t .posting))) 256 (let none = no-letters r ok quiet in omega arith) in
+      let few = processors-few r shaped ok in
+      let posted = few-messages (r .processors) (ran r t .posting) in
+      let fit : leb (r .network .used + length (messagesOf (r .processors) (ran r t .posting))) 256 ≡ true =
+      le-leb (r .network .used + length (messagesOf (r .processors) (ran r t .posting))) 256 (let none = no-messages r ok quiet in omega arith) in
       let early : finishesEarly r t ≡ true =
       is-true (finishesEarly r t) (λ late.
       let yet : stepAnswer r (runStep (t .0)) ≡ Accepted = rw (ok, is, ready, late, fit) refl in

@@ -25,9 +25,9 @@ use Rattle.rules_laws.proofs.TaskAt.{withTask-taskAt}
 use Rattle.rules_laws.proofs.CellAt.{withCell-cellAt}
 use Rattle.claim.specs.Statement.{findsIts}
 
-module _ (r : System) (mail : Network) where
+module _ (r : System) (network : Network) where
   abbrev q : System
-  q = withNetwork r mail
+  q = withNetwork r network
 
   -- what a rule about channel c at desk d looks at
   module _ (c : ChannelId) (d : ProcessorId) where

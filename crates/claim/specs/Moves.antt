@@ -21,9 +21,9 @@ use Rattle.rules.specs.Starts.{started}
 use Rattle.rules.specs.Steps.{isMove, stepAnswer}
 use Rattle.claim.specs.Statement.{acceptedOf, from}
 
--- `no-move-on-one-desk`: any rig of one desk, whether 9 refuses it or not, refuses every move
-abbrev pub NoMoveOnOneDesk : Type 0
-NoMoveOnOneDesk = (r : System) (s : Step) → r .processors ≡ 1 → isMove s ≡ true → isAccepted (stepAnswer r s) ≡ false
+-- `no-move-on-one-processor`: any rig of one desk, whether 9 refuses it or not, refuses every move
+abbrev pub NoMoveOnOneProcessor : Type 0
+NoMoveOnOneProcessor = (r : System) (s : Step) → r .processors ≡ 1 → isMove s ≡ true → isAccepted (stepAnswer r s) ≡ false
 
 -- "a one-desk rig where nothing moves": so no list of steps has an accepted move there, of any plan
 abbrev pub NothingMoves : Type 0

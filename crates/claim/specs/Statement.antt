@@ -25,7 +25,7 @@ use Rattle.rules.specs.declared.system.System.{System}
 use Rattle.rules.specs.Answers.{isAccepted, stepNumber}
 use Rattle.rules.specs.Tasks.{isIn, isAt}
 use Rattle.rules.specs.Places.{isOn}
-use Rattle.rules.specs.Networks.{letterAt}
+use Rattle.rules.specs.Networks.{messageAt}
 use Rattle.rules.specs.Systems.{taskAt, channelAt, meaning, taskProgram}
 use Rattle.rules.specs.Starts.{started}
 use Rattle.rules.specs.Steps.{isRun, isDeliver, isMove, stepAnswer, step, quiescent, History, steps, receivedOn}
@@ -49,7 +49,7 @@ findsIts r (Migration d t) = isIn Moving (taskAt r t)
 
 -- "Where that isn't so, the letter is removed without effect": this step does so
 unfoldable pub wastes : System → Step → Bool
-wastes r s = isDeliver s && (isAccepted (stepAnswer r s) && not (findsIts r (letterAt (r .network) (s .number))))
+wastes r s = isDeliver s && (isAccepted (stepAnswer r s) && not (findsIts r (messageAt (r .network) (s .number))))
 
 -- no step of the list does; "each next" gets "the rig that the last left"
 unfoldable pub noneWasted : System → List Step → Bool
@@ -103,7 +103,7 @@ pub record SameTask (r q : System) (t : TaskId) : Type 0 where
 -- this, and that is shown".
 --
 -- (b) "and after the list each channel's received words are a beginning of those on a one-desk rig where nothing moves, started from the same plan
--- and brought to rest by the paper's meaning, in whatever order.": `beginning`, for each list ts that brings the rig of one desk to rest; `one-desk`,
+-- and brought to rest by the paper's meaning, in whatever order.": `beginning`, for each list ts that brings the rig of one desk to rest; `one-processor`,
 -- that there is such a list. That nothing moves there is no premise: on one desk no move is accepted (`NothingMoves` of Moves).
 --
 -- (c) "If the moving rig is at rest too, both share every channel's list of received words and every task's state, place and word.": `same-words`
@@ -122,7 +122,7 @@ pub record Demand3 (n : ℕ) (p : Plan) (ss : List Step) : Type 0 where
   -- (b) the words "just as the steps' trace lines report" them
   pub beginning : (ts : List Step) → Rests p ts → (c : ChannelId)
       → Beginning (receivedOn c (from n p ss .reports)) (receivedOn c (from 1 p ts .reports))
-  pub one-desk : ComesToRest p
+  pub one-processor : ComesToRest p
   -- (c)
   pub same-words : quiescent (from n p ss .system) ≡ true → (ts : List Step) → Rests p ts → (c : ChannelId)
       → receivedOn c (from n p ss .reports) ≡ receivedOn c (from 1 p ts .reports)

@@ -10,10 +10,10 @@ use run::file::run::run_file;
 
 // Plan check: whether a plan file can be started on this many desks. 0, or the number of the refusal.
 #[no_mangle]
-pub extern "C" fn mortarsedge_plan_check(desks: u32, plan: &[u8]) -> u32
-    ensures { λ r. ⌜ r ≡ startNumber desks (now (plan .entry)) ⌝ }
+pub extern "C" fn mortarsedge_plan_check(processors: u32, plan: &[u8]) -> u32
+    ensures { λ r. ⌜ r ≡ startNumber processors (now (plan .entry)) ⌝ }
 {
-    if !base::is_within(1, 6, desks as usize) {
+    if !base::is_within(1, 6, processors as usize) {
         return Refusal::BadProcessors.number();
     }
     let answer = plan_file::check_plan(plan);
@@ -44,14 +44,14 @@ fn packed(number: u32, filled: usize) -> u64
 // of the answer, and 256 times the number of bytes that are filled.
 #[no_mangle]
 pub extern "C" fn mortarsedge_run<'a>(
-    desks: u32,
+    processors: u32,
     plan: &'a [u8],
     steps: &'a [u8],
     out: &'a mut [u8],
 ) -> u64
-    ensures { λ r. ⌜ RunMeets desks (now (plan .entry)) (now (steps .entry)) (now (out .entry)) r (now (out .exit)) ⌝ }
+    ensures { λ r. ⌜ RunMeets processors (now (plan .entry)) (now (steps .entry)) (now (out .entry)) r (now (out .exit)) ⌝ }
 {
-    let o = run_file(desks, plan, steps, out);
+    let o = run_file(processors, plan, steps, out);
     let answer = o.answer;
     let number = run_number(answer);
     let filled = o.filled;

@@ -31,10 +31,10 @@ five-left : notExecuted 2 workedPlan four ≡ 5
 unfolding evaluated acceptedOf
 five-left = refl
 
-two-letters : underWay 2 workedPlan four ≡ 2
+two-messages : underWay 2 workedPlan four ≡ 2
 unfolding evaluated
-two-letters = refl
+two-messages = refl
 
 pub at-most-seventy : (us : List Step) → acceptedOf isMove (from 2 workedPlan four .system) us ≡ 0
     → acceptedOf anyStep (from 2 workedPlan four .system) us ≤ 70
-at-most-seventy us none = omega (arith, demand-3 2 workedPlan four (omega arith) (omega arith) accepted .few-steps us none, five-left, two-letters)
+at-most-seventy us none = omega (arith, demand-3 2 workedPlan four (omega arith) (omega arith) accepted .few-steps us none, five-left, two-messages)

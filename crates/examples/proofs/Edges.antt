@@ -46,7 +46,7 @@ same-bytes (x ∷ xs) (y ∷ ys) h = rw (eqb-true x y (and-left (eqb x y) (sameB
 
 -- entry k of a list; e stands for what is behind its end
 pub text-edge : (e : TextEdge) (k : ℕ) → k < length textEdges
-    → printed (getD textEdges k e .desks) (getD textEdges k e .file) (getD textEdges k e .steps) ≡ getD textEdges k e .text
+    → printed (getD textEdges k e .processors) (getD textEdges k e .file) (getD textEdges k e .steps) ≡ getD textEdges k e .text
 text-edge e k h = same-bytes _ _ (every-at textHolds textEdges k e h all-texts)
 
 pub output-edge : (e : OutputEdge) (k : ℕ) → k < length outputEdges → outputHolds (getD outputEdges k e) ≡ true

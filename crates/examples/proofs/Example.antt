@@ -64,25 +64,25 @@ ruled-receiver : DoneAt 5 (wordOf 5178) (taskAt (ruledSteps (started 3 examplePl
 unfolding evaluated
 ruled-receiver = record { state = refl; at = refl; with = refl }
 
-three-desks : (ss : List Step) → Demand3 3 examplePlan ss
-three-desks ss = demand-3 3 examplePlan ss (omega arith) (omega arith) accepted
+three-processors : (ss : List Step) → Demand3 3 examplePlan ss
+three-processors ss = demand-3 3 examplePlan ss (omega arith) (omega arith) accepted
 
 -- (b): from the words before the last, the first two of the one-desk rig
 pub first-words : (ts : List Step) → Rests examplePlan ts
     → Beginning (wordOf 33057 ∷ wordOf 5178 ∷ []) (receivedOn exampleChannel (from 1 examplePlan ts .reports))
-first-words ts at-rest = rw (run-as-ruled exampleBefore, ruled-before) at (three-desks exampleBefore .beginning ts at-rest exampleChannel)
+first-words ts at-rest = rw (run-as-ruled exampleBefore, ruled-before) at (three-processors exampleBefore .beginning ts at-rest exampleChannel)
 
 -- (c): from the words at rest, all of them
 pub all-words : (ts : List Step) → Rests examplePlan ts
     → receivedOn exampleChannel (from 1 examplePlan ts .reports) ≡ wordOf 33057 ∷ wordOf 5178 ∷ wordOf 5178 ∷ []
 all-words ts at-rest =
-    sym (three-desks exampleAll .same-words rests ts at-rest exampleChannel)
+    sym (three-processors exampleAll .same-words rests ts at-rest exampleChannel)
     ∙ ap (λ (h : History). receivedOn exampleChannel (h .reports)) (run-as-ruled exampleAll) ∙ ruled-all
 
 -- and that its receiver is done, at which place and with which word
 pub receiver-done : (ts : List Step) → Rests examplePlan ts → DoneAt 5 (wordOf 5178) (taskAt (from 1 examplePlan ts .system) receiver)
 unfolding canonical
 receiver-done ts at-rest =
-    let same = three-desks exampleAll .same-tasks rests ts at-rest receiver refl in
+    let same = three-processors exampleAll .same-tasks rests ts at-rest receiver refl in
     let here : DoneAt 5 (wordOf 5178) (taskAt (from 3 examplePlan exampleAll .system) receiver) = rw (run-as-ruled exampleAll) ruled-receiver in
     record { state = sym (same .state) ∙ here .state; at = sym (same .place) ∙ here .at; with = sym (same .word) ∙ here .with }

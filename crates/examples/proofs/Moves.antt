@@ -19,7 +19,7 @@ use Rattle.rules.proofs.Evaluated.{evaluated}
 use Rattle.rules_laws.proofs.Shapes.{started-processors}
 use Rattle.claim.specs.Statement.{acceptedOf, from}
 use Rattle.examples.specs.Example.{examplePlan, exampleAll}
-use Rattle.claim.proofs.Moves.{no-move-on-one-desk, moves-few}
+use Rattle.claim.proofs.Moves.{no-move-on-one-processor, moves-few}
 
 abbrev firstMove : Step
 firstMove = record { kind = 3; task = 1; number = 3 }
@@ -34,7 +34,7 @@ unfolding evaluated
 moves = refl
 
 pub stays : (s : Step) → isMove s ≡ true → isAccepted (stepAnswer (started 1 examplePlan) s) ≡ false
-stays s kind = no-move-on-one-desk (started 1 examplePlan) s (started-processors 1 examplePlan) kind
+stays s kind = no-move-on-one-processor (started 1 examplePlan) s (started-processors 1 examplePlan) kind
 
 -- one accepted move, and a count of two
 one-move : acceptedOf isMove (started 3 examplePlan) (firstMove ∷ []) ≡ 1

@@ -21,13 +21,13 @@ use Rattle.rules.proofs.Sites.{crowded}
 
 -- desks, a plan file, a step file, and what the trace program prints
 pub record TextEdge : Type 0 where
-  pub desks : ℕ
+  pub processors : ℕ
   pub file : List ℕ
   pub steps : List ℕ
   pub text : List ℕ
 
 abbrev pub textHolds : TextEdge → Bool
-textHolds e = sameBytes (printed (e .desks) (e .file) (e .steps)) (e .text)
+textHolds e = sameBytes (printed (e .processors) (e .file) (e .steps)) (e .text)
 
 -- the bytes of steps
 unfoldable pub bytesOf : List Step → List ℕ
@@ -80,18 +80,18 @@ oddText =
 -- "*The run above. *Empty step file: `end 0 0`. .. *Word 65,535 add 1: 0."; odd numbers; refusals 1, 2 and 8, each before the next
 unfoldable pub textEdges : List TextEdge
 textEdges =
-    record { desks = 2; file = worked; steps = bytesOf workedSteps; text = workedText }
-    ∷ record { desks = 2; file = worked; steps = []; text = endText }
-    ∷ record { desks = 1; file = layout overTheTop; steps = bytesOf (run 1 ∷ run 1 ∷ run 1 ∷ run 1 ∷ run 2 ∷ []); text = overText }
-    ∷ record { desks = 2; file = single; steps = bytesOf oddSteps; text = oddText }
-    ∷ record { desks = 7; file = []; steps = 1 ∷ []; text = refusedText 49 }
-    ∷ record { desks = 2; file = []; steps = 1 ∷ []; text = refusedText 50 }
-    ∷ record { desks = 2; file = worked; steps = 1 ∷ []; text = refusedText 56 }
+    record { processors = 2; file = worked; steps = bytesOf workedSteps; text = workedText }
+    ∷ record { processors = 2; file = worked; steps = []; text = endText }
+    ∷ record { processors = 1; file = layout overTheTop; steps = bytesOf (run 1 ∷ run 1 ∷ run 1 ∷ run 1 ∷ run 2 ∷ []); text = overText }
+    ∷ record { processors = 2; file = single; steps = bytesOf oddSteps; text = oddText }
+    ∷ record { processors = 7; file = []; steps = 1 ∷ []; text = refusedText 49 }
+    ∷ record { processors = 2; file = []; steps = 1 ∷ []; text = refusedText 50 }
+    ∷ record { processors = 2; file = worked; steps = 1 ∷ []; text = refusedText 56 }
     ∷ []
 
 -- the same with an output: what it holds before, the number that is answered, and what it holds then
 pub record OutputEdge : Type 0 where
-  pub desks : ℕ
+  pub processors : ℕ
   pub file : List ℕ
   pub steps : List ℕ
   pub before : List ℕ
@@ -100,15 +100,15 @@ pub record OutputEdge : Type 0 where
 
 abbrev pub outputHolds : OutputEdge → Bool
 outputHolds e =
-    eqb (runNumber (runFileAnswer (e .desks) (e .file) (e .steps) (e .before))) (e .number)
-    && sameBytes (runFileOutput (e .desks) (e .file) (e .steps) (e .before)) (e .after)
+    eqb (runNumber (runFileAnswer (e .processors) (e .file) (e .steps) (e .before))) (e .number)
+    && sameBytes (runFileOutput (e .processors) (e .file) (e .steps) (e .before)) (e .after)
 
 -- on the plan of one finish, an output of nines
 abbrev pub nines : ℕ → List ℕ
 nines n = replicate n 9
 
 abbrev pub outputEdge : ℕ → List ℕ → ℕ → ℕ → List ℕ → OutputEdge
-outputEdge n steps room number after = record { desks = n; file = single; steps = steps; before = nines room; number = number; after = after }
+outputEdge n steps room number after = record { processors = n; file = single; steps = steps; before = nines room; number = number; after = after }
 
 -- `1 14` and `end 0 0` are 13 bytes: deliver 0
 abbrev pub shortText : List ℕ

@@ -21,18 +21,18 @@ use Rattle.channel.specs.Measure.{measure}
 use Rattle.channel.proofs.Measure.{delivery-falls, transfer-adds}
 use Rattle.transitions.specs.Readings.{Reading}
 use Rattle.transitions.specs.Progress.{unexecuted}
-use Rattle.transitions.specs.Letters.{lettersOn}
+use Rattle.transitions.specs.Messages.{messagesOn}
 use Rattle.transitions.specs.Views.{Histories, viewOf}
-use Rattle.transitions.specs.Acts.{Ran, by-sender, by-receiver, by-nobody, ChannelAct}
+use Rattle.transitions.specs.Transitions.{Ran, by-sender, by-receiver, by-nobody, ChannelTransition}
 use Rattle.transitions.specs.Agreement.{Running}
 use Rattle.transitions.proofs.Updates.{task-cases}
-use Rattle.invariant.specs.Weights.{instructionWeight, channelCount, channelsWeight, taskLetters, tasksWeight, weightOf}
+use Rattle.invariant.specs.Weights.{instructionWeight, channelCount, channelsWeight, taskMessages, tasksWeight, weightOf}
 use Rattle.invariant.proofs.Work.{sum-change, work-same, work-one, place-other}
 
 module _ (m : Programs) where
   -- its parts
   pub split : (h : Histories) (x : Reading)
-      → weightOf m h x ≡ instructionWeight * unexecuted m (x .tasks) + (channelsWeight m h x + tasksWeight m (x .letters))
+      → weightOf m h x ≡ instructionWeight * unexecuted m (x .tasks) + (channelsWeight m h x + tasksWeight m (x .messages))
   unfolding weightOf
   split h x = refl
 
@@ -41,7 +41,7 @@ module _ (m : Programs) where
   unfolding viewOf
   viewed h x c = refl
 
-  pub seen : (h : Histories) (x : Reading) (c : ChannelId) → viewOf m h x c .letters ≡ lettersOn c (x .letters)
+  pub seen : (h : Histories) (x : Reading) (c : ChannelId) → viewOf m h x c .messages ≡ messagesOn c (x .messages)
   unfolding viewOf
   seen h x c = refl
 
@@ -51,34 +51,34 @@ module _ (m : Programs) where
     pub weight : weightOf m h' y < weightOf m h x
 
   -- a step about one channel
-  module _ {h : Histories} {x y : Reading} {e : Event} {got : Received} (act : ChannelAct m h x y e got) where
+  module _ {h : Histories} {x y : Reading} {e : Event} {got : Received} (transition : ChannelTransition m h x y e got) where
     abbrev c : ChannelId
-    c = act .channel
+    c = transition .channel
 
     spot : channelId (suc (c .0 - 1)) ≡ c
-    spot = ap channelId (let q : suc (c .0 - 1) ≡ c .0 = let l = act .low in omega arith in q)
+    spot = ap channelId (let q : suc (c .0 - 1) ≡ c .0 = let l = transition .low in omega arith in q)
 
-    same-tasks : tasksWeight m (y .letters) ≡ tasksWeight m (x .letters)
+    same-tasks : tasksWeight m (y .messages) ≡ tasksWeight m (x .messages)
     same-tasks =
-        fold-same _+_ 0 (length m) (λ k. taskLetters (y .letters) (taskId (suc k))) (λ k. taskLetters (x .letters) (taskId (suc k)))
-        (λ k l. rw (act .ended (taskId (suc k)), act .movers (taskId (suc k))) refl)
+        fold-same _+_ 0 (length m) (λ k. taskMessages (y .messages) (taskId (suc k))) (λ k. taskMessages (x .messages) (taskId (suc k)))
+        (λ k l. rw (transition .ended (taskId (suc k)), transition .movers (taskId (suc k))) refl)
 
     only-here : channelsWeight m h y + measure (viewOf m h x c) ≡ channelsWeight m h x + measure (after e (viewOf m h x c))
     only-here =
-        let l = act .low in
-        let u = act .high in
+        let l = transition .low in
+        let u = transition .high in
         let q =
         sum-change channelCount (λ k. measure (viewOf m h y (channelId (suc k)))) (λ k. measure (viewOf m h x (channelId (suc k)))) (c .0 - 1) (omega arith)
-        (λ k b ne. ap measure (act .others (channelId (suc k)) (omega arith) (omega arith) (omega arith))) in
+        (λ k b ne. ap measure (transition .others (channelId (suc k)) (omega arith) (omega arith) (omega arith))) in
         let a = ap (λ d. measure (viewOf m h x d)) spot in
-        let b = ap (λ d. measure (viewOf m h y d)) spot ∙ ap measure (act .view) in
+        let b = ap (λ d. measure (viewOf m h y d)) spot ∙ ap measure (transition .view) in
         omega (arith, q, a, b)
 
     other-places : (t : TaskId) → t .0 ≢ senderOf m c .0 → t .0 ≢ receiverOf m c .0 → y .tasks t .pc ≡ x .tasks t .pc
     other-places t ns nr =
-        let first = atTask (x .tasks) (senderOf m c) (act .sender) in
-        place-other first (y .tasks) (receiverOf m c) (act .receiver) (act .tasks) t nr
-        ∙ place-other (x .tasks) first (senderOf m c) (act .sender) refl t ns
+        let first = atTask (x .tasks) (senderOf m c) (transition .sender) in
+        place-other first (y .tasks) (receiverOf m c) (transition .receiver) (transition .tasks) t nr
+        ∙ place-other (x .tasks) first (senderOf m c) (transition .sender) refl t ns
 
     -- the others, when one end stays
     rest-of : (s u : TaskId) → ((t : TaskId) → t .0 ≢ s .0 → t .0 ≢ u .0 → y .tasks t .pc ≡ x .tasks t .pc) → y .tasks u .pc ≡ x .tasks u .pc
@@ -101,19 +101,19 @@ module _ (m : Programs) where
         (task-cases (λ t. y .tasks t .pc ≡ x .tasks t .pc) (senderOf m c) a (rest-of (senderOf m c) (receiverOf m c) other-places b))
 
   module _ {h : Histories} {s : Net} {x : Reading} {w : ChannelId → List Word} (run : Running m h s x w) where
-    pub transfer-less : {y : Reading} {got : Received} (e : Transfer) → ChannelAct m h x y (transfer e) got → Less h h x y 1
+    pub transfer-less : {y : Reading} {got : Received} (e : Transfer) → ChannelTransition m h x y (transfer e) got → Less h h x y 1
     unfolding guard after
-    transfer-less {y} e act =
-        let v = viewOf m h x (act .channel) in
-        let work = transfer-work act (act .ran) in
-        let adds = transfer-adds e v (run .views (act .channel) (act .low) (act .high)) (act .allowed) in
-        let few : v .processors ≤ 6 = rw (viewed h x (act .channel)) (run .few) in
-        record { work = omega (arith, work); weight = omega (arith, split h x, split h y, work, adds, few, only-here act, same-tasks act) }
+    transfer-less {y} e transition =
+        let v = viewOf m h x (transition .channel) in
+        let work = transfer-work transition (transition .ran) in
+        let adds = transfer-adds e v (run .views (transition .channel) (transition .low) (transition .high)) (transition .allowed) in
+        let few : v .processors ≤ 6 = rw (viewed h x (transition .channel)) (run .few) in
+        record { work = omega (arith, work); weight = omega (arith, split h x, split h y, work, adds, few, only-here transition, same-tasks transition) }
 
-    pub delivery-less : {y : Reading} {got : Received} (p : ℕ) (a : Delivery) → ChannelAct m h x y (delivery p a) got → Less h h x y 0
+    pub delivery-less : {y : Reading} {got : Received} (p : ℕ) (a : Delivery) → ChannelTransition m h x y (delivery p a) got → Less h h x y 0
     unfolding guard after
-    delivery-less {y} p a act =
-        let v = viewOf m h x (act .channel) in
-        let work = delivery-work act (act .ran) in
-        let falls = delivery-falls p a v (run .views (act .channel) (act .low) (act .high)) (act .allowed) in
-        record { work = omega (arith, work); weight = omega (arith, split h x, split h y, work, falls, only-here act, same-tasks act) }
+    delivery-less {y} p a transition =
+        let v = viewOf m h x (transition .channel) in
+        let work = delivery-work transition (transition .ran) in
+        let falls = delivery-falls p a v (run .views (transition .channel) (transition .low) (transition .high)) (transition .allowed) in
+        record { work = omega (arith, work); weight = omega (arith, split h x, split h y, work, falls, only-here transition, same-tasks transition) }

@@ -21,9 +21,9 @@ use Rattle.rules.specs.Tasks.{isIn}
 use Rattle.rules.specs.Places.{lastIn, isOn}
 use Rattle.net.specs.States.{Net}
 use Rattle.channel.specs.Bags.{one}
-use Rattle.channel.specs.Letters.{word}
+use Rattle.channel.specs.Messages.{word}
 use Rattle.transitions.specs.Progress.{isBlocked, programOf, completedBy}
-use Rattle.transitions.specs.Letters.{wordsIn, lettersOn, flat}
+use Rattle.transitions.specs.Messages.{wordsIn, messagesOn, flat}
 use Rattle.transitions.specs.Agreement.{comingTo, wordWith, Agrees}
 use Rattle.transitions.proofs.Tasks.{not-waiting, not-receiving, receives, on-in, on-operand}
 
@@ -33,13 +33,13 @@ module _ (g : Program) (x : Task) where
   unfolding comingTo
   coming-none ms e = rw e refl
 
-  pub coming-on : (c : ChannelId) (ms : List Message) → isOn Receiving g c x ≡ true → comingTo g ms x ≡ wordsIn (lettersOn c ms)
+  pub coming-on : (c : ChannelId) (ms : List Message) → isOn Receiving g c x ≡ true → comingTo g ms x ≡ wordsIn (messagesOn c ms)
   unfolding comingTo
   coming-on c ms e = rw (on-in receives g c x e, on-operand receives g c x e) refl
 
   -- the words of its channel stay, and so those that come
   pub coming-alike : (ms ns : List Message)
-      → ((c : ChannelId) → isOn Receiving g c x ≡ true → wordsIn (lettersOn c ns) ≡ wordsIn (lettersOn c ms)) → comingTo g ns x ≡ comingTo g ms x
+      → ((c : ChannelId) → isOn Receiving g c x ≡ true → wordsIn (messagesOn c ns) ≡ wordsIn (messagesOn c ms)) → comingTo g ns x ≡ comingTo g ms x
   unfolding comingTo isOn
   coming-alike ms ns same =
       let c = channelId (lastIn g x .operand) in

@@ -12,9 +12,9 @@ use Rattle.net.specs.States.{atTask}
 use Rattle.channel.specs.Events.{Event}
 use Rattle.transitions.specs.Readings.{Reading}
 use Rattle.transitions.specs.Views.{Histories}
-use Rattle.transitions.specs.Acts.{ChannelAct, Finishing, alone, near, away, MoveAct, RunAct, transfers, owns, creates, finishes, DeliverAct, delivers, ends, arrives, finished}
+use Rattle.transitions.specs.Transitions.{ChannelTransition, Finishing, alone, near, away, MoveTransition, RunTransition, transfers, owns, creates, finishes, DeliverTransition, delivers, ends, arrives, finished}
 use Rattle.transitions.proofs.Tasks.{sends, receives}
-use Rattle.transitions.proofs.Turns.{turn-steady}
+use Rattle.transitions.proofs.EndSteps.{end-step-steady}
 use Rattle.transitions.proofs.Updates.{at-elim}
 use Rattle.invariant.proofs.FamilyParts.{own-steady, lost-place}
 
@@ -49,38 +49,38 @@ module _ (m : Programs) {x y : Reading} where
 
 module _ (m : Programs) {h : Histories} {x : Reading} where
   -- a step about a channel changes no count
-  channel-counts : {y : Reading} {e : Event} {got : Received} → ChannelAct m h x y e got → CountsRise (x .tasks) (y .tasks) 0
-  channel-counts act =
-      let c = act .channel in
-      let i = turn-steady sends (act .sender-turn) .moves in
-      let j = turn-steady receives (act .receiver-turn) .moves in
-      rw (act .tasks)
-      (two-counts (x .tasks) 0 (senderOf m c) (receiverOf m c) (act .sender) (act .receiver) (λ k low l. omega (arith, i)) (λ k low l. omega (arith, j)))
+  channel-counts : {y : Reading} {e : Event} {got : Received} → ChannelTransition m h x y e got → CountsRise (x .tasks) (y .tasks) 0
+  channel-counts transition =
+      let c = transition .channel in
+      let i = end-step-steady sends (transition .sender-end-step) .moves in
+      let j = end-step-steady receives (transition .receiver-end-step) .moves in
+      rw (transition .tasks)
+      (two-counts (x .tasks) 0 (senderOf m c) (receiverOf m c) (transition .sender) (transition .receiver) (λ k low l. omega (arith, i)) (λ k low l. omega (arith, j)))
 
-  pub counts-run : {h' : Histories} {y : Reading} {got : Received} → RunAct m h x h' y got → CountsRise (x .tasks) (y .tasks) 0
-  counts-run (transfers e act) = channel-counts act
-  counts-run (owns act) =
-      let i = own-steady (act .runs .ready) (act .own) .moves in
-      rw (act .tasks) (one-count (x .tasks) 0 (act .task) (act .then) (λ k low l. omega (arith, i)))
-  counts-run (creates act) =
-      let t = act .task in
-      rw (act .tasks)
-      (two-counts (x .tasks) 0 t (act .child) (createRule (x .tasks t) (act .child)) (born (x .tasks t .processor)) (λ k low l. omega arith)
+  pub counts-run : {h' : Histories} {y : Reading} {got : Received} → RunTransition m h x h' y got → CountsRise (x .tasks) (y .tasks) 0
+  counts-run (transfers e transition) = channel-counts transition
+  counts-run (owns transition) =
+      let i = own-steady (transition .runs .ready) (transition .own) .moves in
+      rw (transition .tasks) (one-count (x .tasks) 0 (transition .task) (transition .then) (λ k low l. omega (arith, i)))
+  counts-run (creates transition) =
+      let t = transition .task in
+      rw (transition .tasks)
+      (two-counts (x .tasks) 0 t (transition .child) (createRule (x .tasks t) (transition .child)) (born (x .tasks t .processor)) (λ k low l. omega arith)
       (λ k low l. omega arith))
-  counts-run (finishes act) = finish-counts m (act .task) (act .finishing)
+  counts-run (finishes transition) = finish-counts m (transition .task) (transition .finishing)
 
-  pub counts-deliver : {y : Reading} {got : Received} → DeliverAct m h x y got → CountsRise (x .tasks) (y .tasks) 0
-  counts-deliver (delivers p a act) = channel-counts act
-  counts-deliver (ends act) =
-      let p = parentOf m (act .task) in
-      let i = lost-place (x .tasks p) (act .task) .moves in
-      rw (act .tasks) (one-count (x .tasks) 0 p (withoutChild (x .tasks p) (act .task)) (λ k low l. omega (arith, i)))
-  counts-deliver (arrives act) =
-      let t = act .task in
-      rw (act .tasks) (one-count (x .tasks) 0 t (arrived (x .tasks t) (act .at)) (λ k low l. omega arith))
+  pub counts-deliver : {y : Reading} {got : Received} → DeliverTransition m h x y got → CountsRise (x .tasks) (y .tasks) 0
+  counts-deliver (delivers p a transition) = channel-counts transition
+  counts-deliver (ends transition) =
+      let p = parentOf m (transition .task) in
+      let i = lost-place (x .tasks p) (transition .task) .moves in
+      rw (transition .tasks) (one-count (x .tasks) 0 p (withoutChild (x .tasks p) (transition .task)) (λ k low l. omega (arith, i)))
+  counts-deliver (arrives transition) =
+      let t = transition .task in
+      rw (transition .tasks) (one-count (x .tasks) 0 t (arrived (x .tasks t) (transition .at)) (λ k low l. omega arith))
 
   -- a move
-  pub counts-move : {h' : Histories} {y : Reading} → MoveAct m h h' x y → CountsRise (x .tasks) (y .tasks) 1
-  counts-move act =
-      let t = act .task in
-      rw (act .tasks) (one-count (x .tasks) 1 t (departed (x .tasks t)) (λ k low l. omega arith))
+  pub counts-move : {h' : Histories} {y : Reading} → MoveTransition m h h' x y → CountsRise (x .tasks) (y .tasks) 1
+  counts-move transition =
+      let t = transition .task in
+      rw (transition .tasks) (one-count (x .tasks) 1 t (departed (x .tasks t)) (λ k low l. omega arith))

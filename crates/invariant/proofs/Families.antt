@@ -28,9 +28,9 @@ use Rattle.net.specs.States.{Net}
 use Rattle.net.proofs.Children.{child-within}
 use Rattle.transitions.specs.Readings.{Reading}
 use Rattle.transitions.specs.Progress.{programOf}
-use Rattle.transitions.specs.Letters.{flat}
+use Rattle.transitions.specs.Messages.{flat}
 use Rattle.transitions.specs.Views.{Histories}
-use Rattle.transitions.specs.Acts.{RunAct, transfers, owns, creates, finishes, DeliverAct, delivers, ends, arrives, MoveAct}
+use Rattle.transitions.specs.Transitions.{RunTransition, transfers, owns, creates, finishes, DeliverTransition, delivers, ends, arrives, MoveTransition}
 use Rattle.transitions.specs.Agreement.{Running}
 use Rattle.invariant.proofs.FamilyParts.{AllPlaced, Kindred, Families}
 use Rattle.invariant.proofs.PlacesKept.{places-channel, places-own, places-finish, places-ended, places-create, places-arrival, places-move}
@@ -44,11 +44,11 @@ pub record Living (m : Programs) (x : Reading) (p : TaskId) : Type 0 where
   pub parent : parentOf m child ≡ p
   pub living : member (child .0) (x .tasks p .children) ≡ true
   pub born : isIn Unborn (x .tasks child) ≡ false
-  pub not-done : x .letters ≡ [] → isIn Done (x .tasks child) ≡ false
+  pub not-done : x .messages ≡ [] → isIn Done (x .tasks child) ≡ false
 
 module _ {m : Programs} {h : Histories} {s : Net} {x : Reading} {w : ChannelId → List Word} (r : Running m h s x w) where
   -- nobody is moving where there is no letter
-  pub no-moving : x .letters ≡ [] → (t : TaskId) → within 1 (length m) (t .0) ≡ true → isIn Moving (x .tasks t) ≡ false
+  pub no-moving : x .messages ≡ [] → (t : TaskId) → within 1 (length m) (t .0) ≡ true → isIn Moving (x .tasks t) ≡ false
   unfolding flat
   no-moving e t i = is-false (isIn Moving (x .tasks t)) (λ q. let l = rw (e, q) at (r .places t i .one-mover) in omega arith)
 
@@ -91,16 +91,16 @@ module _ (m : Programs) (a : planAnswer m ≡ Accepted) {h : Histories} {s : Net
   both p k = record { places = p; children = k .children; kin = k .kin }
 
   -- by each act
-  pub families-run : {h' : Histories} {y : Reading} {got : Received} → RunAct m h x h' y got → Families m h' y
-  families-run (transfers e act) = both (places-channel r act) (kindred-channel m a r act)
-  families-run (owns act) = both (places-own r act) (kindred-own m a r act)
-  families-run (creates act) = both (places-create r act) (kindred-create m a r act)
-  families-run (finishes act) = both (places-finish r act) (kindred-finish m a r act)
+  pub families-run : {h' : Histories} {y : Reading} {got : Received} → RunTransition m h x h' y got → Families m h' y
+  families-run (transfers e transition) = both (places-channel r transition) (kindred-channel m a r transition)
+  families-run (owns transition) = both (places-own r transition) (kindred-own m a r transition)
+  families-run (creates transition) = both (places-create r transition) (kindred-create m a r transition)
+  families-run (finishes transition) = both (places-finish r transition) (kindred-finish m a r transition)
 
-  pub families-deliver : {y : Reading} {got : Received} → DeliverAct m h x y got → Families m h y
-  families-deliver (delivers p e act) = both (places-channel r act) (kindred-channel m a r act)
-  families-deliver (ends act) = both (places-ended r act) (kindred-ended m a r act)
-  families-deliver (arrives act) = both (places-arrival r act) (kindred-arrival m a r act)
+  pub families-deliver : {y : Reading} {got : Received} → DeliverTransition m h x y got → Families m h y
+  families-deliver (delivers p e transition) = both (places-channel r transition) (kindred-channel m a r transition)
+  families-deliver (ends transition) = both (places-ended r transition) (kindred-ended m a r transition)
+  families-deliver (arrives transition) = both (places-arrival r transition) (kindred-arrival m a r transition)
 
-  pub families-move : {h' : Histories} {y : Reading} → MoveAct m h h' x y → Families m h' y
-  families-move act = both (places-move r act) (kindred-move m a r act)
+  pub families-move : {h' : Histories} {y : Reading} → MoveTransition m h h' x y → Families m h' y
+  families-move transition = both (places-move r transition) (kindred-move m a r transition)

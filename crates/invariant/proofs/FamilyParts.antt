@@ -26,9 +26,9 @@ use Rattle.net.specs.States.{atTask}
 use Rattle.channel.specs.Bags.{In, one, without}
 use Rattle.channel.proofs.Bags.{in-post, in-without, length-without}
 use Rattle.transitions.specs.Readings.{Reading}
-use Rattle.transitions.specs.Letters.{endedOf, moversOf}
+use Rattle.transitions.specs.Messages.{endedOf, moversOf}
 use Rattle.transitions.specs.Views.{Histories}
-use Rattle.transitions.specs.Acts.{Own, goes-on, waits, finished}
+use Rattle.transitions.specs.Transitions.{Own, goes-on, waits, finished}
 use Rattle.transitions.specs.Family.{Placed, Child, Kin}
 use Rattle.transitions.proofs.Updates.{at-elim}
 use Rattle.transitions.proofs.Flats.{none-of}
@@ -36,10 +36,10 @@ use Rattle.transitions.proofs.Tasks.{state-is, Steady, unchanged, steady-change
 
 -- every task is in its place, and every child belongs to its parent
 abbrev pub AllPlaced : Programs → Histories → Reading → Type 0
-AllPlaced m h x = (t : TaskId) → within 1 (length m) (t .0) ≡ true → Placed (x .processors) (h t) (x .tasks t) (moversOf t (x .letters))
+AllPlaced m h x = (t : TaskId) → within 1 (length m) (t .0) ≡ true → Placed (x .processors) (h t) (x .tasks t) (moversOf t (x .messages))
 
 abbrev pub AllChildren : Programs → Reading → Type 0
-AllChildren m x = (u : TaskId) → within 2 (length m) (u .0) ≡ true → Child u (x .tasks (parentOf m u)) (x .tasks u) (endedOf u (x .letters))
+AllChildren m x = (u : TaskId) → within 2 (length m) (u .0) ≡ true → Child u (x .tasks (parentOf m u)) (x .tasks u) (endedOf u (x .messages))
 
 pub record Kindred (m : Programs) (x : Reading) : Type 0 where
   pub children : AllChildren m x

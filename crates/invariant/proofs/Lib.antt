@@ -1,7 +1,7 @@
 -- What holds of every rig that a run from the start reaches.
 -- the measure falls
 pub mod Work
-pub mod TaskLetters
+pub mod TaskMessages
 pub mod ChannelFalls
 pub mod TaskFalls
 pub mod Falls

@@ -39,9 +39,9 @@ use Rattle.net.proofs.Stays.{born-kept, complete-stays, next-stays}
 use Rattle.net.proofs.Consistent.{label-consistent}
 use Rattle.transitions.specs.Readings.{Reading}
 use Rattle.transitions.specs.Progress.{programOf, completedBy}
-use Rattle.transitions.specs.Letters.{letterOn, lettersOn}
+use Rattle.transitions.specs.Messages.{messageOn, messagesOn}
 use Rattle.transitions.specs.Views.{Histories}
-use Rattle.transitions.specs.Acts.{finished, Finishing, alone, near, away, FinishAct, EndedAct}
+use Rattle.transitions.specs.Transitions.{finished, Finishing, alone, near, away, FinishTransition, EndedTransition}
 use Rattle.transitions.specs.Agreement.{comingTo, Agrees, PassedAlike, Running}
 use Rattle.transitions.proofs.Updates.{at-task, at-other, at-elim, task-cases}
 use Rattle.transitions.proofs.Flats.{flat-post-nothing, flat-without}
@@ -85,15 +85,15 @@ next-kept m s l t idle at =
 
 -- a task p loses a child, in the net s', which the run `before` has reached and in which the other tasks agree with the rig y
 module _ (m : Programs) (accepted : planAnswer m ≡ Accepted) {s s' : Net} {ls : List Label} (before : Run (net m) s ls s')
-    (consistent : Consistent m s') (y : Reading) (w : ChannelId → List Word) (passed : PassedAlike s' w (y .letters)) (kindred : AllChildren m y)
-    (p t : TaskId) (number : within 1 (length m) (p .0) ≡ true) (others : (u : TaskId) → u .0 ≢ p .0 → Agrees m s' (y .letters) u (y .tasks u)) where
-  all-agree : (z : Net) → Agrees m z (y .letters) p (y .tasks p) → ((u : TaskId) → u .0 ≢ p .0 → Agrees m z (y .letters) u (y .tasks u))
-      → (u : TaskId) → Agrees m z (y .letters) u (y .tasks u)
-  all-agree z one rest = task-cases (λ u. Agrees m z (y .letters) u (y .tasks u)) p one rest
+    (consistent : Consistent m s') (y : Reading) (w : ChannelId → List Word) (passed : PassedAlike s' w (y .messages)) (kindred : AllChildren m y)
+    (p t : TaskId) (number : within 1 (length m) (p .0) ≡ true) (others : (u : TaskId) → u .0 ≢ p .0 → Agrees m s' (y .messages) u (y .tasks u)) where
+  all-agree : (z : Net) → Agrees m z (y .messages) p (y .tasks p) → ((u : TaskId) → u .0 ≢ p .0 → Agrees m z (y .messages) u (y .tasks u))
+      → (u : TaskId) → Agrees m z (y .messages) u (y .tasks u)
+  all-agree z one rest = task-cases (λ u. Agrees m z (y .messages) u (y .tasks u)) p one rest
 
-  module _ (x : Task) (old : Agrees m s' (y .letters) p x) where
+  module _ (x : Task) (old : Agrees m s' (y .messages) p x) where
     -- it does not wait for this child alone
-    lost-agrees : (k : ℕ) → isIn Waiting x && eqb k 0 ≡ false → Agrees m s' (y .letters) p (withChildren x k)
+    lost-agrees : (k : ℕ) → isIn Waiting x && eqb k 0 ≡ false → Agrees m s' (y .messages) p (withChildren x k)
     unfolding comingTo completedBy lastIn
     lost-agrees k e =
         record {
@@ -110,10 +110,10 @@ module _ (m : Programs) (accepted : planAnswer m ≡ Accepted) {s s' : Net} {ls 
       sync-next : nextOf m s' p .opcode ≡ opSync
       sync-next = ap (λ (i : Instruction). i .opcode) (at .next) ∙ old .sync waiting
 
-      woken-agrees : (k : ℕ) → Agrees m (effect m s' (own p)) (y .letters) p (readied (withChildren x k))
+      woken-agrees : (k : ℕ) → Agrees m (effect m s' (own p)) (y .messages) p (readied (withChildren x k))
       woken-agrees k =
           let z = readied (withChildren x k) in
-          let none = coming-none (programOf m p) x (y .letters) (state-is Waiting Receiving x waiting) in
+          let none = coming-none (programOf m p) x (y .messages) (state-is Waiting Receiving x waiting) in
           let l = last-some (programOf m p) x (omega (arith, old .sync waiting)) in
           agrees-free (born-kept m s' (own p) p (agrees-born old (state-is Waiting Unborn x waiting))) refl refl refl
           (omega (arith, own-completed m s' p, agrees-completed old none, completed-blocked x (blocked-in x Waiting waiting), completed-free z refl))
@@ -150,85 +150,85 @@ module _ (m : Programs) (accepted : planAnswer m ≡ Accepted) {s s' : Net} {ls 
 
 module _ (m : Programs) (accepted : planAnswer m ≡ Accepted) (s : Net) (consistent : Consistent m s)
     {h : Histories} {x : Reading} {w : ChannelId → List Word} (run : Running m h s x w) where
-  module _ {y : Reading} (act : FinishAct m h x y) where
-    finish-kind : act .instruction .opcode ≡ opFinish
-    finish-kind = eqb-true (act .instruction .opcode) opFinish (act .finishes)
+  module _ {y : Reading} (transition : FinishTransition m h x y) where
+    finish-kind : transition .instruction .opcode ≡ opFinish
+    finish-kind = eqb-true (transition .instruction .opcode) opFinish (transition .finishes)
 
-    may-finish : enabled m s (own (act .task)) ≡ true
-    may-finish = runs-own m accepted s consistent run (act .task) (act .instruction) (act .runs) (rw finish-kind refl) (λ e. act .childless)
+    may-finish : enabled m s (own (transition .task)) ≡ true
+    may-finish = runs-own m accepted s consistent run (transition .task) (transition .instruction) (transition .runs) (rw finish-kind refl) (λ e. transition .childless)
 
-    bears-none : isCreate (nextOf m s (act .task)) ≡ false
-    bears-none = rw (runs-next m accepted s consistent run (act .task) (act .instruction) (act .runs) .next, finish-kind) refl
+    bears-none : isCreate (nextOf m s (transition .task)) ≡ false
+    bears-none = rw (runs-next m accepted s consistent run (transition .task) (transition .instruction) (transition .runs) .next, finish-kind) refl
 
-    finished-agrees : Agrees m (effect m s (own (act .task))) (y .letters) (act .task) (finished (x .tasks (act .task)))
+    finished-agrees : Agrees m (effect m s (own (transition .task))) (y .messages) (transition .task) (finished (x .tasks (transition .task)))
     unfolding nextIn
     finished-agrees =
-        let t = act .task in
-        let i = act .instruction in
-        let r = act .runs in
+        let t = transition .task in
+        let i = transition .instruction in
+        let r = transition .runs in
         let z = finished (x .tasks t) in
         let low = r .low in
         let high = r .high in
-        let last = finish-place m accepted t (x .tasks t .pc - 1) (r .number) (omega arith) (rw (r .next) (act .finishes)) in
-        agrees-quiet (ran-born m accepted s consistent run t i r) refl refl (λ e. omega arith) (coming-none (programOf m t) z (y .letters) refl)
+        let last = finish-place m accepted t (x .tasks t .pc - 1) (r .number) (omega arith) (rw (r .next) (transition .finishes)) in
+        agrees-quiet (ran-born m accepted s consistent run t i r) refl refl (λ e. omega arith) (coming-none (programOf m t) z (y .messages) refl)
         (omega (arith, ran-completed m accepted s consistent run t i r, completed-free z refl))
         (ran-word m accepted s consistent run t i r ∙ word-same i (x .tasks t .word) opFinish finish-kind refl refl)
 
-    near-follows : act .task .0 ≢ 1
-        → y .tasks ≡ atTask (atTask (x .tasks) (parentOf m (act .task)) (withoutChild (x .tasks (parentOf m (act .task))) (act .task))) (act .task)
-        (finished (x .tasks (act .task)))
-        → y .letters ≡ x .letters → Follows m s y w
+    near-follows : transition .task .0 ≢ 1
+        → y .tasks ≡ atTask (atTask (x .tasks) (parentOf m (transition .task)) (withoutChild (x .tasks (parentOf m (transition .task))) (transition .task))) (transition .task)
+        (finished (x .tasks (transition .task)))
+        → y .messages ≡ x .messages → Follows m s y w
     unfolding takesPart
     near-follows one e l =
-        let t = act .task in
+        let t = transition .task in
         let p = parentOf m t in
         let lost = withoutChild (x .tasks p) t in
-        let low = within-low 1 (length m) (t .0) (act .runs .number) in
-        let number = child-number (length m) (t .0) (act .runs .number) one in
+        let low = within-low 1 (length m) (t .0) (transition .runs .number) in
+        let number = child-number (length m) (t .0) (transition .runs .number) one in
         let other = parent-other m accepted t number in
-        let same : (c : ChannelId) → lettersOn c (y .letters) ≡ lettersOn c (x .letters) = λ c. rw l refl in
+        let same : (c : ChannelId) → messagesOn c (y .messages) ≡ messagesOn c (x .messages) = λ c. rw l refl in
         let s' = effect m s (own t) in
-        let stay : (u : TaskId) → u .0 ≢ t .0 → Agrees m s' (y .letters) u (x .tasks u) =
+        let stay : (u : TaskId) → u .0 ≢ t .0 → Agrees m s' (y .messages) u (x .tasks u) =
         λ u ne. own-other m s t ne (own-bears-none m s t bears-none u) (coming-same m accepted s consistent run y same u (x .tasks u))
         (run .agrees u) in
         loses-follows m accepted (take (own t) may-finish stop) (label-consistent m accepted s consistent (own t) may-finish) y w
-        (passed-same m accepted s consistent run y same s' (own-passed m s t)) (kindred-finish m accepted run act .children)
+        (passed-same m accepted s consistent run y same s' (own-passed m s t)) (kindred-finish m accepted run transition .children)
         p t (parent-number m accepted t number)
         (λ u ne.
         rw e
-        (at-elim (λ v z. v .0 ≢ p .0 → Agrees m s' (y .letters) v z) (atTask (x .tasks) p lost) t (finished (x .tasks t)) (λ q. finished-agrees)
+        (at-elim (λ v z. v .0 ≢ p .0 → Agrees m s' (y .messages) v z) (atTask (x .tasks) p lost) t (finished (x .tasks t)) (λ q. finished-agrees)
         (λ v q r. rw (at-other (x .tasks) p v lost r) (stay v q)) u ne))
         (x .tasks p) (stay p other)
         (λ q. next-kept m s (own t) p (ne-eqb (p .0) (t .0) other) (waiting-next m accepted s consistent run p q))
         (rw e (at-other (atTask (x .tasks) p lost) t p (finished (x .tasks t)) other ∙ at-task (x .tasks) p lost))
 
-    finishing-follows : Finishing m x y (act .task) → Follows m s y w
-    unfolding letterOn
+    finishing-follows : Finishing m x y (transition .task) → Follows m s y w
+    unfolding messageOn
     finishing-follows (alone one e l) =
-        own-follows m accepted s consistent run y (λ c. rw l refl) (act .task)
-        (finished (x .tasks (act .task))) may-finish bears-none e finished-agrees
+        own-follows m accepted s consistent run y (λ c. rw l refl) (transition .task)
+        (finished (x .tasks (transition .task))) may-finish bears-none e finished-agrees
     finishing-follows (away one far e l) =
-        let t = act .task in
+        let t = transition .task in
         own-follows m accepted s consistent run y
-        (λ c. rw l (flat-post-nothing (letterOn c) (x .letters) (Terminated (x .tasks t .home) t) refl)) t
+        (λ c. rw l (flat-post-nothing (messageOn c) (x .messages) (Terminated (x .tasks t .home) t) refl)) t
         (finished (x .tasks t)) may-finish bears-none e finished-agrees
     finishing-follows (near one here e l) = near-follows one e l
 
-  pub finish-follows : {y : Reading} → FinishAct m h x y → Follows m s y w
-  finish-follows act = finishing-follows act (act .finishing)
+  pub finish-follows : {y : Reading} → FinishTransition m h x y → Follows m s y w
+  finish-follows transition = finishing-follows transition (transition .finishing)
 
-  pub ended-follows : {y : Reading} → EndedAct m h x y → Follows m s y w
-  unfolding letterOn
-  ended-follows {y} act =
-      let t = act .task in
+  pub ended-follows : {y : Reading} → EndedTransition m h x y → Follows m s y w
+  unfolding messageOn
+  ended-follows {y} transition =
+      let t = transition .task in
       let p = parentOf m t in
-      let same : (c : ChannelId) → lettersOn c (y .letters) ≡ lettersOn c (x .letters) =
-      λ c. rw (act .letters) (flat-without (letterOn c) (x .letters) (act .p) (act .letter) refl) in
-      let stay : (u : TaskId) → Agrees m s (y .letters) u (x .tasks u) =
+      let same : (c : ChannelId) → messagesOn c (y .messages) ≡ messagesOn c (x .messages) =
+      λ c. rw (transition .messages) (flat-without (messageOn c) (x .messages) (transition .p) (transition .message) refl) in
+      let stay : (u : TaskId) → Agrees m s (y .messages) u (x .tasks u) =
       λ u. alike-agrees (run .agrees u) refl refl refl (coming-same m accepted s consistent run y same u (x .tasks u)) in
       loses-follows m accepted stop consistent y w (passed-same m accepted s consistent run y same s refl)
-      (kindred-ended m accepted run act .children)
-      p t (parent-number m accepted t (act .number))
-      (λ u ne. rw (act .tasks, at-other (x .tasks) p u (withoutChild (x .tasks p) t) ne) (stay u))
+      (kindred-ended m accepted run transition .children)
+      p t (parent-number m accepted t (transition .number))
+      (λ u ne. rw (transition .tasks, at-other (x .tasks) p u (withoutChild (x .tasks p) t) ne) (stay u))
       (x .tasks p) (stay p) (waiting-next m accepted s consistent run p)
-      (rw (act .tasks) (at-task (x .tasks) p (withoutChild (x .tasks p) t)))
+      (rw (transition .tasks) (at-task (x .tasks) p (withoutChild (x .tasks p) t)))

@@ -39,7 +39,7 @@ use Rattle.net.proofs.NextInstruction.{program-some, next-is}
 use Rattle.transitions.specs.Readings.{Reading}
 use Rattle.transitions.specs.Progress.{isBlocked, programOf}
 use Rattle.transitions.specs.Views.{Histories}
-use Rattle.transitions.specs.Turns.{AtUse}
+use Rattle.transitions.specs.EndSteps.{AtUse}
 use Rattle.transitions.specs.Agreement.{comingTo, Agrees, PassedAlike, Running}
 use Rattle.transitions.proofs.Updates.{at-task}
 use Rattle.transitions.proofs.Tasks.{state-is, blocked-in, not-receiving, completed-free, completed-blocked, last-is, last-some, Side, receives, side-some}
@@ -51,8 +51,8 @@ pub record Follows (m : Programs) (s : Net) (y : Reading) (received : ChannelId 
   pub end : Net
   pub labels : List Label
   pub run : Run (net m) s labels end
-  pub agrees : (t : TaskId) → Agrees m end (y .letters) t (y .tasks t)
-  pub passed : PassedAlike end received (y .letters)
+  pub agrees : (t : TaskId) → Agrees m end (y .messages) t (y .tasks t)
+  pub passed : PassedAlike end received (y .messages)
 
 -- in the net, task t is at instruction i
 pub record AtNext (m : Programs) (s : Net) (t : TaskId) (i : Instruction) : Type 0 where
@@ -136,12 +136,12 @@ module _ (m : Programs) (accepted : planAnswer m ≡ Accepted) (s : Net) (consis
         let z = x .tasks t in
         let f = blocked-in z Ready r in
         let b = state-is Ready Unborn z r in
-        let k = agrees-completed (run .agrees t) (coming-none (programOf m t) z (x .letters) (not-receiving z f)) ∙ completed-free z f in
+        let k = agrees-completed (run .agrees t) (coming-none (programOf m t) z (x .messages) (not-receiving z f)) ∙ completed-free z f in
         at-completed t (z .pc - 1) (born-within b) (agrees-born (run .agrees t) b) k (omega arith)
 
     -- a blocked one, with nothing on its way, is at the one that it has executed last
     pub blocked-next : isBlocked (x .tasks t) ≡ true → isIn Unborn (x .tasks t) ≡ false → 1 ≤ lastIn (programOf m t) (x .tasks t) .opcode
-        → comingTo (programOf m t) (x .letters) (x .tasks t) ≡ [] → AtNext m s t (lastIn (programOf m t) (x .tasks t))
+        → comingTo (programOf m t) (x .messages) (x .tasks t) ≡ [] → AtNext m s t (lastIn (programOf m t) (x .tasks t))
     blocked-next f b ne e =
         let z = x .tasks t in
         let n = born-within b in
@@ -158,14 +158,14 @@ module _ (m : Programs) (accepted : planAnswer m ≡ Accepted) (s : Net) (consis
     last-kind side e =
         kind-of side (x .processors) (length m) (programOf m t) (x .tasks t) (run .tasks t (born-within (side-born side (x .tasks t) e))) e
 
-    pub side-next : {k : ℕ} {u : TaskState} → Side k u → isIn u (x .tasks t) ≡ true → comingTo (programOf m t) (x .letters) (x .tasks t) ≡ []
+    pub side-next : {k : ℕ} {u : TaskState} → Side k u → isIn u (x .tasks t) ≡ true → comingTo (programOf m t) (x .messages) (x .tasks t) ≡ []
         → AtNext m s t (lastIn (programOf m t) (x .tasks t))
     side-next side e none =
         let z = x .tasks t in
         blocked-next (side-blocked side z e) (side-born side z e) (omega (arith, last-kind side e, side-some side)) none
 
     pub stands-on : {k : ℕ} {u : TaskState} → Side k u → (c : ChannelId) → isOn u (programOf m t) c (x .tasks t) ≡ true
-        → comingTo (programOf m t) (x .letters) (x .tasks t) ≡ [] → standsAt m s t k c ≡ true
+        → comingTo (programOf m t) (x .messages) (x .tasks t) ≡ [] → standsAt m s t k c ≡ true
     stands-on {k} side c o none =
         let z = x .tasks t in
         let e = on-in side (programOf m t) c z o in
@@ -175,7 +175,7 @@ module _ (m : Programs) (accepted : planAnswer m ≡ Accepted) (s : Net) (consis
     pub waiting-next : isIn Waiting (x .tasks t) ≡ true → AtNext m s t (lastIn (programOf m t) (x .tasks t))
     waiting-next e =
         let z = x .tasks t in
-        let none = coming-none (programOf m t) z (x .letters) (state-is Waiting Receiving z e) in
+        let none = coming-none (programOf m t) z (x .messages) (state-is Waiting Receiving z e) in
         blocked-next (blocked-in z Waiting e) (state-is Waiting Unborn z e) (omega (arith, run .agrees t .sync e)) none
 
     -- who receives on a channel is its receiver

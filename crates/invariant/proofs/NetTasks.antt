@@ -36,9 +36,9 @@ use Rattle.net.proofs.Stays.{born-kept}
 use Rattle.net.proofs.Children.{complete-children, next-unborn, child-within}
 use Rattle.transitions.specs.Readings.{Reading}
 use Rattle.transitions.specs.Progress.{isBlocked, programOf}
-use Rattle.transitions.specs.Letters.{letterOn, wordsIn, lettersOn}
+use Rattle.transitions.specs.Messages.{messageOn, wordsIn, messagesOn}
 use Rattle.transitions.specs.Views.{Histories}
-use Rattle.transitions.specs.Acts.{Runs, Own, goes-on, waits, OwnAct, CreateAct, ArrivalAct, MoveAct}
+use Rattle.transitions.specs.Transitions.{Runs, Own, goes-on, waits, OwnTransition, CreateTransition, ArrivalTransition, MoveTransition}
 use Rattle.transitions.specs.Agreement.{comingTo, wordWith, Agrees, PassedAlike, Running}
 use Rattle.transitions.proofs.Updates.{at-elim}
 use Rattle.transitions.proofs.Flats.{flat-post-nothing, flat-without}
@@ -69,7 +69,7 @@ word-same i v k e p q = rw (e, p, q) refl
 
 -- a task with no children, in a net with which the other tasks agree
 pub childless-complete : (m : Programs) → planAnswer m ≡ Accepted → (s : Net) → Consistent m s → (y : Reading) → AllChildren m y
-    → (p : TaskId) → within 1 (length m) (p .0) ≡ true → ((u : TaskId) → u .0 ≢ p .0 → Agrees m s (y .letters) u (y .tasks u))
+    → (p : TaskId) → within 1 (length m) (p .0) ≡ true → ((u : TaskId) → u .0 ≢ p .0 → Agrees m s (y .messages) u (y .tasks u))
     → isChildless (y .tasks p) ≡ true → childrenComplete m s p ≡ true
 childless-complete m accepted s consistent y kindred p number others e =
     let low = within-low 1 (length m) (p .0) number in
@@ -82,15 +82,15 @@ childless-complete m accepted s consistent y kindred p number others e =
 module _ (m : Programs) (accepted : planAnswer m ≡ Accepted) (s : Net) (consistent : Consistent m s)
     {h : Histories} {x : Reading} {w : ChannelId → List Word} (run : Running m h s x w) where
   -- no word and no receiver has to do with it
-  module _ (y : Reading) (same : (c : ChannelId) → lettersOn c (y .letters) ≡ lettersOn c (x .letters)) where
-    pub coming-same : (u : TaskId) (z : Task) → comingTo (programOf m u) (y .letters) z ≡ comingTo (programOf m u) (x .letters) z
-    coming-same u z = coming-alike (programOf m u) z (x .letters) (y .letters) (λ c o. ap wordsIn (same c))
+  module _ (y : Reading) (same : (c : ChannelId) → messagesOn c (y .messages) ≡ messagesOn c (x .messages)) where
+    pub coming-same : (u : TaskId) (z : Task) → comingTo (programOf m u) (y .messages) z ≡ comingTo (programOf m u) (x .messages) z
+    coming-same u z = coming-alike (programOf m u) z (x .messages) (y .messages) (λ c o. ap wordsIn (same c))
 
-    pub passed-same : (s' : Net) → s' .passed ≡ s .passed → PassedAlike s' w (y .letters)
+    pub passed-same : (s' : Net) → s' .passed ≡ s .passed → PassedAlike s' w (y .messages)
     passed-same s' e d = rw (same d, e) (run .passed d)
 
     -- one task changes, and the net stays
-    pub still-follows : (t : TaskId) (z : Task) → y .tasks ≡ atTask (x .tasks) t z → Agrees m s (y .letters) t z → Follows m s y w
+    pub still-follows : (t : TaskId) (z : Task) → y .tasks ≡ atTask (x .tasks) t z → Agrees m s (y .messages) t z → Follows m s y w
     still-follows t z e new =
         record {
           end = s;
@@ -98,14 +98,14 @@ module _ (m : Programs) (accepted : planAnswer m ≡ Accepted) (s : Net) (consis
           run = stop;
           agrees =
               λ u. rw e
-              (at-elim (λ v a. Agrees m s (y .letters) v a) (x .tasks) t z new
+              (at-elim (λ v a. Agrees m s (y .messages) v a) (x .tasks) t z new
               (λ v ne. alike-agrees (run .agrees v) refl refl refl (coming-same v (x .tasks v))) u);
           passed = passed-same s refl;
         }
 
     -- one task changes by its own instruction
     pub own-follows : (t : TaskId) (z : Task) → enabled m s (own t) ≡ true → isCreate (nextOf m s t) ≡ false → y .tasks ≡ atTask (x .tasks) t z
-        → Agrees m (effect m s (own t)) (y .letters) t z → Follows m s y w
+        → Agrees m (effect m s (own t)) (y .messages) t z → Follows m s y w
     own-follows t z may none e new =
         record {
           end = effect m s (own t);
@@ -113,7 +113,7 @@ module _ (m : Programs) (accepted : planAnswer m ≡ Accepted) (s : Net) (consis
           run = take (own t) may stop;
           agrees = λ u.
               rw e
-              (at-elim (λ v a. Agrees m (effect m s (own t)) (y .letters) v a) (x .tasks) t z new
+              (at-elim (λ v a. Agrees m (effect m s (own t)) (y .messages) v a) (x .tasks) t z new
               (λ v ne. own-other m s t ne (own-bears-none m s t none v) (coming-same v (x .tasks v)) (run .agrees v))
               u);
           passed = passed-same (effect m s (own t)) (own-passed m s t);
@@ -124,8 +124,8 @@ module _ (m : Programs) (accepted : planAnswer m ≡ Accepted) (s : Net) (consis
     pub runs-next : AtNext m s t i
     runs-next = rw (runs .next) at (ready-next m accepted s consistent run t (runs .ready) (runs .low) (runs .high))
 
-    runs-quiet : comingTo (programOf m t) (x .letters) (x .tasks t) ≡ []
-    runs-quiet = coming-none (programOf m t) (x .tasks t) (x .letters) (state-is Ready Receiving (x .tasks t) (runs .ready))
+    runs-quiet : comingTo (programOf m t) (x .messages) (x .tasks t) ≡ []
+    runs-quiet = coming-none (programOf m t) (x .tasks t) (x .messages) (state-is Ready Receiving (x .tasks t) (runs .ready))
 
     runs-born : s .born t ≡ true
     runs-born = agrees-born (run .agrees t) (state-is Ready Unborn (x .tasks t) (runs .ready))
@@ -184,68 +184,68 @@ module _ (m : Programs) (accepted : planAnswer m ≡ Accepted) (s : Net) (consis
           done = λ e. absurd (tests-differ e refl);
         }
 
-    own-case : (y : Reading) → y .letters ≡ x .letters → isCreate i ≡ false → {z : Task} → Own i (x .tasks t) z → y .tasks ≡ atTask (x .tasks) t z
+    own-case : (y : Reading) → y .messages ≡ x .messages → isCreate i ≡ false → {z : Task} → Own i (x .tasks t) z → y .tasks ≡ atTask (x .tasks) t z
         → Follows m s y w
     own-case y l none (goes-on alone join) e =
         let z = advanced (withWord (x .tasks t) (wordAfter i (x .tasks t .word))) in
-        own-follows y (λ c. rw l refl) t z (runs-own alone join) (rw (runs-next .next) none) e (ran-agrees (y .letters) z (runs .ready) refl refl)
+        own-follows y (λ c. rw l refl) t z (runs-own alone join) (rw (runs-next .next) none) e (ran-agrees (y .messages) z (runs .ready) refl refl)
     own-case y l none (waits sync some) e =
-        still-follows y (λ c. rw l refl) t (advanced (withState (x .tasks t) Waiting)) e (waits-agrees (y .letters) sync some)
+        still-follows y (λ c. rw l refl) t (advanced (withState (x .tasks t) Waiting)) e (waits-agrees (y .messages) sync some)
 
   -- sync, set and add
-  pub own-act-follows : {y : Reading} → OwnAct m h x y → Follows m s y w
-  own-act-follows {y} act = own-case (act .task) (act .instruction) (act .runs) y (act .letters) (act .not-create) (act .own) (act .tasks)
+  pub own-transition-follows : {y : Reading} → OwnTransition m h x y → Follows m s y w
+  own-transition-follows {y} transition = own-case (transition .task) (transition .instruction) (transition .runs) y (transition .messages) (transition .not-create) (transition .own) (transition .tasks)
 
   -- create
-  module _ {h' : Histories} {y : Reading} (act : CreateAct m h h' x y) where
-    create-kind : act .instruction .opcode ≡ opCreate
-    create-kind = eqb-true (act .instruction .opcode) opCreate (and-left (eqb (act .instruction .opcode) opCreate) _ (act .creates))
+  module _ {h' : Histories} {y : Reading} (transition : CreateTransition m h h' x y) where
+    create-kind : transition .instruction .opcode ≡ opCreate
+    create-kind = eqb-true (transition .instruction .opcode) opCreate (and-left (eqb (transition .instruction .opcode) opCreate) _ (transition .creates))
 
-    create-next : nextOf m s (act .task) ≡ act .instruction
-    create-next = runs-next (act .task) (act .instruction) (act .runs) .next
+    create-next : nextOf m s (transition .task) ≡ transition .instruction
+    create-next = runs-next (transition .task) (transition .instruction) (transition .runs) .next
 
-    child-other : act .child .0 ≢ act .task .0
-    child-other = unborn-apart (x .tasks) (act .task) (act .child) (act .runs .ready) (act .unborn)
+    child-other : transition .child .0 ≢ transition .task .0
+    child-other = unborn-apart (x .tasks) (transition .task) (transition .child) (transition .runs .ready) (transition .unborn)
 
-    child-unborn : s .born (act .child) ≡ false
-    child-unborn = run .agrees (act .child) .born ∙ rw (act .unborn) refl
+    child-unborn : s .born (transition .child) ≡ false
+    child-unborn = run .agrees (transition .child) .born ∙ rw (transition .unborn) refl
 
     -- who is born by it
-    created-born : (v : TaskId) → effect m s (own (act .task)) .born v ≡ s .born v || isUse opCreate (v .0) (act .instruction)
-    created-born v = own-born m s (act .task) v ∙ rw create-next refl
+    created-born : (v : TaskId) → effect m s (own (transition .task)) .born v ≡ s .born v || isUse opCreate (v .0) (transition .instruction)
+    created-born v = own-born m s (transition .task) v ∙ rw create-next refl
 
-    other-born : (v : TaskId) → v .0 ≢ act .child .0 → effect m s (own (act .task)) .born v ≡ s .born v
+    other-born : (v : TaskId) → v .0 ≢ transition .child .0 → effect m s (own (transition .task)) .born v ≡ s .born v
     other-born v ne =
-        let i = act .instruction in
-        let operand = eqb-true (i .operand) (act .child .0) (and-right (eqb (i .opcode) opCreate) _ (act .creates)) in
+        let i = transition .instruction in
+        let operand = eqb-true (i .operand) (transition .child .0) (and-right (eqb (i .opcode) opCreate) _ (transition .creates)) in
         let not-this : isUse opCreate (v .0) i ≡ false =
-        rw (operand, ne-eqb (act .child .0) (v .0) (λ e. ne (sym e))) (and-false (eqb (i .opcode) opCreate)) in
+        rw (operand, ne-eqb (transition .child .0) (v .0) (λ e. ne (sym e))) (and-false (eqb (i .opcode) opCreate)) in
         created-born v ∙ rw not-this (or-false (s .born v))
 
-    child-agrees : Agrees m (effect m s (own (act .task))) (y .letters) (act .child) (born (x .tasks (act .task) .processor))
+    child-agrees : Agrees m (effect m s (own (transition .task))) (y .messages) (transition .child) (born (x .tasks (transition .task) .processor))
     child-agrees =
-        let u = act .child in
-        let b : effect m s (own (act .task)) .born u ≡ true = created-born u ∙ rw (act .creates) (or-true (s .born u)) in
-        let (k, v) = own-apart m s (act .task) u child-other in
-        agrees-free b refl refl refl (k ∙ consistent .idle u child-unborn ∙ sym (completed-free (born (x .tasks (act .task) .processor)) refl))
+        let u = transition .child in
+        let b : effect m s (own (transition .task)) .born u ≡ true = created-born u ∙ rw (transition .creates) (or-true (s .born u)) in
+        let (k, v) = own-apart m s (transition .task) u child-other in
+        agrees-free b refl refl refl (k ∙ consistent .idle u child-unborn ∙ sym (completed-free (born (x .tasks (transition .task) .processor)) refl))
         (v ∙ consistent .wordless u child-unborn)
 
     pub create-follows : Follows m s y w
     create-follows =
-        let t = act .task in
-        let i = act .instruction in
-        let same : (c : ChannelId) → lettersOn c (y .letters) ≡ lettersOn c (x .letters) = λ c. rw (act .letters) refl in
+        let t = transition .task in
+        let i = transition .instruction in
+        let same : (c : ChannelId) → messagesOn c (y .messages) ≡ messagesOn c (x .messages) = λ c. rw (transition .messages) refl in
         let s' = effect m s (own t) in
         record {
           end = s';
           labels = own t ∷ [];
-          run = take (own t) (runs-own t i (act .runs) (rw create-kind refl) (λ e. absurd (tests-differ e (rw create-kind refl)))) stop;
+          run = take (own t) (runs-own t i (transition .runs) (rw create-kind refl) (λ e. absurd (tests-differ e (rw create-kind refl)))) stop;
           agrees = λ u.
-              rw (act .tasks)
-              (at-elim (λ v z. Agrees m s' (y .letters) v z) (atTask (x .tasks) t (createRule (x .tasks t) (act .child))) (act .child) _ child-agrees
+              rw (transition .tasks)
+              (at-elim (λ v z. Agrees m s' (y .messages) v z) (atTask (x .tasks) t (createRule (x .tasks t) (transition .child))) (transition .child) _ child-agrees
               (λ v ne.
-              at-elim (λ v z. v .0 ≢ act .child .0 → Agrees m s' (y .letters) v z) (x .tasks) t (createRule (x .tasks t) (act .child))
-              (λ q. ran-agrees t i (act .runs) (y .letters) (createRule (x .tasks t) (act .child)) (act .runs .ready) refl
+              at-elim (λ v z. v .0 ≢ transition .child .0 → Agrees m s' (y .messages) v z) (x .tasks) t (createRule (x .tasks t) (transition .child))
+              (λ q. ran-agrees t i (transition .runs) (y .messages) (createRule (x .tasks t) (transition .child)) (transition .runs .ready) refl
               (sym (word-same i _ opCreate create-kind refl refl)))
               (λ v q r. own-other m s t q (other-born v r) (coming-same y same v (x .tasks v)) (run .agrees v)) v ne)
               u);
@@ -257,24 +257,24 @@ module _ (m : Programs) (accepted : planAnswer m ≡ Accepted) (s : Net) (consis
       → isIn Unborn z ≡ false → isBlocked z ≡ false → isIn Done z ≡ false → z .pc ≡ x .tasks t .pc → z .word ≡ x .tasks t .word → Agrees m s ns t z
   free-agrees t ns z b f zb zf zd k v =
       let a = run .agrees t in
-      let none = coming-none (programOf m t) (x .tasks t) (x .letters) (not-receiving (x .tasks t) f) in
+      let none = coming-none (programOf m t) (x .tasks t) (x .messages) (not-receiving (x .tasks t) f) in
       agrees-free (agrees-born a b) zb zf zd (omega (arith, agrees-completed a none, completed-free (x .tasks t) f, completed-free z zf))
       (agrees-word a none ∙ sym v)
 
-  pub arrival-follows : {y : Reading} → ArrivalAct m h x y → Follows m s y w
-  unfolding letterOn
-  arrival-follows {y} act =
-      let t = act .task in
+  pub arrival-follows : {y : Reading} → ArrivalTransition m h x y → Follows m s y w
+  unfolding messageOn
+  arrival-follows {y} transition =
+      let t = transition .task in
       let z = x .tasks t in
-      still-follows y (λ c. rw (act .letters) (flat-without (letterOn c) (x .letters) (act .p) (act .letter) refl)) t (arrived z (act .at))
-      (act .tasks)
-      (free-agrees t (y .letters) (arrived z (act .at)) (state-is Moving Unborn z (act .moving))
-      (blocked-in z Moving (act .moving)) refl refl refl refl refl)
+      still-follows y (λ c. rw (transition .messages) (flat-without (messageOn c) (x .messages) (transition .p) (transition .message) refl)) t (arrived z (transition .at))
+      (transition .tasks)
+      (free-agrees t (y .messages) (arrived z (transition .at)) (state-is Moving Unborn z (transition .moving))
+      (blocked-in z Moving (transition .moving)) refl refl refl refl refl)
 
-  pub move-follows : {h' : Histories} {y : Reading} → MoveAct m h h' x y → Follows m s y w
-  unfolding letterOn
-  move-follows {y = y} act =
-      let t = act .task in
+  pub move-follows : {h' : Histories} {y : Reading} → MoveTransition m h h' x y → Follows m s y w
+  unfolding messageOn
+  move-follows {y = y} transition =
+      let t = transition .task in
       let z = x .tasks t in
-      still-follows y (λ c. rw (act .letters) (flat-post-nothing (letterOn c) (x .letters) (Migration (act .to) t) refl)) t (departed z) (act .tasks)
-      (free-agrees t (y .letters) (departed z) (state-is Ready Unborn z (act .ready)) (blocked-in z Ready (act .ready)) refl refl refl refl refl)
+      still-follows y (λ c. rw (transition .messages) (flat-post-nothing (messageOn c) (x .messages) (Migration (transition .to) t) refl)) t (departed z) (transition .tasks)
+      (free-agrees t (y .messages) (departed z) (state-is Ready Unborn z (transition .ready)) (blocked-in z Ready (transition .ready)) refl refl refl refl refl)

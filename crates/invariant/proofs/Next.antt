@@ -37,14 +37,14 @@ use Rattle.net.specs.Nets.{net, Reached}
 use Rattle.channel.specs.Invariant.{Invariant}
 use Rattle.transitions.specs.Readings.{reading}
 use Rattle.transitions.specs.Progress.{flag, unexecuted}
-use Rattle.transitions.specs.Letters.{endedOf}
+use Rattle.transitions.specs.Messages.{endedOf}
 use Rattle.transitions.specs.Views.{Histories, viewOf}
-use Rattle.transitions.specs.Acts.{RunAct, DeliverAct, MoveAct}
+use Rattle.transitions.specs.Transitions.{RunTransition, DeliverTransition, MoveTransition}
 use Rattle.transitions.specs.Agreement.{TasksOk, Running}
-use Rattle.transitions.proofs.Rigs.{plan-accepted, desks-few, tasks-ok}
+use Rattle.transitions.proofs.Rigs.{plan-accepted, processors-few, tasks-ok}
 use Rattle.transitions.proofs.Runs.{runs-of}
-use Rattle.transitions.proofs.MoveActs.{move-act, move-received}
-use Rattle.transitions.proofs.Dispatch.{run-act, deliver-act}
+use Rattle.transitions.proofs.MoveTransitions.{move-transition, move-received}
+use Rattle.transitions.proofs.Dispatch.{run-transition, deliver-transition}
 use Rattle.invariant.specs.Weights.{weightOf}
 use Rattle.invariant.proofs.Falls.{run-less, deliver-less, move-work}
 use Rattle.invariant.proofs.Counts.{CountsRise, counts-run, counts-deliver, counts-move}
@@ -74,7 +74,7 @@ pub record Next (p : Plan) {r : System} {w : ChannelId → List Word} (k : Kept 
 
 few : (q : System) → Shaped q → systemOk q ≡ true → reading q .processors ≤ 6
 unfolding reading
-few q shaped ok = desks-few q shaped ok
+few q shaped ok = processors-few q shaped ok
 
 -- no more words
 pub no-more : (w : ChannelId → List Word) → (λ c. w c ++ []) ≡ w
@@ -86,7 +86,7 @@ module _ (p : Plan) (a : planAnswer (programs p) ≡ PlanAccepted) {r : System} 
 
   -- the parts of what holds, put together for the rig after the step
   together : (q : System) (received : ChannelId → List Word) (h : Histories) → Shaped q → systemOk q ≡ true → q .plan ≡ p → Families m h (reading q)
-      → ((c : ChannelId) → 1 ≤ c .0 → c .0 ≤ 128 → Invariant (viewOf m h (reading q) c)) → endedOf (taskId 1) (reading q .letters) ≡ []
+      → ((c : ChannelId) → 1 ≤ c .0 → c .0 ≤ 128 → Invariant (viewOf m h (reading q) c)) → endedOf (taskId 1) (reading q .messages) ≡ []
       → Follows m (k .state) (reading q) received → Kept p q received
   together q received h shaped ok plan family views root follows =
       record {
@@ -120,45 +120,45 @@ module _ (p : Plan) (a : planAnswer (programs p) ≡ PlanAccepted) {r : System} 
 
   module _ (q : System) (shaped : Shaped q) (ok : systemOk q ≡ true) (plan : q .plan ≡ p) where
     -- after each kind of step
-    after-run : {got : Received} (h : Histories) → RunAct m (k .histories) (reading r) h (reading q) got → Next p k q got true false
+    after-run : {got : Received} (h : Histories) → RunTransition m (k .histories) (reading r) h (reading q) got → Next p k q got true false
     unfolding together
-    after-run {got} h act =
-        let less = run-less m (k .running) act in
+    after-run {got} h transition =
+        let less = run-less m (k .running) transition in
         record {
           kept =
-              together q (λ c. w c ++ wordOn c got) h shaped ok plan (families-run m a (k .running) act) (views-run m (k .running) act)
-              (root-run m (k .running) act)
-              (follows-run m a (k .reached) (k .running) act);
+              together q (λ c. w c ++ wordOn c got) h shaped ok plan (families-run m a (k .running) transition) (views-run m (k .running) transition)
+              (root-run m (k .running) transition)
+              (follows-run m a (k .reached) (k .running) transition);
           work = less .work;
           falls = λ e. less .weight;
-          counts = counts-run m act;
+          counts = counts-run m transition;
         }
 
-    after-deliver : {got : Received} → DeliverAct m (k .histories) (reading r) (reading q) got → Next p k q got false false
+    after-deliver : {got : Received} → DeliverTransition m (k .histories) (reading r) (reading q) got → Next p k q got false false
     unfolding together
-    after-deliver {got} act =
-        let less = deliver-less m (k .running) act in
+    after-deliver {got} transition =
+        let less = deliver-less m (k .running) transition in
         record {
           kept =
-              together q (λ c. w c ++ wordOn c got) (k .histories) shaped ok plan (families-deliver m a (k .running) act)
-              (views-deliver m (k .running) act)
-              (root-deliver m (k .running) act) (follows-deliver m a (k .reached) (k .running) act);
+              together q (λ c. w c ++ wordOn c got) (k .histories) shaped ok plan (families-deliver m a (k .running) transition)
+              (views-deliver m (k .running) transition)
+              (root-deliver m (k .running) transition) (follows-deliver m a (k .reached) (k .running) transition);
           work = less .work;
           falls = λ e. less .weight;
-          counts = counts-deliver m act;
+          counts = counts-deliver m transition;
         }
 
-    after-move : (h : Histories) → MoveAct m (k .histories) h (reading r) (reading q) → Next p k q Nothing false true
+    after-move : (h : Histories) → MoveTransition m (k .histories) h (reading r) (reading q) → Next p k q Nothing false true
     unfolding wordOn
-    after-move h act =
+    after-move h transition =
         record {
           kept =
               rw (no-more w)
-              (together q w h shaped ok plan (families-move m a (k .running) act) (views-move m (k .running) act) (root-move m (k .running) act)
-              (follows-move m a (k .reached) (k .running) act));
-          work = omega (arith, move-work m (k .running) act);
+              (together q w h shaped ok plan (families-move m a (k .running) transition) (views-move m (k .running) transition) (root-move m (k .running) transition)
+              (follows-move m a (k .reached) (k .running) transition));
+          work = omega (arith, move-work m (k .running) transition);
           falls = λ e. absurd (tests-differ refl e);
-          counts = counts-move m act;
+          counts = counts-move m transition;
         }
 
   module _ (s : Step) (yes : stepAnswer r s ≡ Accepted) where
@@ -189,31 +189,31 @@ module _ (p : Plan) (a : planAnswer (programs p) ≡ PlanAccepted) {r : System} 
         let passed = sym (answer-run r s kind) ∙ step-passed r s yes .rule in
         let runs = runs-of r (k .shaped) (k .ok) t passed in
         let unborn = creates-unborn (meaning r) (plan-accepted r (k .shaped) (k .ok)) here-reached here t (nextOf r t) runs in
-        let (h, act) = run-act r (k .shaped) (k .ok) (k .histories) here t passed unborn in
+        let (h, transition) = run-transition r (k .shaped) (k .ok) (k .histories) here t passed unborn in
         by-effect (ran r t) true false (performed-run r s kind) kind (ne-eqb (s .kind) 3 (λ e. omega (arith, eqb-true (s .kind) 1 kind)))
         (λ shaped ok plan. after-run (completed (ran r t)) shaped ok plan h
-        (subst (λ (z : Plan). RunAct (programs z) (k .histories) (reading r) h (reading (completed (ran r t))) (ran r t .received)) (k .plan) act))
+        (subst (λ (z : Plan). RunTransition (programs z) (k .histories) (reading r) h (reading (completed (ran r t))) (ran r t .received)) (k .plan) transition))
 
     deliver-next : isDeliver s ≡ true → Next p k (step r s .system) (step r s .report .received) (isRun s) (isMove s)
     deliver-next kind =
         let i = s .number in
         let (l, u) = deliver-passed r i (sym (answer-deliver r s kind) ∙ step-passed r s yes .rule) in
-        let act = deliver-act r (k .shaped) (k .ok) (k .histories) here i l u in
+        let transition = deliver-transition r (k .shaped) (k .ok) (k .histories) here i l u in
         by-effect (delivered r i) false false (performed-deliver r s kind) (ne-eqb (s .kind) 1 (λ e. omega (arith, eqb-true (s .kind) 2 kind)))
         (ne-eqb (s .kind) 3 (λ e. omega (arith, eqb-true (s .kind) 2 kind)))
         (λ shaped ok plan. after-deliver (completed (delivered r i)) shaped ok plan
-        (subst (λ (z : Plan). DeliverAct (programs z) (k .histories) (reading r) (reading (completed (delivered r i))) (delivered r i .received))
-        (k .plan) act))
+        (subst (λ (z : Plan). DeliverTransition (programs z) (k .histories) (reading r) (reading (completed (delivered r i))) (delivered r i .received))
+        (k .plan) transition))
 
     move-next : isMove s ≡ true → Next p k (step r s .system) (step r s .report .received) (isRun s) (isMove s)
     unfolding moved
     move-next kind =
         let t = taskId (s .task) in
         let d = processorId (s .number) in
-        let (h, act) = move-act r (k .shaped) (k .ok) (k .histories) here t d (sym (answer-move r s kind) ∙ step-passed r s yes .rule) in
+        let (h, transition) = move-transition r (k .shaped) (k .ok) (k .histories) here t d (sym (answer-move r s kind) ∙ step-passed r s yes .rule) in
         by-effect (moved r t d) false true (performed-move r s kind) (ne-eqb (s .kind) 1 (λ e. omega (arith, eqb-true (s .kind) 3 kind))) kind
         (λ shaped ok plan. rw (move-received r t d) (after-move (completed (moved r t d)) shaped ok plan h
-        (subst (λ (z : Plan). MoveAct (programs z) (k .histories) h (reading r) (reading (completed (moved r t d)))) (k .plan) act)))
+        (subst (λ (z : Plan). MoveTransition (programs z) (k .histories) h (reading r) (reading (completed (moved r t d)))) (k .plan) transition)))
 
     pub next : Next p k (step r s .system) (step r s .report .received) (isRun s) (isMove s)
     unfolding wellFormed

@@ -32,15 +32,15 @@ use Rattle.channel.specs.Events.{Event}
 use Rattle.channel.proofs.Bags.{in-post, length-without}
 use Rattle.transitions.specs.Readings.{Reading}
 use Rattle.transitions.specs.Progress.{programOf}
-use Rattle.transitions.specs.Letters.{moverTo, moversOf}
+use Rattle.transitions.specs.Messages.{moverTo, moversOf}
 use Rattle.transitions.specs.Views.{Histories}
-use Rattle.transitions.specs.Acts.{ChannelAct, OwnAct, CreateAct, FinishAct, Finishing, alone, near, away, EndedAct, ArrivalAct, MoveAct, sentTo, finished}
+use Rattle.transitions.specs.Transitions.{ChannelTransition, OwnTransition, CreateTransition, FinishTransition, Finishing, alone, near, away, EndedTransition, ArrivalTransition, MoveTransition, sentTo, finished}
 use Rattle.transitions.specs.Family.{Placed}
 use Rattle.transitions.specs.Agreement.{Running}
 use Rattle.transitions.proofs.Updates.{at-task, at-other, task-cases}
 use Rattle.transitions.proofs.Flats.{flat-post, flat-post-nothing, flat-without, flat-place, own-mover, other-mover, no-mover}
 use Rattle.transitions.proofs.Tasks.{state-is, sends, receives, unchanged}
-use Rattle.transitions.proofs.Turns.{turn-steady}
+use Rattle.transitions.proofs.EndSteps.{end-step-steady}
 use Rattle.invariant.proofs.FamilyParts.{AllPlaced, SamePlace, same-placed, steady-place, kept-one, kept-two, own-steady, creator-place}
 use Rattle.invariant.proofs.FamilyParts.{finished-place, lost-place, none-in}
 
@@ -98,118 +98,118 @@ module _ {n : ℕ} {history : ℕ → ℕ} {x : Task} {movers : List ℕ} (p : P
 module _ {m : Programs} {h : Histories} {s : Net} {x : Reading} {w : ChannelId → List Word} (r : Running m h s x w) where
   -- nobody's place changes
   same-places : (y : Reading) → y .processors ≡ x .processors → ((t : TaskId) → SamePlace (x .tasks t) (y .tasks t))
-      → ((t : TaskId) → moversOf t (y .letters) ≡ moversOf t (x .letters)) → AllPlaced m h y
+      → ((t : TaskId) → moversOf t (y .messages) ≡ moversOf t (x .messages)) → AllPlaced m h y
   same-places y n e l t i = rw (n, l t) (same-placed (e t) (r .places t i))
 
   same : (z : Task) → SamePlace z z
   same z = steady-place (unchanged z)
 
   -- by each act: a step about a channel, of one task, an end
-  pub places-channel : {y : Reading} {e : Event} {got : Received} → ChannelAct m h x y e got → AllPlaced m h y
-  places-channel {y} act =
-      let c = act .channel in
-      let i = steady-place (turn-steady sends (act .sender-turn)) in
-      let j = steady-place (turn-steady receives (act .receiver-turn)) in
-      same-places y (act .processors)
+  pub places-channel : {y : Reading} {e : Event} {got : Received} → ChannelTransition m h x y e got → AllPlaced m h y
+  places-channel {y} transition =
+      let c = transition .channel in
+      let i = steady-place (end-step-steady sends (transition .sender-end-step)) in
+      let j = steady-place (end-step-steady receives (transition .receiver-end-step)) in
+      same-places y (transition .processors)
       (λ t.
-      rw (act .tasks)
-      (kept-two SamePlace same (x .tasks) (senderOf m c) (receiverOf m c) (act .sender) (act .receiver) t (λ e. i) (λ e. j)))
-      (act .movers)
+      rw (transition .tasks)
+      (kept-two SamePlace same (x .tasks) (senderOf m c) (receiverOf m c) (transition .sender) (transition .receiver) t (λ e. i) (λ e. j)))
+      (transition .movers)
 
-  pub places-own : {y : Reading} → OwnAct m h x y → AllPlaced m h y
-  places-own {y} act =
-      let i = steady-place (own-steady (act .runs .ready) (act .own)) in
-      same-places y (act .unseen .processors)
-      (λ t. rw (act .tasks) (kept-one SamePlace same (x .tasks) (act .task) (act .then) t (λ e. i)))
-      (λ t. rw (act .letters) refl)
+  pub places-own : {y : Reading} → OwnTransition m h x y → AllPlaced m h y
+  places-own {y} transition =
+      let i = steady-place (own-steady (transition .runs .ready) (transition .own)) in
+      same-places y (transition .unseen .processors)
+      (λ t. rw (transition .tasks) (kept-one SamePlace same (x .tasks) (transition .task) (transition .then) t (λ e. i)))
+      (λ t. rw (transition .messages) refl)
 
-  pub places-finish : {y : Reading} → FinishAct m h x y → AllPlaced m h y
-  places-finish {y} act = go (act .task) (finished-place (x .tasks (act .task)) (act .runs .ready)) (act .finishing)
+  pub places-finish : {y : Reading} → FinishTransition m h x y → AllPlaced m h y
+  places-finish {y} transition = go (transition .task) (finished-place (x .tasks (transition .task)) (transition .runs .ready)) (transition .finishing)
     where
       go : (t : TaskId) → SamePlace (x .tasks t) (finished (x .tasks t)) → Finishing m x y t → AllPlaced m h y
       go t i (alone e f l) =
-          same-places y (act .unseen .processors)
+          same-places y (transition .unseen .processors)
           (λ u. rw f (kept-one SamePlace same (x .tasks) t (finished (x .tasks t)) u (λ e. i)))
           (λ u. rw l refl)
       go t i (near ne at f l) =
           let p = parentOf m t in
           let j = lost-place (x .tasks p) t in
-          same-places y (act .unseen .processors)
+          same-places y (transition .unseen .processors)
           (λ u. rw f (kept-two SamePlace same (x .tasks) p t (withoutChild (x .tasks p) t) (finished (x .tasks t)) u (λ e. j) (λ e. i)))
           (λ u. rw l refl)
       go t i (away ne at f l) =
-          same-places y (act .unseen .processors)
+          same-places y (transition .unseen .processors)
           (λ u. rw f (kept-one SamePlace same (x .tasks) t (finished (x .tasks t)) u (λ e. i)))
-          (λ u. rw l (flat-post-nothing (moverTo u) (x .letters) (Terminated (x .tasks t .home) t) (no-mover u (x .tasks t .home) t)))
+          (λ u. rw l (flat-post-nothing (moverTo u) (x .messages) (Terminated (x .tasks t .home) t) (no-mover u (x .tasks t .home) t)))
 
-  pub places-ended : {y : Reading} → EndedAct m h x y → AllPlaced m h y
-  places-ended {y} act =
-      let p = parentOf m (act .task) in
-      let i = lost-place (x .tasks p) (act .task) in
-      same-places y (act .unseen .processors)
-      (λ t. rw (act .tasks) (kept-one SamePlace same (x .tasks) p (withoutChild (x .tasks p) (act .task)) t (λ e. i)))
-      (λ t. rw (act .letters) (flat-without (moverTo t) (x .letters) (act .p) (act .letter) (no-mover t (act .at) (act .task))))
+  pub places-ended : {y : Reading} → EndedTransition m h x y → AllPlaced m h y
+  places-ended {y} transition =
+      let p = parentOf m (transition .task) in
+      let i = lost-place (x .tasks p) (transition .task) in
+      same-places y (transition .unseen .processors)
+      (λ t. rw (transition .tasks) (kept-one SamePlace same (x .tasks) p (withoutChild (x .tasks p) (transition .task)) t (λ e. i)))
+      (λ t. rw (transition .messages) (flat-without (moverTo t) (x .messages) (transition .p) (transition .message) (no-mover t (transition .at) (transition .task))))
 
   -- task t changes its place, and nobody else
   one-place : (later : Histories) (y : Reading) (t : TaskId) → y .processors ≡ x .processors
-      → (within 1 (length m) (t .0) ≡ true → Placed (x .processors) (later t) (y .tasks t) (moversOf t (y .letters)))
+      → (within 1 (length m) (t .0) ≡ true → Placed (x .processors) (later t) (y .tasks t) (moversOf t (y .messages)))
       → ((u : TaskId) → u .0 ≢ t .0 → later u ≡ h u)
       → ((u : TaskId) → u .0 ≢ t .0 → SamePlace (x .tasks u) (y .tasks u))
-      → ((u : TaskId) → u .0 ≢ t .0 → moversOf u (y .letters) ≡ moversOf u (x .letters))
+      → ((u : TaskId) → u .0 ≢ t .0 → moversOf u (y .messages) ≡ moversOf u (x .messages))
       → AllPlaced m later y
   one-place later y t n p f e l =
-      task-cases (λ u. within 1 (length m) (u .0) ≡ true → Placed (y .processors) (later u) (y .tasks u) (moversOf u (y .letters))) t
+      task-cases (λ u. within 1 (length m) (u .0) ≡ true → Placed (y .processors) (later u) (y .tasks u) (moversOf u (y .messages))) t
       (λ i. rw n (p i))
       (λ u ne i. rw (n, f u ne, l u ne) (same-placed (e u ne) (r .places u i)))
 
   -- a birth, an arrival and a move
-  pub places-create : {h' : Histories} {y : Reading} → CreateAct m h h' x y → AllPlaced m h' y
-  places-create {h'} {y} act =
-      let t = act .task in
-      let c = act .child in
+  pub places-create : {h' : Histories} {y : Reading} → CreateTransition m h h' x y → AllPlaced m h' y
+  places-create {h'} {y} transition =
+      let t = transition .task in
+      let c = transition .child in
       let d = x .tasks t .processor in
       let made = atTask (x .tasks) t (createRule (x .tasks t) c) in
-      let here = settled (x .processors) (length m) (programOf m t) (x .tasks t) Ready refl (act .runs .ready) (r .tasks t (act .runs .number)) in
-      one-place h' y c (act .processors)
+      let here = settled (x .processors) (length m) (programOf m t) (x .tasks t) Ready refl (transition .runs .ready) (r .tasks t (transition .runs .number)) in
+      one-place h' y c (transition .processors)
       (λ i.
-      rw (act .tasks, at-task made c (born d), act .letters)
-      (born-placed (r .places c i) (h' c) d (act .unborn) (rw (act .history) (sent-there h c 1 d)) (here .desk) (here .desk-few)))
-      (λ u ne. rw (act .history) (sent-other h c 1 d u ne))
+      rw (transition .tasks, at-task made c (born d), transition .messages)
+      (born-placed (r .places c i) (h' c) d (transition .unborn) (rw (transition .history) (sent-there h c 1 d)) (here .processor) (here .processor-few)))
+      (λ u ne. rw (transition .history) (sent-other h c 1 d u ne))
       (λ u ne.
-      rw (act .tasks, at-other made c u (born d) ne)
-      (kept-one SamePlace same (x .tasks) t (createRule (x .tasks t) c) u (λ e. creator-place (x .tasks t) (act .runs .ready) c)))
-      (λ u ne. rw (act .letters) refl)
+      rw (transition .tasks, at-other made c u (born d) ne)
+      (kept-one SamePlace same (x .tasks) t (createRule (x .tasks t) c) u (λ e. creator-place (x .tasks t) (transition .runs .ready) c)))
+      (λ u ne. rw (transition .messages) refl)
 
-  pub places-arrival : {y : Reading} → ArrivalAct m h x y → AllPlaced m h y
-  places-arrival {y} act =
-      let t = act .task in
-      let z = arrived (x .tasks t) (act .at) in
-      let k = flat-place (moverTo t) (x .letters) (act .p) (act .at .0) (act .letter) (own-mover t (act .at)) in
-      one-place h y t (act .processors)
+  pub places-arrival : {y : Reading} → ArrivalTransition m h x y → AllPlaced m h y
+  places-arrival {y} transition =
+      let t = transition .task in
+      let z = arrived (x .tasks t) (transition .at) in
+      let k = flat-place (moverTo t) (x .messages) (transition .p) (transition .at .0) (transition .message) (own-mover t (transition .at)) in
+      one-place h y t (transition .processors)
       (λ i.
-      rw (act .tasks, at-task (x .tasks) t z, act .letters, k .taken)
-      (arrived-placed (r .places t i) (act .at) (k .place) (act .moving) (act .sent) (k .at)))
+      rw (transition .tasks, at-task (x .tasks) t z, transition .messages, k .taken)
+      (arrived-placed (r .places t i) (transition .at) (k .place) (transition .moving) (transition .sent) (k .at)))
       (λ u ne. refl)
-      (λ u ne. rw (act .tasks, at-other (x .tasks) t u z ne) (same (x .tasks u)))
+      (λ u ne. rw (transition .tasks, at-other (x .tasks) t u z ne) (same (x .tasks u)))
       (λ u ne.
-      rw (act .letters)
-      (flat-without (moverTo u) (x .letters) (act .p) (act .letter) (other-mover u (act .at) t (λ e. ne (sym e)))))
+      rw (transition .messages)
+      (flat-without (moverTo u) (x .messages) (transition .p) (transition .message) (other-mover u (transition .at) t (λ e. ne (sym e)))))
 
-  pub places-move : {h' : Histories} {y : Reading} → MoveAct m h h' x y → AllPlaced m h' y
-  places-move {h'} {y} act =
-      let t = act .task in
-      let d = act .to in
+  pub places-move : {h' : Histories} {y : Reading} → MoveTransition m h h' x y → AllPlaced m h' y
+  places-move {h'} {y} transition =
+      let t = transition .task in
+      let d = transition .to in
       let k = suc (x .tasks t .moves) in
       let z = departed (x .tasks t) in
-      one-place h' y t (act .processors)
+      one-place h' y t (transition .processors)
       (λ i.
-      rw (act .tasks, at-task (x .tasks) t z, act .letters, flat-post (moverTo t) (x .letters) (Migration d t) (one (d .0)) (own-mover t d))
-      (departed-placed (r .places t i) (h' t) d (act .ready) (eqb-true (x .tasks t .children) 0 (act .childless))
-      (rw (act .history) (sent-there h t k d))
-      (within-low 1 (x .processors) (d .0) (act .desk))
-      (within-high 1 (x .processors) (d .0) (act .desk))))
-      (λ u ne. rw (act .history) (sent-other h t k d u ne))
-      (λ u ne. rw (act .tasks, at-other (x .tasks) t u z ne) (same (x .tasks u)))
+      rw (transition .tasks, at-task (x .tasks) t z, transition .messages, flat-post (moverTo t) (x .messages) (Migration d t) (one (d .0)) (own-mover t d))
+      (departed-placed (r .places t i) (h' t) d (transition .ready) (eqb-true (x .tasks t .children) 0 (transition .childless))
+      (rw (transition .history) (sent-there h t k d))
+      (within-low 1 (x .processors) (d .0) (transition .processor))
+      (within-high 1 (x .processors) (d .0) (transition .processor))))
+      (λ u ne. rw (transition .history) (sent-other h t k d u ne))
+      (λ u ne. rw (transition .tasks, at-other (x .tasks) t u z ne) (same (x .tasks u)))
       (λ u ne.
-      rw (act .letters)
-      (flat-post-nothing (moverTo u) (x .letters) (Migration d t) (other-mover u d t (λ e. ne (sym e)))))
+      rw (transition .messages)
+      (flat-post-nothing (moverTo u) (x .messages) (Migration d t) (other-mover u d t (λ e. ne (sym e)))))

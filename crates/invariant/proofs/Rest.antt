@@ -41,7 +41,7 @@ use Rattle.net.proofs.Children.{children-complete}
 use Rattle.channel.proofs.Claims.{not-both}
 use Rattle.transitions.specs.Readings.{Reading}
 use Rattle.transitions.specs.Progress.{flag, isBlocked, programOf}
-use Rattle.transitions.specs.Letters.{flat}
+use Rattle.transitions.specs.Messages.{flat}
 use Rattle.transitions.specs.Views.{Histories, senderView, receiverView, viewOf}
 use Rattle.transitions.specs.Agreement.{comingTo, Running}
 use Rattle.transitions.proofs.Tasks.{completed-free, completed-blocked, last-some, Side, sends, receives, same-state, unborn-is, completed-most}
@@ -90,9 +90,9 @@ halted-state {z} (syncing e o some) = eqb-true (stateNumber (z .state)) 2 e ∙ 
 halted-state {z} (busy {u = u} side e o) = eqb-true (stateNumber (z .state)) (stateNumber u) e ∙ sym (ap pauseOf o ∙ side-pause side)
 
 module _ (m : Programs) (accepted : planAnswer m ≡ Accepted) (s : Net) (sane : Consistent m s)
-    {h : Histories} {x : Reading} {w : ChannelId → List Word} (run : Running m h s x w) (none : x .letters ≡ []) (rest : Resting m x) where
-  quiet : (t : TaskId) → comingTo (programOf m t) (x .letters) (x .tasks t) ≡ []
-  quiet t = coming-empty (programOf m t) (x .letters) (x .tasks t) none
+    {h : Histories} {x : Reading} {w : ChannelId → List Word} (run : Running m h s x w) (none : x .messages ≡ []) (rest : Resting m x) where
+  quiet : (t : TaskId) → comingTo (programOf m t) (x .messages) (x .tasks t) ≡ []
+  quiet t = coming-empty (programOf m t) (x .messages) (x .tasks t) none
 
   -- a task that can go on in the net goes no further in the rig
   module _ (t : TaskId) (active : isActive m s t ≡ true) where
@@ -250,12 +250,12 @@ pub record Same (x y : Task) : Type 0 where
 
 module _ (m : Programs) (accepted : planAnswer m ≡ Accepted) {ls : List Label} {s : Net} (reached : Reached m ls s) where
   -- at rest the net is at its end
-  pub rest-normal : {h : Histories} {x : Reading} {w : ChannelId → List Word} → Running m h s x w → x .letters ≡ [] → Resting m x → Normal (net m) s
+  pub rest-normal : {h : Histories} {x : Reading} {w : ChannelId → List Word} → Running m h s x w → x .messages ≡ [] → Resting m x → Normal (net m) s
   rest-normal run none rest = normal m accepted s (consistent m accepted reached) run none rest
 
   -- two rigs at rest that agree with one net
   pub at-rest-same : {h h' : Histories} {x y : Reading} {w w' : ChannelId → List Word} → Running m h s x w → Running m h' s y w'
-      → x .letters ≡ [] → y .letters ≡ [] → Resting m x → Resting m y → (t : TaskId) → within 1 (length m) (t .0) ≡ true
+      → x .messages ≡ [] → y .messages ≡ [] → Resting m x → Resting m y → (t : TaskId) → within 1 (length m) (t .0) ≡ true
       → Same (x .tasks t) (y .tasks t)
   at-rest-same {x = x} {y} run run' none none' rest rest' t n =
       let sane = consistent m accepted reached in

@@ -21,11 +21,11 @@ use Rattle.net.specs.Consistent.{Consistent}
 use Rattle.net.proofs.Consistent.{consistent}
 use Rattle.transitions.specs.Readings.{Reading}
 use Rattle.transitions.specs.Views.{Histories}
-use Rattle.transitions.specs.Acts.{RunAct, transfers, owns, creates, finishes, DeliverAct, delivers, ends, arrives, MoveAct, Runs}
+use Rattle.transitions.specs.Transitions.{RunTransition, transfers, owns, creates, finishes, DeliverTransition, delivers, ends, arrives, MoveTransition, Runs}
 use Rattle.transitions.specs.Agreement.{Running}
 use Rattle.invariant.proofs.NetSteps.{Follows}
 use Rattle.invariant.proofs.NetChannel.{channel-follows}
-use Rattle.invariant.proofs.NetTasks.{follows-nothing, own-act-follows, create-follows, arrival-follows, move-follows, runs-unborn}
+use Rattle.invariant.proofs.NetTasks.{follows-nothing, own-transition-follows, create-follows, arrival-follows, move-follows, runs-unborn}
 use Rattle.invariant.proofs.NetEnds.{finish-follows, ended-follows}
 
 module _ (m : Programs) (accepted : planAnswer m ≡ Accepted) {ls : List Label} {s : Net} (reached : Reached m ls s)
@@ -38,16 +38,16 @@ module _ (m : Programs) (accepted : planAnswer m ≡ Accepted) {ls : List Label}
   creates-unborn t i runs = runs-unborn m accepted s sane run t i runs
 
   -- by each act
-  pub follows-run : {h' : Histories} {y : Reading} {got : Received} → RunAct m h x h' y got → Follows m s y (λ c. w c ++ wordOn c got)
-  follows-run (transfers e act) = channel-follows m accepted s sane run act
-  follows-run (owns act) = follows-nothing (own-act-follows m accepted s sane run act)
-  follows-run (creates act) = follows-nothing (create-follows m accepted s sane run act)
-  follows-run (finishes act) = follows-nothing (finish-follows m accepted s sane run act)
+  pub follows-run : {h' : Histories} {y : Reading} {got : Received} → RunTransition m h x h' y got → Follows m s y (λ c. w c ++ wordOn c got)
+  follows-run (transfers e transition) = channel-follows m accepted s sane run transition
+  follows-run (owns transition) = follows-nothing (own-transition-follows m accepted s sane run transition)
+  follows-run (creates transition) = follows-nothing (create-follows m accepted s sane run transition)
+  follows-run (finishes transition) = follows-nothing (finish-follows m accepted s sane run transition)
 
-  pub follows-deliver : {y : Reading} {got : Received} → DeliverAct m h x y got → Follows m s y (λ c. w c ++ wordOn c got)
-  follows-deliver (delivers p a act) = channel-follows m accepted s sane run act
-  follows-deliver (ends act) = follows-nothing (ended-follows m accepted s sane run act)
-  follows-deliver (arrives act) = follows-nothing (arrival-follows m accepted s sane run act)
+  pub follows-deliver : {y : Reading} {got : Received} → DeliverTransition m h x y got → Follows m s y (λ c. w c ++ wordOn c got)
+  follows-deliver (delivers p a transition) = channel-follows m accepted s sane run transition
+  follows-deliver (ends transition) = follows-nothing (ended-follows m accepted s sane run transition)
+  follows-deliver (arrives transition) = follows-nothing (arrival-follows m accepted s sane run transition)
 
-  pub follows-move : {h' : Histories} {y : Reading} → MoveAct m h h' x y → Follows m s y w
-  follows-move act = move-follows m accepted s sane run act
+  pub follows-move : {h' : Histories} {y : Reading} → MoveTransition m h h' x y → Follows m s y w
+  follows-move transition = move-follows m accepted s sane run transition

@@ -29,7 +29,7 @@ use Rattle.rules.specs.Numbers.{channelNumberOk}
 use Rattle.rules.specs.Tasks.{noTask, unborn, born}
 use Rattle.rules.specs.Cells.{noOffer}
 use Rattle.rules.specs.Places.{isOn}
-use Rattle.rules.specs.Networks.{letters}
+use Rattle.rules.specs.Networks.{messages}
 use Rattle.rules.specs.Systems.{taskAt, withTask, entryIndex, taskIn, taskStored, channelAt, entryAt}
 use Rattle.rules.specs.Effects.{forChannels, receivesOn}
 use Rattle.rules.specs.Starts.{located, birth, blank, started}
@@ -47,9 +47,9 @@ use Rattle.channel.proofs.Updates.{at-self}
 use Rattle.channel.proofs.Keep.{keeps, starts}
 use Rattle.transitions.specs.Readings.{Reading, reading, entryOf, channelOf, noEntry, noChannel, withTaskRead, forChannelsRead}
 use Rattle.transitions.specs.Progress.{programOf, completedBy, useNumber}
-use Rattle.transitions.specs.Letters.{flat}
+use Rattle.transitions.specs.Messages.{flat}
 use Rattle.transitions.specs.Views.{Histories, senderView, receiverView, tablesView, stateView, viewOf}
-use Rattle.transitions.specs.Acts.{sentTo}
+use Rattle.transitions.specs.Transitions.{sentTo}
 use Rattle.transitions.proofs.Updates.{at-other}
 use Rattle.transitions.proofs.Frames.{read-task, read-forChannels}
 use Rattle.transitions.proofs.Outcomes.{part-at}
@@ -115,18 +115,18 @@ startWith n p ks =
       tasks = startTasks n p;
       entries = λ c. startEntries (channelNumberOk c && receivesOn (programs p) first c);
       channels = ks;
-      letters = [];
+      messages = [];
     }
 
 abbrev pub startReading : ℕ → Plan → Reading
 startReading n p = startWith n p (λ c. noChannel)
 
 abbrev blankWith : ℕ → Plan → (ChannelId → ℕ → Entry) → (ChannelId → Channel) → Reading
-blankWith n p es ks = record { processors = n; tasks = taskAt (blank n p); entries = es; channels = ks; letters = [] }
+blankWith n p es ks = record { processors = n; tasks = taskAt (blank n p); entries = es; channels = ks; messages = [] }
 
 module _ (n : ℕ) (p : Plan) where
   blank-parts : reading (blank n p) ≡ blankWith n p (entryOf (blank n p)) (channelOf (blank n p))
-  unfolding reading letters blank
+  unfolding reading messages blank
   blank-parts = refl
 
   read-blank : reading (blank n p) ≡ blankWith n p (λ c d. noEntry) (λ c. noChannel)
@@ -194,7 +194,7 @@ viewThen n s u =
       receiver = receiverThen u;
       tables = tablesThen u;
       state = record { granted = 0; awaiting = 0; carried = offerOf 0 0; travelling = hintTo 0 0 };
-      letters = [];
+      messages = [];
     }
 
 -- nobody, the sender, the receiver, or both are born
@@ -203,13 +203,13 @@ module _ (n : ℕ) (l : 1 ≤ n) where
   unfolding events.blank guard after placeGuard placed
   sender-holds false = starts n
   sender-holds true =
-      keeps (place (sender-born 1)) (events.blank n) (starts n) (record { nowhere = refl; first = refl; desk = omega arith; last = l })
+      keeps (place (sender-born 1)) (events.blank n) (starts n) (record { nowhere = refl; first = refl; processor = omega arith; last = l })
 
   view-holds : (s u : Bool) → Invariant (viewThen n s u)
   unfolding guard after placeGuard placed
   view-holds s false = sender-holds s
   view-holds s true =
-      keeps (place (receiver-born 1)) (viewThen n s false) (sender-holds s) (record { nowhere = refl; first = refl; desk = omega arith; last = l })
+      keeps (place (receiver-born 1)) (viewThen n s false) (sender-holds s) (record { nowhere = refl; first = refl; processor = omega arith; last = l })
 
 module _ (n : ℕ) (p : Plan) (g : Program) (c : ChannelId) where
   start-sender : (t : TaskId) → senderView g c (startTasks n p t) ≡ senderThen (sameTask t first)

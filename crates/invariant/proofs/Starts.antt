@@ -27,7 +27,7 @@ use Rattle.rules_sound.proofs.Starts.{started-ok}
 use Rattle.net.specs.States.{startNet}
 use Rattle.transitions.specs.Readings.{reading}
 use Rattle.transitions.specs.Progress.{flag, completedBy}
-use Rattle.transitions.specs.Letters.{flat}
+use Rattle.transitions.specs.Messages.{flat}
 use Rattle.transitions.specs.Views.{Histories}
 use Rattle.transitions.specs.Family.{Placed, Child, Kin}
 use Rattle.transitions.specs.Agreement.{comingTo, wordWith, Agrees, TasksOk, Running}

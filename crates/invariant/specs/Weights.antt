@@ -10,7 +10,7 @@ use Rattle.rules.specs.declared.message.Message.{Message}
 use Rattle.channel.specs.Measure.{measure}
 use Rattle.transitions.specs.Readings.{Reading}
 use Rattle.transitions.specs.Progress.{unexecuted}
-use Rattle.transitions.specs.Letters.{endedOf, moversOf}
+use Rattle.transitions.specs.Messages.{endedOf, moversOf}
 use Rattle.transitions.specs.Views.{Histories, viewOf}
 
 abbrev pub instructionWeight : ℕ
@@ -24,11 +24,11 @@ abbrev pub channelsWeight : Programs → Histories → Reading → ℕ
 channelsWeight m h x = sumBelow channelCount (λ k. measure (viewOf m h x (channelId (suc k))))
 
 -- the letters about task t weigh 1 each
-abbrev pub taskLetters : List Message → TaskId → ℕ
-taskLetters ms t = length (endedOf t ms) + length (moversOf t ms)
+abbrev pub taskMessages : List Message → TaskId → ℕ
+taskMessages ms t = length (endedOf t ms) + length (moversOf t ms)
 
 abbrev pub tasksWeight : Programs → List Message → ℕ
-tasksWeight m ms = sumBelow (length m) (λ k. taskLetters ms (taskId (suc k)))
+tasksWeight m ms = sumBelow (length m) (λ k. taskMessages ms (taskId (suc k)))
 
 unfoldable pub weightOf : Programs → Histories → Reading → ℕ
-weightOf m h x = instructionWeight * unexecuted m (x .tasks) + (channelsWeight m h x + tasksWeight m (x .letters))
+weightOf m h x = instructionWeight * unexecuted m (x .tasks) + (channelsWeight m h x + tasksWeight m (x .messages))

@@ -16,17 +16,17 @@ use Rattle.plan.specs.declared.ChannelId.{ChannelId}
 use Rattle.plan.specs.declared.ProcessorId.{ProcessorId}
 use Rattle.rules.specs.declared.message.Message.{Message}
 use Rattle.rules.specs.declared.rule.Posting.the-variants.{Adverts}
-use Rattle.rules.specs.Networks.{lettersOf}
-use Rattle.network.specs.Mailing.{postedAt, otherProcessors}
+use Rattle.rules.specs.Networks.{messagesOf}
+use Rattle.network.specs.Rounds.{postedAt, otherProcessors}
 
 module _ (c : ChannelId) (d : ProcessorId) where
   -- those of channel c from desk d in a rig of n desks
   abbrev adverts : ℕ → List Message
-  adverts n = lettersOf n (Adverts c d)
+  adverts n = messagesOf n (Adverts c d)
 
   -- the last desk's, behind those of the others
   length-suc : (n : ℕ) → length (adverts (suc n)) ≡ length (adverts n) + length (postedAt (Adverts c d) n)
-  unfolding lettersOf fold
+  unfolding messagesOf fold
   length-suc n = length-append (adverts n) (postedAt (Adverts c d) n)
 
   -- the desk itself gets none, another desk one
@@ -37,7 +37,7 @@ module _ (c : ChannelId) (d : ProcessorId) where
   one-more n e = rw (length-suc n, ne-eqb (suc n) (d .0) (rw (add-one n) at e)) (omega arith)
 
   length-without : (n : ℕ) → ((k : ℕ) → k < n → k + 1 ≡ d .0 → ⊥) → length (adverts n) ≡ n
-  unfolding lettersOf fold
+  unfolding messagesOf fold
   length-without zero h = refl
   length-without (suc n) h = omega (arith, one-more n (h n (omega arith)), length-without n (λ k l. h k (omega arith)))
 

@@ -3,8 +3,8 @@
 ghost use mathlib.Core.Path.{_≡_};
 ghost use Prim.Native.Nat.{_≤_, _<_};
 ghost use lib.ListN.{length};
-ghost use Rattle.rules.specs.Networks.{lettersOf};
-ghost use Rattle.network.specs.Mailing.{isLetter, roundsOf, skipsAt, letterOf, otherProcessors};
+ghost use Rattle.rules.specs.Networks.{messagesOf};
+ghost use Rattle.network.specs.Rounds.{isMessage, roundsOf, skipsAt, messageOf, otherProcessors};
 ghost use Rattle.network.specs.Positions.{positionOf};
 use plan::ProcessorId;
 use rules::message::Message;
@@ -31,11 +31,11 @@ pub fn position(used: usize, s: Step) -> usize
 
 // Whether a letter is posted, and nothing but that.
 pub fn posts(x: Posting) -> bool
-    ensures { λ r. ⌜ r ≡ isLetter x ⌝ }
+    ensures { λ r. ⌜ r ≡ isMessage x ⌝ }
 {
     match x {
         Posting::Nothing => false,
-        Posting::Letter(_) => true,
+        Posting::Single(_) => true,
         Posting::Adverts(_, _) => false,
     }
 }
@@ -46,7 +46,7 @@ pub fn rounds(processors: u8, x: Posting) -> u8
 {
     match x {
         Posting::Nothing => 0,
-        Posting::Letter(_) => 1,
+        Posting::Single(_) => 1,
         Posting::Adverts(_, _) => processors,
     }
 }
@@ -58,21 +58,21 @@ pub fn skips(x: Posting, j: u8) -> bool
 {
     match x {
         Posting::Nothing => false,
-        Posting::Letter(_) => false,
+        Posting::Single(_) => false,
         Posting::Adverts(_, d) => j + 1 == d.0,
     }
 }
 
 // What is posted in round j.
-pub fn letter(x: Posting, j: u8) -> Slot
+pub fn message(x: Posting, j: u8) -> Slot
     requires { ⌜ j < 255 ⌝ }
-    ensures { λ r. ⌜ r .message ≡ letterOf x j ⌝ }
+    ensures { λ r. ⌜ r .message ≡ messageOf x j ⌝ }
 {
     match x {
         Posting::Nothing => Slot {
             message: Message::Empty,
         },
-        Posting::Letter(m) => Slot { message: m },
+        Posting::Single(m) => Slot { message: m },
         Posting::Adverts(c, d) => Slot {
             message: Message::Advert(c, ProcessorId(j + 1), d),
         },
@@ -80,12 +80,12 @@ pub fn letter(x: Posting, j: u8) -> Slot
 }
 
 // How many letters a rule posts in a rig of so many desks.
-pub fn letters_needed(processors: u8, p: Posting) -> usize
-    ensures { λ r. ⌜ r ≡ length (lettersOf processors p) ⌝ }
+pub fn messages_needed(processors: u8, p: Posting) -> usize
+    ensures { λ r. ⌜ r ≡ length (messagesOf processors p) ⌝ }
 {
     match p {
         Posting::Nothing => 0,
-        Posting::Letter(_) => 1,
+        Posting::Single(_) => 1,
         Posting::Adverts(_, d) => other_processors(processors, d),
     }
 }

@@ -13,16 +13,16 @@ use Rattle.plan.specs.Outcomes.{startNumber}
 
 -- desks, a plan file, and the number that is answered
 pub record Edge : Type 0 where
-  pub desks : ℕ
+  pub processors : ℕ
   pub file : List ℕ
   pub number : ℕ
 
 abbrev pub edgeHolds : Edge → Bool
-edgeHolds e = eqb (startNumber (e .desks) (e .file)) (e .number)
+edgeHolds e = eqb (startNumber (e .processors) (e .file)) (e .number)
 
 -- a file on one desk; a plan on one desk
 abbrev file : List ℕ → ℕ → Edge
-file b n = record { desks = 1; file = b; number = n }
+file b n = record { processors = 1; file = b; number = n }
 
 abbrev plan : Programs → ℕ → Edge
 plan m n = file (layout m) n
@@ -67,10 +67,10 @@ unfoldable pub others : List Edge
 others =
     file worked 0
     -- 1
-    ∷ record { desks = 0; file = single; number = 1 }
-    ∷ record { desks = 6; file = single; number = 0 }
-    ∷ record { desks = 7; file = single; number = 1 }
-    ∷ record { desks = 7; file = []; number = 1 }
+    ∷ record { processors = 0; file = single; number = 1 }
+    ∷ record { processors = 6; file = single; number = 0 }
+    ∷ record { processors = 7; file = single; number = 1 }
+    ∷ record { processors = 7; file = []; number = 1 }
     -- 2: three bytes, no task, no instruction, N, offset, a byte too few and too many, the second offset
     ∷ file (1 ∷ 0 ∷ 1 ∷ []) 2
     ∷ file (0 ∷ 0 ∷ 0 ∷ 0 ∷ []) 2

@@ -25,12 +25,12 @@ unfolding writeEdges writeAnswer writeOutput sameBytes planAnswer sizesOk struct
 all-write = refl
 
 abbrev none : Edge
-none = record { desks = 0; file = []; number = 1 }
+none = record { processors = 0; file = []; number = 1 }
 
 -- the answer about edge k is the one that the list gives
-pub edge : (k : ℕ) → k < length edges → startNumber (getD edges k none .desks) (getD edges k none .file) ≡ getD edges k none .number
+pub edge : (k : ℕ) → k < length edges → startNumber (getD edges k none .processors) (getD edges k none .file) ≡ getD edges k none .number
 edge k h =
-    eqb-true (startNumber (getD edges k none .desks) (getD edges k none .file)) (getD edges k none .number) (every-at edgeHolds edges k none h all-start)
+    eqb-true (startNumber (getD edges k none .processors) (getD edges k none .file)) (getD edges k none .number) (every-at edgeHolds edges k none h all-start)
 
 abbrev unwritten : WriteEdge
 unwritten = record { plan = []; before = []; number = 2; size = 0; after = [] }

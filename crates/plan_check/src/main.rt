@@ -4,7 +4,7 @@ use libc::STDIN_FILENO;
 use libc::STDOUT_FILENO;
 
 // A first byte that is no digit counts as 0 desks.
-fn desks() -> u32 {
+fn processors() -> u32 {
     let mut first = [0u8; 1];
     let got = libc::read(STDIN_FILENO, &mut first);
     if got < 1 {
@@ -33,7 +33,7 @@ fn say(number: u32) {
 // A missing file counts as empty. The buffer is longer than any accepted file, of 16,644 bytes, so
 // that a longer one is refused and not cut.
 fn main() {
-    let n = desks();
+    let n = processors();
     let mut plan = io::large_buffer();
     let fd = os::open_read(b"rig.plan");
     if fd < 0 {

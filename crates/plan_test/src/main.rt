@@ -66,8 +66,8 @@ fn comes_back(file: &[u8], out: &mut [u8]) -> bool {
     p.tasks == q.tasks
 }
 
-fn compare(desks: u8, file: &[u8], output: &[u8], out: &mut [u8]) -> Compared {
-    let number = driver::mortarsedge_plan_check(desks as u32, file);
+fn compare(processors: u8, file: &[u8], output: &[u8], out: &mut [u8]) -> Compared {
+    let number = driver::mortarsedge_plan_check(processors as u32, file);
     let agrees = number == expected(output);
     if number != 0 {
         return Compared {
@@ -143,8 +143,8 @@ fn compare_all(file: &[u8], out: &mut [u8]) -> Tally {
         if file.len() < next {
             return t;
         }
-        let desks = byte_at(file, at);
-        let c = compare(desks, &file[plan..steps], &file[output..next], out);
+        let processors = byte_at(file, at);
+        let c = compare(processors, &file[plan..steps], &file[output..next], out);
         t = t.with(c);
         at = next;
     }

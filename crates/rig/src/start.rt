@@ -5,7 +5,7 @@ ghost use lib.ListN.{replicate};
 ghost use Rattle.plan.specs.declared.PlanAnswer.the-variants.{Accepted};
 ghost use Rattle.plan.specs.Programs.{programs};
 ghost use Rattle.plan.specs.Refusals.{planAnswer};
-ghost use Rattle.rules.specs.Starts.{started, noLetters, noTables, noChannels};
+ghost use Rattle.rules.specs.Starts.{started, noMessages, noTables, noChannels};
 ghost use Rattle.rules.specs.Numbers.{processorId};
 ghost use Rattle.rules.specs.Tasks.{unborn, born};
 ghost use Rattle.plan_index.specs.ends.Derived.{endsOf};
@@ -63,8 +63,8 @@ pub fn start_tasks() -> [Task; 64]
 }
 
 // The mail without a letter.
-pub fn no_letters() -> Network
-    ensures { λ r. ⌜ r ≡ noLetters ⌝ }
+pub fn no_messages() -> Network
+    ensures { λ r. ⌜ r ≡ noMessages ⌝ }
 {
     let slot = Slot {
         message: Message::Empty,
@@ -156,7 +156,7 @@ pub fn start(processors: u8, p: Plan, e: Ends) -> System
     };
     let tasks = start_tasks();
     let channels = no_channels();
-    let network = no_letters();
+    let network = no_messages();
     System {
         processors: processors,
         plan: p,

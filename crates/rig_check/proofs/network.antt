@@ -1,2 +1,2 @@
 -- What the loop over the mail computes is what the definition asks.
-mod Mail
+mod Network

@@ -100,8 +100,8 @@ pub fn network_ok(n: u8, m: u8, x: Network) -> bool
     let mut i: usize = 0;
     while i < used {
         let s = x.slots[i];
-        let letter = s.message;
-        if !message_ok(n, m, letter) {
+        let message = s.message;
+        if !message_ok(n, m, message) {
             return false;
         }
         i += 1;

@@ -26,7 +26,7 @@ fn plan_ok(p: Plan) -> bool
 }
 
 // A number of desks.
-fn desks_ok(n: u8) -> bool
+fn processors_ok(n: u8) -> bool
     ensures { λ b. ⌜ b ≡ within 1 6 n ⌝ }
 {
     base::is_within(1, 6, n as usize)
@@ -75,7 +75,7 @@ pub fn system_ok(r: System) -> bool
     ensures { λ b. ⌜ b ≡ systemOk r ⌝ }
 {
     let n = r.processors;
-    if !desks_ok(n) {
+    if !processors_ok(n) {
         return false;
     }
     let p = r.plan;
@@ -87,8 +87,8 @@ pub fn system_ok(r: System) -> bool
     }
     let t = r.tables;
     let c = r.channels;
-    let mail = r.network;
+    let network = r.network;
     let kept = crate::tables::channel_entries_ok(n, c);
-    let rest = base::both(kept, crate::network::network_ok(n, p.tasks, mail));
+    let rest = base::both(kept, crate::network::network_ok(n, p.tasks, network));
     base::both(crate::tables::tables_ok(n, t), rest)
 }

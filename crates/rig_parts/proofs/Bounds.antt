@@ -6,18 +6,18 @@ use Prim.Native.Nat.{ℕ, _≤_}
 use Rattle.rules.specs.declared.task.Task.{Task}
 use Rattle.rules.specs.declared.message.Network.{Network}
 use Rattle.rules.specs.declared.system.Store.{Store}
-use Rattle.rules.specs.Networks.{letterAt}
+use Rattle.rules.specs.Networks.{messageAt}
 use Rattle.rules.specs.Sound.{messageOk}
-use Rattle.rules_sound.proofs.Mail.{letter-fine}
+use Rattle.rules_sound.proofs.Network.{message-fine}
 use Rattle.rules_sound.proofs.Sound.{sound}
 use Rattle.rig_parts.specs.Facts.{Facts}
 use Rattle.rig_parts.specs.Turns.{Rig}
 
 -- the letter at position q
-pub letter-ok : {f : Facts} {n : ℕ} {ts : List Task} {k : Network} {s : Store} (g : Rig f n ts k s) (q : ℕ) → 1 ≤ q → q ≤ k .used
-    → messageOk n (f .tasks) (letterAt k q) ≡ true
-letter-ok g q some there =
+pub message-ok : {f : Facts} {n : ℕ} {ts : List Task} {k : Network} {s : Store} (g : Rig f n ts k s) (q : ℕ) → 1 ≤ q → q ≤ k .used
+    → messageOk n (f .tasks) (messageAt k q) ≡ true
+message-ok g q some there =
     let p = g .parts in
     let r = p .system in
     rw (p .facts-of, p .processors, g .network)
-    (letter-fine (r .processors) (r .plan) (r .network) (p .shaped .slots) (sound r (p .shaped) (p .sound) .mail) q some (rw (g .network) at there))
+    (message-fine (r .processors) (r .plan) (r .network) (p .shaped .slots) (sound r (p .shaped) (p .sound) .network) q some (rw (g .network) at there))

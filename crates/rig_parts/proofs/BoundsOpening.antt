@@ -14,7 +14,7 @@ use Rattle.rules.specs.declared.rule.Site.{Site}
 use Rattle.rules.specs.declared.system.System.{System}
 use Rattle.rules.specs.declared.system.Store.{Store}
 use Rattle.rules.specs.Tasks.{isIn}
-use Rattle.rules.specs.Networks.{lettersOf}
+use Rattle.rules.specs.Networks.{messagesOf}
 use Rattle.rules.specs.Effects.{Effect}
 use Rattle.rules.specs.Deliver.{opened}
 use Rattle.rules.specs.Sound.{messageOk}
@@ -25,29 +25,29 @@ use Rattle.rules_sound.specs.Stands.{Whole}
 use Rattle.rules_sound.proofs.Deliveries.{open-fine}
 use Rattle.rig_parts.specs.Facts.{Facts, factsOf, PartsOf}
 use Rattle.rig_parts.specs.Fetches.{scopeOk}
-use Rattle.rig_parts.specs.Scopes.{letterScope}
-use Rattle.rig_parts.specs.Openings.{letterChange, openedIn}
+use Rattle.rig_parts.specs.Scopes.{messageScope}
+use Rattle.rig_parts.specs.Openings.{messageChange, openedIn}
 use Rattle.rig_parts.proofs.Effects.{effect-posting}
 use Rattle.rig_parts.proofs.Openings.{open-effect}
 use Rattle.rig_parts.proofs.BoundsParts.{rig-sound}
 use Rattle.rig_parts.proofs.BoundsVerdicts.{Placed}
-use Rattle.rig_parts.proofs.BoundsLetter.{letter-reached}
+use Rattle.rig_parts.proofs.BoundsMessage.{message-reached}
 
 -- a letter changes its scope, and an arrival is at the desk of the scope
-letter-placed : (senders receivers parents : List ℕ) (m : Message) (x : Site)
-    → let k = letterScope senders receivers parents m in
-    scopeOk k ≡ true → within 1 6 (k .processor .0) ≡ true → Placed (letterChange k m x)
-letter-placed senders receivers parents Empty x ok d = (ok, refl)
-letter-placed senders receivers parents (Offered c o h) x ok d = (ok, refl)
-letter-placed senders receivers parents (Advert c e from) x ok d = (ok, refl)
-letter-placed senders receivers parents (ReadyToReceive c e h) x ok d = (ok, refl)
-letter-placed senders receivers parents (Data c e w) x ok d = (ok, refl)
-letter-placed senders receivers parents (Terminated e t) x ok d = (ok, refl)
-letter-placed senders receivers parents (Migration e t) x ok d = pick-either Placed (isIn Moving (x .sender)) _ _ (ok, d) (ok, refl)
+message-placed : (senders receivers parents : List ℕ) (m : Message) (x : Site)
+    → let k = messageScope senders receivers parents m in
+    scopeOk k ≡ true → within 1 6 (k .processor .0) ≡ true → Placed (messageChange k m x)
+message-placed senders receivers parents Empty x ok d = (ok, refl)
+message-placed senders receivers parents (Offered c o h) x ok d = (ok, refl)
+message-placed senders receivers parents (Advert c e from) x ok d = (ok, refl)
+message-placed senders receivers parents (ReadyToReceive c e h) x ok d = (ok, refl)
+message-placed senders receivers parents (Data c e w) x ok d = (ok, refl)
+message-placed senders receivers parents (Terminated e t) x ok d = (ok, refl)
+message-placed senders receivers parents (Migration e t) x ok d = pick-either Placed (isIn Moving (x .sender)) _ _ (ok, d) (ok, refl)
 
 -- it posts at most one letter
 opened-few : (r : System) → Shaped r → Sound r → (m : Message) → messageOk (r .processors) (r .plan .tasks) m ≡ true
-    → length (lettersOf (r .processors) (openedIn (factsOf (r .plan)) (r .tasks) (storeIn r) m .outcome .posting)) ≤ 1
+    → length (messagesOf (r .processors) (openedIn (factsOf (r .plan)) (r .tasks) (storeIn r) m .outcome .posting)) ≤ 1
 opened-few r z f m o =
     let k = openedIn (factsOf (r .plan)) (r .tasks) (storeIn r) m in
     let whole : Whole r = record { processors = refl; plan = refl; network = refl; shaped = z; holds = f .rig } in
@@ -58,10 +58,10 @@ module _ {f : Facts} {n : ℕ} {ts : List Task} {s : Store} {used : ℕ} (p : Pa
   opened-placed : Placed (openedIn f ts s m)
   unfolding openedIn
   opened-placed =
-      let h = letter-reached p m o in
-      letter-placed (f .senders) (f .receivers) (f .parents) m _ (h .ok) (h .desk)
+      let h = message-reached p m o in
+      message-placed (f .senders) (f .receivers) (f .parents) m _ (h .ok) (h .processor)
 
-  letters-few : length (lettersOf n (openedIn f ts s m .outcome .posting)) ≤ 1
-  letters-few =
+  messages-few : length (messagesOf n (openedIn f ts s m .outcome .posting)) ≤ 1
+  messages-few =
       rw (p .facts-of, p .processors, p .tasks, p .store)
       (opened-few (p .system) (p .shaped) (rig-sound p) m (rw (p .facts-of, p .processors) at o))

@@ -48,7 +48,7 @@ module _ {f : Facts} {n : ℕ} {ts : List Task} {s : Store} {used : ℕ} (p : Pa
   count-few = rw (p .facts-of) (tasks-few (p .system .processors) (p .system .plan) (rig-sound .frame))
 
   pub used-few : used ≤ 256
-  used-few = rw (p .letters) (rig-sound .mail .used)
+  used-few = rw (p .messages) (rig-sound .network .used)
 
   pub processors-few : n ≤ 6
   processors-few = rw (p .processors) (rig-sound .frame .few)

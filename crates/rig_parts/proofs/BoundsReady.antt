@@ -77,8 +77,8 @@ module _ {f : Facts} {n : ℕ} {ts : List Task} {s : Store} {used : ℕ} (p : Pa
     pub place-last : taskIn ts t .pc ≤ 64
     place-last = omega (arith, ready-settled .place-few, program-in (p .system .processors) (p .system .plan) (rig-sound p .frame) t low high .few)
 
-    pub desk-in : within 1 6 (taskIn ts t .processor .0) ≡ true
-    desk-in = within-both 1 6 _ (ready-settled .desk) (omega (arith, ready-settled .desk-few, processors-few p))
+    pub processor-in : within 1 6 (taskIn ts t .processor .0) ≡ true
+    processor-in = within-both 1 6 _ (ready-settled .processor) (omega (arith, ready-settled .processor-few, processors-few p))
 
     pub instruction-ok : instructionOk (f .tasks) (nextAt f ts t) ≡ true
     instruction-ok =

@@ -23,7 +23,7 @@ use Rattle.rig_parts.specs.Facts.{Facts, PartsOf}
 use Rattle.rig_parts.specs.Scopes.{runScope}
 use Rattle.rig_parts.proofs.BoundsParts.{sender-few, receiver-few, parent-few}
 use Rattle.rig_parts.proofs.BoundsScope.{Reached, scope-reached}
-use Rattle.rig_parts.proofs.BoundsReady.{nextAt, desk-in, instruction-ok, child-few}
+use Rattle.rig_parts.proofs.BoundsReady.{nextAt, processor-in, instruction-ok, child-few}
 
 module _ {f : Facts} {n : ℕ} {ts : List Task} {s : Store} {used : ℕ} (p : PartsOf f n ts s used) (t : TaskId)
     (w : within 1 (f .tasks) (t .0) ≡ true) (ready : isIn Ready (taskIn ts t) ≡ true) where
@@ -38,21 +38,21 @@ module _ {f : Facts} {n : ℕ} {ts : List Task} {s : Store} {used : ℕ} (p : Pa
   unfolding runScope
   run-reached =
       let high = within-high 1 (f .tasks) (t .0) w in
-      let desk = desk-in p t w ready in
+      let processor = processor-in p t w ready in
       let fine = instruction-ok p t w ready in
       pick-cases (Reached ts s) (eqb (next .opcode) opCreate) _ _
-      (λ k. scope-reached p _ high (child-few p t w ready k) (omega arith) desk)
+      (λ k. scope-reached p _ high (child-few p t w ready k) (omega arith) processor)
       (λ e.
       pick-cases (Reached ts s) (eqb (next .opcode) opFinish) _ _
-      (λ k. scope-reached p _ (parent-few p (t .0)) high (omega arith) desk)
+      (λ k. scope-reached p _ (parent-few p (t .0)) high (omega arith) processor)
       (λ e.
       pick-cases (Reached ts s) (eqb (next .opcode) opSend) _ _
       (λ k.
       let c = within-high 1 128 (next .operand) (send-operand (f .tasks) next fine (eqb-true (next .opcode) opSend k)) in
-      scope-reached p _ high (receiver-few p (next .operand)) c desk)
+      scope-reached p _ high (receiver-few p (next .operand)) c processor)
       (λ e.
       pick-cases (Reached ts s) (eqb (next .opcode) opReceive) _ _
       (λ k.
       let c = within-high 1 128 (next .operand) (receive-operand (f .tasks) next fine (eqb-true (next .opcode) opReceive k)) in
-      scope-reached p _ (sender-few p (next .operand)) high c desk)
-      (λ e. scope-reached p _ high (omega arith) (omega arith) desk))))
+      scope-reached p _ (sender-few p (next .operand)) high c processor)
+      (λ e. scope-reached p _ high (omega arith) (omega arith) processor))))

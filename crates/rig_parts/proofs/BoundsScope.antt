@@ -19,7 +19,7 @@ use Rattle.rig_parts.proofs.BoundsParts.{rig-sound, count-few, place-fe
 
 pub record Reached (ts : List Task) (s : Store) (k : Scope) : Type 0 where
   pub ok : scopeOk k ≡ true
-  pub desk : within 1 6 (k .processor .0) ≡ true
+  pub processor : within 1 6 (k .processor .0) ≡ true
   pub sender : k .sender .0 ≤ 64
   pub sender-place : taskIn ts (k .sender) .pc ≤ 65
   pub receiver-place : taskIn ts (k .receiver) .pc ≤ 65
@@ -42,7 +42,7 @@ module _ {f : Facts} {n : ℕ} {ts : List Task} {s : Store} {used : ℕ} (p : Pa
       let few = count-few p in
       record {
         ok = simp (le-leb (k .sender .0) 64 (omega arith), le-leb (k .receiver .0) 64 (omega arith), le-leb (k .channel .0) 128 ch, d, or-true);
-        desk = d;
+        processor = d;
         sender = omega arith;
         sender-place = place-few p (k .sender) sh;
         receiver-place = place-few p (k .receiver) uh;

@@ -22,7 +22,7 @@ use Rattle.rules.specs.declared.step.StepAnswer.the-variants.{Accepted as Unref
 use Rattle.rules.specs.declared.system.Store.{Store}
 use Rattle.rules.specs.Answers.{isAccepted}
 use Rattle.rules.specs.Tasks.{isIn}
-use Rattle.rules.specs.Networks.{lettersOf}
+use Rattle.rules.specs.Networks.{messagesOf}
 use Rattle.rules.specs.Systems.{taskIn}
 use Rattle.rig_parts.specs.Sweeps.{sweepOk}
 use Rattle.rig_parts.specs.declared.change.Scope.{Scope}
@@ -39,7 +39,7 @@ use Rattle.rig_parts.specs.Feasible.{verdictOk}
 use Rattle.rig_parts.proofs.Answers.{fitting-answer, passed}
 use Rattle.rig_parts.proofs.Passed.{run-passed, move-passed}
 use Rattle.rig_parts.proofs.BoundsScope.{scope-reached}
-use Rattle.rig_parts.proofs.BoundsReady.{nextAt, desk-in}
+use Rattle.rig_parts.proofs.BoundsReady.{nextAt, processor-in}
 use Rattle.rig_parts.proofs.BoundsRun.{run-reached}
 
 -- about tasks and channels, and at a desk
@@ -53,7 +53,7 @@ module _ (n used : ℕ) where
 
   fitting-ok : (k : Change) → Placed k → verdictOk n used (fittingIn n used k) ≡ true
   fitting-ok k (a, b) =
-      let ok = leb (used + length (lettersOf n (k .outcome .posting))) 256 in
+      let ok = leb (used + length (messagesOf n (k .outcome .posting))) 256 in
       rw (fitting-answer k ok) (answered-ok (unless ok NetworkFull Unrefused) (Accepted k) (λ e. simp (a, b, passed ok NetworkFull Unrefused refl e .0)))
 
 -- an instruction changes its scope, and a birth is at the desk of the creating task
@@ -61,9 +61,9 @@ run-placed : (k : Scope) (t : TaskId) (i : Instruction) (w : ℕ) (x : Site) →
     → (eqb (i .opcode) opCreate ≡ true → within 1 6 (x .sender .processor .0) ≡ true)
     → Placed (runChange k t i w x)
 unfolding runChange
-run-placed k t i w x ok desk =
+run-placed k t i w x ok processor =
     let is : ℕ → Bool = eqb (i .opcode) in
-    pick-cases Placed (is opCreate) _ _ (λ e. (ok, desk e))
+    pick-cases Placed (is opCreate) _ _ (λ e. (ok, processor e))
     (λ e.
     pick-either Placed (is opSync) _ _ (ok, refl)
     (pick-either Placed (is opFinish) _ _ (ok, refl)
@@ -77,7 +77,7 @@ module _ {f : Facts} {n : ℕ} {ts : List Task} {s : Store} {used : ℕ} (p : Pa
   unfolding ranIn siteIn runScope
   ran-placed w ready =
       let i = nextAt f ts t in
-      run-placed _ t i _ _ (run-reached p t w ready .ok) (λ e. rw (eqb-true (i .opcode) opCreate e) (desk-in p t w ready))
+      run-placed _ t i _ _ (run-reached p t w ready .ok) (λ e. rw (eqb-true (i .opcode) opCreate e) (processor-in p t w ready))
 
   pub run-feasible : verdictOk n used (judgedRun f n ts s used t) ≡ true
   unfolding judgedRun
@@ -93,6 +93,6 @@ module _ {f : Facts} {n : ℕ} {ts : List Task} {s : Store} {used : ℕ} (p : Pa
       answered-ok n used (moveRefusal (f .tasks) n ts used t e) (Accepted (moveChange t x e))
       (λ a.
       let q = move-passed (f .tasks) n ts used t e a in
-      let desk = desk-in p t (q .task) (q .ready) in
-      let ok = scope-reached p (alone t (x .processor)) (within-high 1 (f .tasks) (t .0) (q .task)) (omega arith) (omega arith) desk .ok in
-      simp (ok, desk, q .fitting))
+      let processor = processor-in p t (q .task) (q .ready) in
+      let ok = scope-reached p (alone t (x .processor)) (within-high 1 (f .tasks) (t .0) (q .task)) (omega arith) (omega arith) processor .ok in
+      simp (ok, processor, q .fitting))

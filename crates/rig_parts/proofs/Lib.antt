@@ -26,5 +26,5 @@ pub mod BoundsScope
 pub mod BoundsReady
 pub mod BoundsRun
 pub mod BoundsVerdicts
-pub mod BoundsLetter
+pub mod BoundsMessage
 pub mod BoundsOpening

@@ -12,12 +12,12 @@ use Rattle.plan.specs.declared.ProcessorId.{ProcessorId}
 use Rattle.rules.specs.declared.task.Task.{Task}
 use Rattle.rules.specs.declared.task.TaskState.the-variants.{Ready}
 use Rattle.rules.specs.declared.message.Message.the-variants.{Migration}
-use Rattle.rules.specs.declared.rule.Posting.the-variants.{Letter}
+use Rattle.rules.specs.declared.rule.Posting.the-variants.{Single}
 use Rattle.rules.specs.declared.step.StepAnswer.the-variants.{Accepted, NoTask, NotReady, NetworkFull, NoProcessor, AlreadyThere, MoveWithChildren, MovesSpent}
 use Rattle.rules.specs.Numbers.{mostMoves}
 use Rattle.rules.specs.Answers.{isAccepted}
 use Rattle.rules.specs.Tasks.{isIn, isAt, isChildless}
-use Rattle.rules.specs.Networks.{lettersOf}
+use Rattle.rules.specs.Networks.{messagesOf}
 use Rattle.rules.specs.Systems.{taskIn}
 use Rattle.rig_parts.specs.RunVerdicts.{runRefusal}
 use Rattle.rig_parts.specs.MoveVerdicts.{moveRefusal}
@@ -35,10 +35,10 @@ run-passed opcodes operands m ts t h =
 -- a move of task t, with record x, to desk e
 pub record MovePassed (m n used : ℕ) (t : TaskId) (e : ProcessorId) (x : Task) : Type 0 where
   pub task : within 1 m (t .0) ≡ true
-  pub desk : within 1 n (e .0) ≡ true
+  pub processor : within 1 n (e .0) ≡ true
   pub ready : isIn Ready x ≡ true
   pub unspent : (x .moves ≡ mostMoves) → ⊥
-  pub fitting : leb (used + length (lettersOf n (Letter (Migration e t)))) 256 ≡ true
+  pub fitting : leb (used + length (messagesOf n (Single (Migration e t)))) 256 ≡ true
 
 pub move-passed : (m n : ℕ) (ts : List Task) (used : ℕ) (t : TaskId) (e : ProcessorId) → isAccepted (moveRefusal m n ts used t e) ≡ true
     → MovePassed m n used t e (taskIn ts t)
@@ -51,5 +51,5 @@ move-passed m n ts used t e h =
     let (_, h₄) = passed (not (isAt e x)) AlreadyThere _ refl h₃ in
     let (_, h₅) = passed (isChildless x) MoveWithChildren _ refl h₄ in
     let (s, h₆) = passed (not (eqb (x .moves) mostMoves)) MovesSpent _ refl h₅ in
-    let (f, _) = passed (leb (used + length (lettersOf n (Letter (Migration e t)))) 256) NetworkFull Accepted refl h₆ in
-    record { task = a; desk = b; ready = r; unspent = eqb-false (x .moves) mostMoves (not-true _ s); fitting = f }
+    let (f, _) = passed (leb (used + length (messagesOf n (Single (Migration e t)))) 256) NetworkFull Accepted refl h₆ in
+    record { task = a; processor = b; ready = r; unspent = eqb-false (x .moves) mostMoves (not-true _ s); fitting = f }

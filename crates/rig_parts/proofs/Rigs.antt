@@ -25,7 +25,7 @@ use Rattle.rig_parts.proofs.Turning.{turn-is}
 -- a rig's own parts
 abbrev pub own-parts : (r : System) → Shaped r → systemOk r ≡ true → Rig (factsOf (r .plan)) (r .processors) (r .tasks) (r .network) (storeIn r)
 own-parts r z o =
-    record { parts = record { system = r; shaped = z; sound = o; facts-of = refl; processors = refl; tasks = refl; store = refl; letters = refl }; network = refl }
+    record { parts = record { system = r; shaped = z; sound = o; facts-of = refl; processors = refl; tasks = refl; store = refl; messages = refl }; network = refl }
 
 -- rest and a step of parts that are those of rig r
 module _ {f : Facts} {n : ℕ} {ts : List Task} {k : Network} {s : Store} (r : System) (z : Shaped r) (o : systemOk r ≡ true)
@@ -53,7 +53,7 @@ module _ {f : Facts} {n : ℕ} {ts : List Task} {k : Network} {s : Store} (g : R
         let p = g .parts in
         let r = rig-system in
         let stepped = ruled-step r x (p .sound) in
-        let mail = ap (λ (t : Turn). t .network) rig-turn in
+        let network = ap (λ (t : Turn). t .network) rig-turn in
         record {
           parts =
               record {
@@ -64,9 +64,9 @@ module _ {f : Facts} {n : ℕ} {ts : List Task} {k : Network} {s : Store} (g : R
                 processors = p .processors ∙ rw (stepped, step-processors r x) refl;
                 tasks = ap (λ (t : Turn). t .tasks) rig-turn;
                 store = ap (λ (t : Turn). t .store) rig-turn;
-                letters = ap (λ (q : Network). q .used) mail;
+                messages = ap (λ (q : Network). q .used) network;
               };
-          network = mail;
+          network = network;
         }
 
     pub rig-next-system : rig-next .parts .system ≡ ruledStep rig-system x .system

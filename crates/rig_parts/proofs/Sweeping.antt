@@ -51,5 +51,5 @@ module _ (rule : Cell → Cell) (d : ProcessorId) where
       ∙ sym (cells-suc n other s)
 
 -- a desk of a rig
-pub at-desk : {n : ℕ} → within 1 6 n ≡ true → (1 ≤ n) × (n ≤ 6)
-at-desk {n} h = (within-low 1 6 n h, within-high 1 6 n h)
+pub at-processor : {n : ℕ} → within 1 6 n ≡ true → (1 ≤ n) × (n ≤ 6)
+at-processor {n} h = (within-low 1 6 n h, within-high 1 6 n h)

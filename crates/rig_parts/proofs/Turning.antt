@@ -8,7 +8,7 @@ use Rattle.rules.specs.declared.step.Step.{Step}
 use Rattle.rules.specs.declared.step.StepAnswer.the-variants.{Accepted, NoMessage, BadStep}
 use Rattle.rules.specs.declared.system.System.{System}
 use Rattle.rules.specs.Numbers.{taskId, processorId}
-use Rattle.rules.specs.Networks.{letterAt, dequeued}
+use Rattle.rules.specs.Networks.{messageAt, dequeued}
 use Rattle.rules.specs.Systems.{taskAt, withNetwork, storeIn}
 use Rattle.rules.specs.Effects.{Effect}
 use Rattle.rules.specs.Runs.{nextOf, runAnswer}
@@ -79,14 +79,14 @@ module _ (r : System) (z : Shaped r) (f : Sound r) (x : Step) where
     where
       go : (b : Bool) → within 1 (r .network .used) (x .number) ≡ b
           → unless b (refusedTurn NoMessage (r .tasks) (r .network) (storeIn r))
-          (carriedIn (withNetwork r (dequeued (r .network) (x .number))) (openedIn (factsOf (r .plan)) (r .tasks) (storeIn r) (letterAt (r .network) (x .number))))
+          (carriedIn (withNetwork r (dequeued (r .network) (x .number))) (openedIn (factsOf (r .plan)) (r .tasks) (storeIn r) (messageAt (r .network) (x .number))))
           ≡ partsOf (answered r x (unless b NoMessage Accepted))
       go true e =
           let p = x .number in
           let used = r .network .used in
           let q = withNetwork r (dequeued (r .network) p) in
           let same = performed-deliver r x kind ∙ deliver-effect r z f p (within-low 1 used p e) (within-high 1 used p e) in
-          carried-is q (openedIn (factsOf (r .plan)) (r .tasks) (storeIn r) (letterAt (r .network) p)) ∙ ap (λ (o : Effect). partsOf (accepted o)) (sym same)
+          carried-is q (openedIn (factsOf (r .plan)) (r .tasks) (storeIn r) (messageAt (r .network) p)) ∙ ap (λ (o : Effect). partsOf (accepted o)) (sym same)
       go false e = refl
 
   kinds-turn : turnOf (factsOf (r .plan)) (r .processors) (r .tasks) (r .network) (storeIn r) x ≡ partsOf (ruledStep r x)

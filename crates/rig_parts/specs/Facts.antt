@@ -37,4 +37,4 @@ pub record PartsOf (f : Facts) (n : ℕ) (ts : List Task) (s : Store) (used : �
   pub processors : n ≡ system .processors
   pub tasks : ts ≡ system .tasks
   pub store : s ≡ storeIn system
-  pub letters : used ≡ system .network .used
+  pub messages : used ≡ system .network .used

@@ -9,7 +9,7 @@ use Rattle.plan.specs.declared.ProcessorId.{ProcessorId}
 use Rattle.rules.specs.declared.task.Task.{Task}
 use Rattle.rules.specs.declared.task.TaskState.the-variants.{Ready}
 use Rattle.rules.specs.declared.message.Message.the-variants.{Migration}
-use Rattle.rules.specs.declared.rule.Posting.the-variants.{Letter}
+use Rattle.rules.specs.declared.rule.Posting.the-variants.{Single}
 use Rattle.rules.specs.declared.rule.Received.the-variants.{Nothing as NoWord}
 use Rattle.rules.specs.declared.step.StepAnswer.{StepAnswer}
 use Rattle.rules.specs.Numbers.{mostMoves}
@@ -30,7 +30,7 @@ use Rattle.rig_parts.specs.RunVerdicts.{change}
 abbrev pub moveChange : TaskId → Task → ProcessorId → Change
 moveChange t x e =
     change (alone t (x .processor))
-    (record { sender = departed x; receiver = noTask; cell = noCell; posting = Letter (Migration e t); received = NoWord })
+    (record { sender = departed x; receiver = noTask; cell = noCell; posting = Single (Migration e t); received = NoWord })
     (Departure t (x .processor) (hint e (x .moves + 1)))
 
 -- a ready task has a count that is not over the limit
@@ -39,7 +39,7 @@ readyCounts m ts t = within 1 m (t .0) ≡ true → isIn Ready (taskIn ts t) ≡
 
 -- the tests of a move in their order, of so many tasks, desks and letters
 unfoldable pub moveRefusal : ℕ → ℕ → List Task → ℕ → TaskId → ProcessorId → StepAnswer
-moveRefusal m n ts used t e = moveTests m n t (taskIn ts t) e (fitsIn n (Letter (Migration e t)) used)
+moveRefusal m n ts used t e = moveTests m n t (taskIn ts t) e (fitsIn n (Single (Migration e t)) used)
 
 -- the departure, where they refuse nothing
 unfoldable pub judgedMove : ℕ → ℕ → List Task → ℕ → TaskId → ProcessorId → Verdict

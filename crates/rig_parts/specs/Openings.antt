@@ -14,13 +14,13 @@ use Rattle.rules.specs.Tasks.{isIn, arrived}
 use Rattle.rules.specs.Offers.{offerRule, advertRule}
 use Rattle.rules.specs.Calls.{callRule, dataRule}
 use Rattle.rules.specs.Arrivals.{terminatedRule}
-use Rattle.channel_rules.specs.messages.Letters.{childOf}
+use Rattle.channel_rules.specs.messages.Messages.{childOf}
 use Rattle.rig_parts.specs.declared.sweep.Sweep.the-variants.{Nothing, Arrival}
 use Rattle.rig_parts.specs.declared.change.Scope.{Scope}
 use Rattle.rig_parts.specs.declared.change.Change.{Change}
 use Rattle.rig_parts.specs.Facts.{Facts}
 use Rattle.rig_parts.specs.Fetches.{siteIn}
-use Rattle.rig_parts.specs.Scopes.{letterScope}
+use Rattle.rig_parts.specs.Scopes.{messageScope}
 use Rattle.rig_parts.specs.RunVerdicts.{change, taskChange}
 
 -- what a letter supposes of a site: numbers that can go on
@@ -29,18 +29,18 @@ pub record OpenableAt (m : Message) (x : Site) : Type 0 where
   pub child : within 1 64 (childOf m) ≡ true
 
 -- at a site
-abbrev pub letterChange : Scope → Message → Site → Change
-letterChange k Empty x = taskChange k x (x .sender)
-letterChange k (Offered c o h) x = change k (offerRule x c o h) Nothing
-letterChange k (Advert c d from) x = change k (advertRule x c d from) Nothing
-letterChange k (ReadyToReceive c d h) x = change k (callRule x c d h) Nothing
-letterChange k (Data c d w) x = change k (dataRule x c d w) Nothing
-letterChange k (Terminated d t) x = taskChange k x (terminatedRule (x .sender) d t)
-letterChange k (Migration d t) x =
+abbrev pub messageChange : Scope → Message → Site → Change
+messageChange k Empty x = taskChange k x (x .sender)
+messageChange k (Offered c o h) x = change k (offerRule x c o h) Nothing
+messageChange k (Advert c d from) x = change k (advertRule x c d from) Nothing
+messageChange k (ReadyToReceive c d h) x = change k (callRule x c d h) Nothing
+messageChange k (Data c d w) x = change k (dataRule x c d w) Nothing
+messageChange k (Terminated d t) x = taskChange k x (terminatedRule (x .sender) d t)
+messageChange k (Migration d t) x =
     pick (isIn Moving (x .sender)) (record { scope = k; outcome = taskChange k x (arrived (x .sender) d) .outcome; sweep = Arrival t d (x .sender .moves) })
     (taskChange k x (x .sender))
 
 unfoldable pub openedIn : Facts → List Task → Store → Message → Change
 openedIn f ts s m =
-    let k = letterScope (f .senders) (f .receivers) (f .parents) m in
-    letterChange k m (siteIn (f .operands) ts s k)
+    let k = messageScope (f .senders) (f .receivers) (f .parents) m in
+    messageChange k m (siteIn (f .operands) ts s k)

@@ -40,14 +40,14 @@ abbrev pub channelScope : List ℕ → List ℕ → ChannelId → ProcessorId �
 channelScope senders receivers c d = scope (namedIn senders (c .0)) (namedIn receivers (c .0)) c d
 
 -- a letter
-abbrev pub letterScope : List ℕ → List ℕ → List ℕ → Message → Scope
-letterScope senders receivers parents Empty = alone (taskId 0) noProcessor
-letterScope senders receivers parents (Offered c o h) = channelScope senders receivers c (h .processor)
-letterScope senders receivers parents (Advert c d from) = channelScope senders receivers c d
-letterScope senders receivers parents (ReadyToReceive c d h) = channelScope senders receivers c d
-letterScope senders receivers parents (Data c d w) = channelScope senders receivers c d
-letterScope senders receivers parents (Terminated d t) = alone (namedIn parents (t .0)) d
-letterScope senders receivers parents (Migration d t) = alone t d
+abbrev pub messageScope : List ℕ → List ℕ → List ℕ → Message → Scope
+messageScope senders receivers parents Empty = alone (taskId 0) noProcessor
+messageScope senders receivers parents (Offered c o h) = channelScope senders receivers c (h .processor)
+messageScope senders receivers parents (Advert c d from) = channelScope senders receivers c d
+messageScope senders receivers parents (ReadyToReceive c d h) = channelScope senders receivers c d
+messageScope senders receivers parents (Data c d w) = channelScope senders receivers c d
+messageScope senders receivers parents (Terminated d t) = alone (namedIn parents (t .0)) d
+messageScope senders receivers parents (Migration d t) = alone t d
 
 -- an instruction whose argument is a number of a task or a channel has one up to 128
 abbrev pub argumentOk : Instruction → Bool

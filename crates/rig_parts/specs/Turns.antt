@@ -13,7 +13,7 @@ use Rattle.rules.specs.declared.step.Report.{Report}
 use Rattle.rules.specs.declared.step.Stepped.{Stepped}
 use Rattle.rules.specs.declared.system.Store.{Store}
 use Rattle.rules.specs.Numbers.{taskId, processorId}
-use Rattle.rules.specs.Networks.{letterAt, dequeued, posted}
+use Rattle.rules.specs.Networks.{messageAt, dequeued, posted}
 use Rattle.rules.specs.Steps.{byKind, wellFormed}
 use Rattle.rules.specs.Systems.{storeIn}
 use Rattle.rig_parts.specs.declared.turn.Turn.{Turn}
@@ -52,7 +52,7 @@ settled senders receivers n (Allowed x) ts k s = carriedOut senders receivers n 
 unfoldable pub deliveredTurn : Facts → ℕ → List Task → Network → Store → ℕ → Turn
 deliveredTurn f n ts k s p =
     unless (within 1 (k .used) p) (refusedTurn NoMessage ts k s)
-    (carriedOut (f .senders) (f .receivers) n (openedIn f ts s (letterAt k p)) ts (dequeued k p) s)
+    (carriedOut (f .senders) (f .receivers) n (openedIn f ts s (messageAt k p)) ts (dequeued k p) s)
 
 -- one step
 unfoldable pub turnOf : Facts → ℕ → List Task → Network → Store → Step → Turn

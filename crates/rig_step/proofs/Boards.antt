@@ -33,7 +33,7 @@ module _ (count : ℕ) (opcodes operands numbers senders receivers parents : Lis
 
   pub packed-rig : Rig given n ts k s → Whole board
       → RigWith opcodes operands numbers users (record { tasks = count; processors = n; used = k .used }) k (lentBy s board)
-  packed-rig g w = record { rig = rw (b .senders-of, b .receivers-of, b .parents-of, et, ec) g; letters = refl; whole = w; indexed = b .indexed }
+  packed-rig g w = record { rig = rw (b .senders-of, b .receivers-of, b .parents-of, et, ec) g; messages = refl; whole = w; indexed = b .indexed }
 
   -- a step there is a step on the parts
   turn-same : (x : Step) → turnOf (factsIn count opcodes operands numbers users) n (tasksOn board) k (storeOf (lentBy s board)) x ≡ turnOf given n ts k s x

@@ -6,7 +6,7 @@ use Rattle.rules.specs.declared.task.Task.{Task}
 use Rattle.rules.specs.declared.message.Network.{Network}
 use Rattle.rules.specs.declared.step.Step.{Step}
 use Rattle.rules.specs.declared.system.Store.{Store}
-use Rattle.rules.specs.Networks.{letterAt, dequeued}
+use Rattle.rules.specs.Networks.{messageAt, dequeued}
 use Rattle.rig_parts.specs.declared.change.Verdict.{Verdict}
 use Rattle.rig_parts.specs.declared.change.Verdict.the-variants.{Refused, Accepted}
 use Rattle.rig_parts.specs.Facts.{Facts, PartsOf}
@@ -21,7 +21,7 @@ use Rattle.board.specs.Rigs.{factsIn, RigOn}
 use Rattle.rig_step.specs.Rigs.{RigWith}
 use Rattle.board.specs.Acted.{actOf}
 use Rattle.board.specs.Verdicts.{stepVerdict}
-use Rattle.run.proofs.all_steps.Acting.{reportOf, other-turn, letter-turn}
+use Rattle.run.proofs.all_steps.Acting.{reportOf, other-turn, message-turn}
 
 settled-says : (ss rs : List ℕ) (n : ℕ) (v : Verdict) (ts : List Task) (k : Network) (s : Store) → reportOf (actOf v) ≡ settled ss rs n v ts k s .report
 unfolding carriedOut
@@ -37,17 +37,17 @@ module _ (f : Facts) (n : ℕ) (ts : List Task) (k : Network) (s : Store) (x : S
       ∙ ap (λ (t : Turn). t .report) (other-turn f n ts k s x none)
 
   -- a step that delivers the letter at position p
-  pub letter-says : (p : ℕ) → p ≡ positionOf (k .used) x → (p ≡ 0 → ⊥) → {r : Act} → r ≡ actOf (Accepted (openedIn f ts s (letterAt k p))) → reportOf r ≡ turnOf f n ts k s x .report
-  letter-says p at some e =
+  pub message-says : (p : ℕ) → p ≡ positionOf (k .used) x → (p ≡ 0 → ⊥) → {r : Act} → r ≡ actOf (Accepted (openedIn f ts s (messageAt k p))) → reportOf r ≡ turnOf f n ts k s x .report
+  message-says p at some e =
       ap reportOf e
-      ∙ settled-says (f .senders) (f .receivers) n (Accepted (openedIn f ts s (letterAt k p))) ts (dequeued k p) s
-      ∙ ap (λ (t : Turn). t .report) (letter-turn f n ts k s x p at some)
+      ∙ settled-says (f .senders) (f .receivers) n (Accepted (openedIn f ts s (messageAt k p))) ts (dequeued k p) s
+      ∙ ap (λ (t : Turn). t .report) (message-turn f n ts k s x p at some)
 
 -- what is lent is a rig, whatever its mail
 pub rig-on : {opcodes operands numbers users : List ℕ} {n : Size} {k : Network} {l : Lent} → RigWith opcodes operands numbers users n k l → RigOn opcodes operands numbers users n l
 rig-on {opcodes} {operands} {numbers} {users} {n} {k} {l} g =
     record {
       whole = g .whole;
-      parts = subst (λ (u : ℕ). PartsOf (factsIn (n .tasks) opcodes operands numbers users) (n .processors) (tasksOf l) (storeOf l) u) (sym (g .letters)) (g .rig .parts);
+      parts = subst (λ (u : ℕ). PartsOf (factsIn (n .tasks) opcodes operands numbers users) (n .processors) (tasksOf l) (storeOf l) u) (sym (g .messages)) (g .rig .parts);
       indexed = g .indexed;
     }

@@ -14,7 +14,7 @@ use Rattle.board.specs.Rigs.{factsIn}
 
 pub record RigWith (opcodes operands numbers users : List ℕ) (n : Size) (k : Network) (l : Lent) : Type 0 where
   pub rig : Rig (factsIn (n .tasks) opcodes operands numbers users) (n .processors) (tasksOf l) k (storeOf l)
-  pub letters : n .used ≡ k .used
+  pub messages : n .used ≡ k .used
   pub whole : Whole (l .board)
   pub indexed : Indexed users
 

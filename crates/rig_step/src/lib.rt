@@ -68,7 +68,7 @@ pub fn step(r: System, s: Step) -> Stepped
     );
     let report = t.report;
     let after = t.tasks;
-    let mail = t.network;
+    let network = t.network;
     let kept = t.store;
     let now_tables = kept.tables;
     let now_channels = kept.channels;
@@ -78,7 +78,7 @@ pub fn step(r: System, s: Step) -> Stepped
         tasks: after,
         tables: now_tables,
         channels: now_channels,
-        network: mail,
+        network: network,
     };
     Stepped {
         report: report,

@@ -22,7 +22,7 @@ use rules::system::Store;
 use rules::system::Tables;
 use rules::task::Task;
 use run::all_steps::run_steps;
-use steps::message::letter_decided;
+use steps::message::message_decided;
 use steps::step_decided;
 
 // A step as the four bytes of a step file.
@@ -63,7 +63,7 @@ fn decided<'a>(
     if p != 0 {
         let slot = network.slots[p - 1];
         let m = slot.message;
-        let r = letter_decided(
+        let r = message_decided(
             operands,
             users,
             hintprocessors,
@@ -159,7 +159,7 @@ pub fn turn<'a>(
     let steps = step_bytes(s);
     let mut out = [0u8; 1];
     let mut progress = [0usize; 2];
-    let mail = run_steps(
+    let network = run_steps(
         opcodes,
         operands,
         numbers,
@@ -192,7 +192,7 @@ pub fn turn<'a>(
     Turn {
         report: report,
         tasks: after,
-        network: mail,
+        network: network,
         store: kept,
     }
 }

@@ -18,7 +18,7 @@ use Rattle.rules.specs.Deliver.{gotTerminated, gotMigration, opened, del
 use Rattle.rules.specs.Effects.{completed, siteAt, withOutcome, forCells, forChannels}
 use Rattle.rules.specs.Local.{syncRule, finishRule}
 use Rattle.rules.specs.Moves.{moved, moveAnswer}
-use Rattle.rules.specs.Networks.{letters, letterAt, enqueued, enqueuedAll, dequeued, lettersOf}
+use Rattle.rules.specs.Networks.{messages, messageAt, enqueued, enqueuedAll, dequeued, messagesOf}
 use Rattle.rules.specs.Offers.{offerRule, advertRule}
 use Rattle.rules.specs.Places.{nextIn, lastIn, isOn, sendNumber}
 use Rattle.rules.specs.Receive.{receivePasses, receiveWaits, receiveRule}
@@ -35,5 +35,5 @@ use Rattle.rules.specs.Tasks.{woken}
 use Rattle.rules.specs.Trace.{digits, fields, stepLine, endLine, stepLines, refusedLine}
 
 unfoldable pub evaluated : Unit {0}
-unfolding sameBytes every everyPair any tableBefore table fold member inserted removed layoutOk filePrograms secondBytesOk fileAnswer startAnswer layout planRead writeAnswer writeOutput startNumber programs canonical sizesOk instructionOk instructionsOk finishOk finishesOk createsOk structureAnswer planAnswer users setWord addWord terminatedRule takenOver arrival callRule dataRule newer larger firstNoted gotTerminated gotMigration opened delivered deliverAnswer completed siteAt withOutcome forCells forChannels syncRule finishRule moved moveAnswer letters letterAt enqueued enqueuedAll dequeued lettersOf offerRule advertRule nextIn lastIn isOn sendNumber receivePasses receiveWaits receiveRule ranCreate ranFinish ranSend ranReceive executed ran fits runAnswer sameBool linesHold startOn historyHolds sendPasses sendWaits sendRule tablesOk messageOk networkOk unbornOk bornOk taskOk systemOk birth blank started fileSteps startOf traceLines text stepsOk runFileAnswer fitting runFileText runFileOutput printed wellFormed kindAnswer ruledAnswer stepAnswer performed answered step ruledStep quiescent stepsBy wordOn receivedOn taskIn taskStored withTask entryAt channelAt withCell woken digits fields stepLine endLine stepLines refusedLine channelEntriesOk channelsOk plain
+unfolding sameBytes every everyPair any tableBefore table fold member inserted removed layoutOk filePrograms secondBytesOk fileAnswer startAnswer layout planRead writeAnswer writeOutput startNumber programs canonical sizesOk instructionOk instructionsOk finishOk finishesOk createsOk structureAnswer planAnswer users setWord addWord terminatedRule takenOver arrival callRule dataRule newer larger firstNoted gotTerminated gotMigration opened delivered deliverAnswer completed siteAt withOutcome forCells forChannels syncRule finishRule moved moveAnswer messages messageAt enqueued enqueuedAll dequeued messagesOf offerRule advertRule nextIn lastIn isOn sendNumber receivePasses receiveWaits receiveRule ranCreate ranFinish ranSend ranReceive executed ran fits runAnswer sameBool linesHold startOn historyHolds sendPasses sendWaits sendRule tablesOk messageOk networkOk unbornOk bornOk taskOk systemOk birth blank started fileSteps startOf traceLines text stepsOk runFileAnswer fitting runFileText runFileOutput printed wellFormed kindAnswer ruledAnswer stepAnswer performed answered step ruledStep quiescent stepsBy wordOn receivedOn taskIn taskStored withTask entryAt channelAt withCell woken digits fields stepLine endLine stepLines refusedLine channelEntriesOk channelsOk plain
 evaluated = tt

@@ -13,7 +13,7 @@ pub mod SoundCases
 -- each way of a send and of a receive
 pub mod SendCases
 -- each way of an offer, an advert, a call and a word letter
-pub mod LetterCases
+pub mod MessageCases
 -- tasks, what is kept of two, births and moves, the mail
 pub mod TaskCases
 -- each refusal of a run, a delivery and a move, in their order where several hold; whole steps

@@ -67,11 +67,11 @@ refuses n s = record { step = s; fields = n ∷ [] }
 
 -- desks, a plan, its steps with their lines, whether the rig is at rest then, and its letters
 pub record Script : Type 0 where
-  pub desks : ℕ
+  pub processors : ℕ
   pub plan : Programs
   pub lines : List Line
   pub rest : Bool
-  pub letters : ℕ
+  pub messages : ℕ
 
 unfoldable pub sameBool : Bool → Bool → Bool
 sameBool true b = b
@@ -92,7 +92,7 @@ unfoldable pub historyHolds : Script → History → Bool
 historyHolds e h =
     linesHold (e .lines) (h .reports)
     && (sameBool (e .rest) (quiescent (h .system))
-    && eqb (e .letters) (h .system .network .used))
+    && eqb (e .messages) (h .system .network .used))
 
 abbrev pub scriptHolds : Script → Bool
-scriptHolds e = historyHolds e (ruledSteps (startOn (e .desks) (e .plan)) (map (λ l. l .step) (e .lines)))
+scriptHolds e = historyHolds e (ruledSteps (startOn (e .processors) (e .plan)) (map (λ l. l .step) (e .lines)))

@@ -23,8 +23,8 @@ use Rattle.rules.specs.Systems.{withNetwork, withTask}
 use Rattle.rules.specs.Starts.{blank}
 use Rattle.rules.proofs.Scripts.{finish}
 
-abbrev pub desk : ℕ → ProcessorId
-desk n = processorId n
+abbrev pub processor : ℕ → ProcessorId
+processor n = processorId n
 
 abbrev pub one : ChannelId
 one = channelId 1
@@ -42,10 +42,10 @@ empty =
 
 -- a sender at desk 1 with word 7, sending or ready; a receiver at desk d, with a move count of 3
 abbrev pub talker : Bool → Task
-talker sending = withState (withWord (born (desk 1)) seven) (pick sending Sending Ready)
+talker sending = withState (withWord (born (processor 1)) seven) (pick sending Sending Ready)
 
 abbrev pub listener : ℕ → Task
-listener d = withMoves (born (desk d)) 3
+listener d = withMoves (born (processor d)) 3
 
 -- the two, sending and receiving on the channel or not, and what is kept for it
 abbrev pub site : Bool → ℕ → Bool → Cell → Site
@@ -53,7 +53,7 @@ site sending d receiving x = record { sender = talker sending; receiver = listen
 
 -- a rig of n desks with plan m as at its start, but with no pointer
 unfoldable pub plain : ℕ → Programs → System
-plain n m = withTask (blank n (canonical m)) (taskId 1) (born (desk 1))
+plain n m = withTask (blank n (canonical m)) (taskId 1) (born (processor 1))
 
 -- two desks and one task, which finishes
 unfoldable pub small : System

@@ -137,9 +137,9 @@ channelsSamples =
     ∷ wrong (channels 65 noOffer unknown) ∷ wrong (channels 0 (offer (processorId 0) 1) unknown) ∷ wrong (channels 0 noOffer (hint (processorId 1) 0)) ∷ []
 
 -- a mover letter for task t and an unused slot, with a count of letters
-abbrev mail : ℕ → ℕ → Network
-mail t n = record { slots = slot (Migration (processorId 2) (taskId t)) ∷ noSlot ∷ []; used = n }
+abbrev network : ℕ → ℕ → Network
+network t n = record { slots = slot (Migration (processorId 2) (taskId t)) ∷ noSlot ∷ []; used = n }
 
 -- "256 letters in the mail"; only those in use are looked at
 unfoldable pub networkSamples : List (Sample Network)
-networkSamples = fine (mail 4 0) ∷ fine (mail 3 1) ∷ wrong (mail 4 1) ∷ wrong (mail 3 2) ∷ []
+networkSamples = fine (network 4 0) ∷ fine (network 3 1) ∷ wrong (network 4 1) ∷ wrong (network 3 2) ∷ []

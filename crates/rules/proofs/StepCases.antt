@@ -20,7 +20,7 @@ use Rattle.rules.specs.Answers.{stepNumber, runNumber}
 use Rattle.rules.specs.Tasks.{noTask, unborn, born, departed, arrived, advanced, withState, withProcessor, withPc, withMoves, withChild}
 use Rattle.rules.specs.Cells.{hint, offer, withHint, withHeld, withNoted, withGranted, withAwaiting, withCarried, withTravelling}
 use Rattle.rules.specs.Places.{nextIn, lastIn, isOn}
-use Rattle.rules.specs.Networks.{letters}
+use Rattle.rules.specs.Networks.{messages}
 use Rattle.rules.specs.Systems.{taskAt, withTask, cellAt, withCell}
 use Rattle.rules.specs.Runs.{runAnswer}
 use Rattle.rules.specs.Deliver.{deliverAnswer, gotTerminated}
@@ -29,7 +29,7 @@ use Rattle.rules.specs.Sound.{systemOk}
 use Rattle.rules.specs.Starts.{blank}
 use Rattle.rules.specs.Steps.{wellFormed, stepAnswer, ruledStep, ruledSteps, receivedOn}
 use Rattle.rules.proofs.Scripts.{create, sync, finish, send, set, add, raw, run, deliver, move}
-use Rattle.rules.proofs.Sites.{desk, one, seven, empty, plain, small, crowded}
+use Rattle.rules.proofs.Sites.{processor, one, seven, empty, plain, small, crowded}
 use Rattle.rules.proofs.SoundEdges.{program}
 use Rattle.rules.proofs.Evaluated.{evaluated}
 
@@ -45,18 +45,18 @@ run-numbers = refl
 unborn-task : unborn ≡ record { state = Unborn; processor = noProcessor; pc = 1; home = noProcessor; word = zeroWord; moves = 0; children = 0 }
 unborn-task = refl
 
-born-task : born (desk 2) ≡ record { state = Ready; processor = desk 2; pc = 1; home = desk 2; word = zeroWord; moves = 1; children = 0 }
+born-task : born (processor 2) ≡ record { state = Ready; processor = processor 2; pc = 1; home = processor 2; word = zeroWord; moves = 1; children = 0 }
 born-task = refl
 
-departed-task : departed (born (desk 2)) ≡ record { state = Moving; processor = noProcessor; pc = 1; home = desk 2; word = zeroWord; moves = 2; children = 0 }
+departed-task : departed (born (processor 2)) ≡ record { state = Moving; processor = noProcessor; pc = 1; home = processor 2; word = zeroWord; moves = 2; children = 0 }
 departed-task = refl
 
-arrived-task : arrived (departed (born (desk 2))) (desk 3) ≡ record { state = Ready; processor = desk 3; pc = 1; home = desk 2; word = zeroWord; moves = 2; children = 0 }
+arrived-task : arrived (departed (born (processor 2))) (processor 3) ≡ record { state = Ready; processor = processor 3; pc = 1; home = processor 2; word = zeroWord; moves = 2; children = 0 }
 arrived-task = refl
 
 -- a task that has executed the second of four instructions, a send on channel 1; one that has executed none
 abbrev talking : Task
-talking = withPc (withState (born (desk 1)) Sending) 3
+talking = withPc (withState (born (processor 1)) Sending) 3
 
 next-receives : nextIn program talking .operand ≡ 2
 unfolding evaluated
@@ -66,7 +66,7 @@ last-sends : lastIn program talking ≡ send 1
 unfolding evaluated
 last-sends = refl
 
-last-none : lastIn program (born (desk 1)) .opcode ≡ 0
+last-none : lastIn program (born (processor 1)) .opcode ≡ 0
 unfolding evaluated
 last-none = refl
 
@@ -87,13 +87,13 @@ no-task-read : taskAt small (taskId 0) ≡ noTask
 unfolding evaluated small
 no-task-read = refl
 
-no-task-written : withTask small (taskId 0) (born (desk 2)) ≡ small
+no-task-written : withTask small (taskId 0) (born (processor 2)) ≡ small
 unfolding evaluated small
 no-task-written = refl
 
 -- every field of a cell is read as it was written
-cell-read : cellAt (withCell small (desk 2) (channelId 3) (withTravelling (withCarried (withAwaiting (withGranted (withNoted (withHeld (withHint empty (hint (desk 1) 11)) (offer (desk 2) 12)) (desk 3)) 14) true) (offer (desk 4) 15)) (hint (desk 5) 16))) (desk 2) (channelId 3)
-    ≡ record { entry = record { hint = hint (desk 1) 11; held = offer (desk 2) 12; noted = desk 3 }; channel = record { granted = 14; awaiting = true; carried = offer (desk 4) 15; travelling = hint (desk 5) 16 } }
+cell-read : cellAt (withCell small (processor 2) (channelId 3) (withTravelling (withCarried (withAwaiting (withGranted (withNoted (withHeld (withHint empty (hint (processor 1) 11)) (offer (processor 2) 12)) (processor 3)) 14) true) (offer (processor 4) 15)) (hint (processor 5) 16))) (processor 2) (channelId 3)
+    ≡ record { entry = record { hint = hint (processor 1) 11; held = offer (processor 2) 12; noted = processor 3 }; channel = record { granted = 14; awaiting = true; carried = offer (processor 4) 15; travelling = hint (processor 5) 16 } }
 unfolding evaluated small
 cell-read = refl
 
@@ -107,7 +107,7 @@ with-second x = withTask family (taskId 2) x
 
 -- a record about to finish at desk 2, without and with its child; the same with its count spent
 abbrev ending : Task
-ending = withPc (withProcessor (born (desk 1)) (desk 2)) 2
+ending = withPc (withProcessor (born (processor 1)) (processor 2)) 2
 
 abbrev parting : Task
 parting = withChild ending (taskId 3)
@@ -154,35 +154,35 @@ unfolding evaluated small crowded
 deliver-behind = refl
 
 -- move: 10 before 15, 15 before 11, 11 before 16, 16 before 17, 17 before 18, 18 before 13, 13; a count of 9,998 moves
-move-of-none : moveAnswer family (taskId 4) (desk 3) ≡ NoTask
+move-of-none : moveAnswer family (taskId 4) (processor 3) ≡ NoTask
 unfolding evaluated family
 move-of-none = refl
 
-move-nowhere : moveAnswer family (taskId 2) (desk 3) ≡ NoProcessor
+move-nowhere : moveAnswer family (taskId 2) (processor 3) ≡ NoProcessor
 unfolding evaluated family
 move-nowhere = refl
 
-move-waiting : moveAnswer (with-second (withState parting Waiting)) (taskId 2) (desk 2) ≡ NotReady
+move-waiting : moveAnswer (with-second (withState parting Waiting)) (taskId 2) (processor 2) ≡ NotReady
 unfolding evaluated family
 move-waiting = refl
 
-move-there : moveAnswer (with-second (spent parting)) (taskId 2) (desk 2) ≡ AlreadyThere
+move-there : moveAnswer (with-second (spent parting)) (taskId 2) (processor 2) ≡ AlreadyThere
 unfolding evaluated family
 move-there = refl
 
-move-parting : moveAnswer (with-second (spent parting)) (taskId 2) (desk 1) ≡ MoveWithChildren
+move-parting : moveAnswer (with-second (spent parting)) (taskId 2) (processor 1) ≡ MoveWithChildren
 unfolding evaluated family
 move-parting = refl
 
-move-spent : moveAnswer (crowded 256 (with-second (spent ending))) (taskId 2) (desk 1) ≡ MovesSpent
+move-spent : moveAnswer (crowded 256 (with-second (spent ending))) (taskId 2) (processor 1) ≡ MovesSpent
 unfolding evaluated family crowded
 move-spent = refl
 
-move-full : moveAnswer (crowded 256 (with-second (withMoves ending 9998))) (taskId 2) (desk 1) ≡ NetworkFull
+move-full : moveAnswer (crowded 256 (with-second (withMoves ending 9998))) (taskId 2) (processor 1) ≡ NetworkFull
 unfolding evaluated family crowded
 move-full = refl
 
-move-last : moveAnswer (crowded 255 (with-second (withMoves ending 9998))) (taskId 2) (desk 1) ≡ Accepted
+move-last : moveAnswer (crowded 255 (with-second (withMoves ending 9998))) (taskId 2) (processor 1) ≡ Accepted
 unfolding evaluated family crowded
 move-last = refl
 
@@ -197,9 +197,9 @@ nine-first : stepAnswer (blank 7 (small .plan)) (raw 4 0 0) ≡ BadSystem
 unfolding evaluated small
 nine-first = refl
 
-no-desk : systemOk (blank 0 (small .plan)) ≡ false
+no-processor : systemOk (blank 0 (small .plan)) ≡ false
 unfolding evaluated small
-no-desk = refl
+no-processor = refl
 
 bad-plan : systemOk (blank 2 (canonical ((sync ∷ []) ∷ []))) ≡ false
 unfolding evaluated
@@ -214,11 +214,11 @@ refused-stays = refl
 abbrev begun : System
 begun = ruledSteps family (run 1 ∷ run 1 ∷ run 1 ∷ []) .system
 
-begun-parent : taskAt begun (taskId 1) ≡ withPc (withChild (record { state = Ready; processor = desk 1; pc = 1; home = desk 1; word = seven; moves = 1; children = 0 }) (taskId 2)) 4
+begun-parent : taskAt begun (taskId 1) ≡ withPc (withChild (record { state = Ready; processor = processor 1; pc = 1; home = processor 1; word = seven; moves = 1; children = 0 }) (taskId 2)) 4
 unfolding evaluated family
 begun-parent = refl
 
-begun-child : taskAt begun (taskId 2) ≡ born (desk 1)
+begun-child : taskAt begun (taskId 2) ≡ born (processor 1)
 unfolding evaluated family
 begun-child = refl
 
@@ -227,16 +227,16 @@ unfolding evaluated family
 begun-unborn = refl
 
 -- a finish away from its parent posts its letter; so does a move; a delivery takes it from the mail
-posted : letters (ruledSteps (with-second ending) (run 2 ∷ move 1 2 ∷ []) .system .network) ≡ Terminated (desk 1) (taskId 2) ∷ Migration (desk 2) (taskId 1) ∷ []
+posted : messages (ruledSteps (with-second ending) (run 2 ∷ move 1 2 ∷ []) .system .network) ≡ Terminated (processor 1) (taskId 2) ∷ Migration (processor 2) (taskId 1) ∷ []
 unfolding evaluated family
 posted = refl
 
-taken : letters (ruledSteps (with-second ending) (run 2 ∷ move 1 2 ∷ deliver 1 ∷ []) .system .network) ≡ Migration (desk 2) (taskId 1) ∷ []
+taken : messages (ruledSteps (with-second ending) (run 2 ∷ move 1 2 ∷ deliver 1 ∷ []) .system .network) ≡ Migration (processor 2) (taskId 1) ∷ []
 unfolding evaluated family
 taken = refl
 
 -- an ended letter finds the child's parent
-ended-found : taskAt (gotTerminated (with-second (withProcessor parting (desk 1))) (desk 1) (taskId 3)) (taskId 2) ≡ withProcessor ending (desk 1)
+ended-found : taskAt (gotTerminated (with-second (withProcessor parting (processor 1))) (processor 1) (taskId 3)) (taskId 2) ≡ withProcessor ending (processor 1)
 unfolding evaluated family
 ended-found = refl
 

@@ -9,12 +9,12 @@ use Rattle.rules.specs.declared.task.TaskState.the-variants.{Waiting, Do
 use Rattle.rules.specs.declared.channel.Cell.{Cell}
 use Rattle.rules.specs.declared.message.Message.{Message}
 use Rattle.rules.specs.declared.message.Message.the-variants.{Empty, Advert, Terminated}
-use Rattle.rules.specs.declared.rule.Posting.the-variants.{Nothing, Letter, Adverts}
+use Rattle.rules.specs.declared.rule.Posting.the-variants.{Nothing, Single, Adverts}
 use Rattle.rules.specs.declared.system.System.{System}
 use Rattle.rules.specs.Numbers.{taskId, channelId, noProcessor}
 use Rattle.rules.specs.Tasks.{born, departed, advanced, withChild, withState, withProcessor}
 use Rattle.rules.specs.Cells.{hint, offer, newer, larger, withHint, withHeld, withNoted, withGranted, withCarried, withTravelling, carrying, holding, noting}
-use Rattle.rules.specs.Networks.{letters, letterAt, enqueuedAll, dequeued, lettersOf}
+use Rattle.rules.specs.Networks.{messages, messageAt, enqueuedAll, dequeued, messagesOf}
 use Rattle.rules.specs.Systems.{entryAt, channelAt, withCell}
 use Rattle.rules.specs.Local.{syncRule, finishRule}
 use Rattle.rules.specs.Arrivals.{terminatedRule, takenOver, arrivalReceiving, arrivalSending}
@@ -24,7 +24,7 @@ use Rattle.rules.specs.StepFiles.{stepsOk}
 use Rattle.rules.proofs.Scripts.{create, finish, send, receive, run, deliver, move, startOn}
 use Rattle.rules.specs.Starts.{blank}
 use Rattle.rules.specs.Deliver.{gotMigration}
-use Rattle.rules.proofs.Sites.{desk, one, empty, small, crowded}
+use Rattle.rules.proofs.Sites.{processor, one, empty, small, crowded}
 use Rattle.rules.proofs.Evaluated.{evaluated}
 
 -- "of equals the desk's own stays"; "the larger number is kept, of equals the earlier"
@@ -49,13 +49,13 @@ carried-kept : (d e : ProcessorId) (x : Cell) → carrying (withCarried x (offer
 unfolding evaluated
 carried-kept d e x = refl
 
-note-kept : (x : Cell) → noting (withNoted x (desk 2)) (desk 3) ≡ withNoted x (desk 2)
+note-kept : (x : Cell) → noting (withNoted x (processor 2)) (processor 3) ≡ withNoted x (processor 2)
 unfolding evaluated
 note-kept x = refl
 
 -- a task with the living child 2, and with 2 and 3
 abbrev parent : Task
-parent = withChild (born (desk 1)) (taskId 2)
+parent = withChild (born (processor 1)) (taskId 2)
 
 abbrev twins : Task
 twins = withChild parent (taskId 3)
@@ -65,33 +65,33 @@ sync-waits : syncRule parent ≡ advanced (withState parent Waiting)
 unfolding evaluated
 sync-waits = refl
 
-sync-passes : syncRule (born (desk 1)) ≡ advanced (born (desk 1))
+sync-passes : syncRule (born (processor 1)) ≡ advanced (born (processor 1))
 unfolding evaluated
 sync-passes = refl
 
 -- task 2 finishes: its parent is here and waits for it; for another too; does not wait; is elsewhere; is on its way
 abbrev finished : Task
-finished = advanced (withState (born (desk 1)) Done)
+finished = advanced (withState (born (processor 1)) Done)
 
-finish-here : finishRule (taskId 2) (born (desk 1)) (withState parent Waiting) ≡ record { task = finished; parent = born (desk 1); posting = Nothing }
+finish-here : finishRule (taskId 2) (born (processor 1)) (withState parent Waiting) ≡ record { task = finished; parent = born (processor 1); posting = Nothing }
 unfolding evaluated
 finish-here = refl
 
-finish-one : finishRule (taskId 2) (born (desk 1)) (withState twins Waiting) .parent ≡ withState (withChild (born (desk 1)) (taskId 3)) Waiting
+finish-one : finishRule (taskId 2) (born (processor 1)) (withState twins Waiting) .parent ≡ withState (withChild (born (processor 1)) (taskId 3)) Waiting
 unfolding evaluated
 finish-one = refl
 
 -- a parent that waits for nobody is ready: its set is empty
-finish-waiting : finishRule (taskId 2) (born (desk 1)) (withState (born (desk 1)) Waiting) .parent ≡ born (desk 1)
+finish-waiting : finishRule (taskId 2) (born (processor 1)) (withState (born (processor 1)) Waiting) .parent ≡ born (processor 1)
 unfolding evaluated
 finish-waiting = refl
 
-finish-away : finishRule (taskId 2) (withProcessor (born (desk 1)) (desk 2)) parent
-    ≡ record { task = withProcessor finished (desk 2); parent = parent; posting = Letter (Terminated (desk 1) (taskId 2)) }
+finish-away : finishRule (taskId 2) (withProcessor (born (processor 1)) (processor 2)) parent
+    ≡ record { task = withProcessor finished (processor 2); parent = parent; posting = Single (Terminated (processor 1) (taskId 2)) }
 unfolding evaluated
 finish-away = refl
 
-finish-moving : finishRule (taskId 2) (born (desk 1)) (departed parent) .posting ≡ Letter (Terminated (desk 1) (taskId 2))
+finish-moving : finishRule (taskId 2) (born (processor 1)) (departed parent) .posting ≡ Single (Terminated (processor 1) (taskId 2))
 unfolding evaluated
 finish-moving = refl
 
@@ -101,52 +101,52 @@ unfolding evaluated
 finish-root x p = refl
 
 -- an ended letter at desk 1 for child 2: the parent is there; elsewhere; the child is not living
-ended-taken : terminatedRule (withState parent Waiting) (desk 1) (taskId 2) ≡ born (desk 1)
+ended-taken : terminatedRule (withState parent Waiting) (processor 1) (taskId 2) ≡ born (processor 1)
 unfolding evaluated
 ended-taken = refl
 
-ended-far : terminatedRule parent (desk 2) (taskId 2) ≡ parent
+ended-far : terminatedRule parent (processor 2) (taskId 2) ≡ parent
 unfolding evaluated
 ended-far = refl
 
-ended-idle : terminatedRule (withState (born (desk 1)) Waiting) (desk 1) (taskId 2) ≡ withState (born (desk 1)) Waiting
+ended-idle : terminatedRule (withState (born (processor 1)) Waiting) (processor 1) (taskId 2) ≡ withState (born (processor 1)) Waiting
 unfolding evaluated
 ended-idle = refl
 
 -- a departure and an arrival, of the record
-departs : departed (born (desk 1)) .moves ≡ 2
+departs : departed (born (processor 1)) .moves ≡ 2
 departs = refl
 
 -- arrival of a receiver: the pointer, and the held offer that counts or not
-receiver-arrives : arrivalReceiving (desk 2) 3 (withGranted (withHeld empty (offer (desk 1) 5)) 4)
-    ≡ withHint (withGranted (withCarried empty (offer (desk 1) 5)) 4) (hint (desk 2) 3)
+receiver-arrives : arrivalReceiving (processor 2) 3 (withGranted (withHeld empty (offer (processor 1) 5)) 4)
+    ≡ withHint (withGranted (withCarried empty (offer (processor 1) 5)) 4) (hint (processor 2) 3)
 unfolding evaluated
 receiver-arrives = refl
 
-held-dropped : takenOver (withGranted (withHeld empty (offer (desk 1) 5)) 5) ≡ withGranted empty 5
+held-dropped : takenOver (withGranted (withHeld empty (offer (processor 1) 5)) 5) ≡ withGranted empty 5
 unfolding evaluated
 held-dropped = refl
 
 -- a carried offer that is larger stays
-held-smaller : takenOver (withCarried (withHeld empty (offer (desk 1) 4)) (offer (desk 3) 5)) ≡ withCarried empty (offer (desk 3) 5)
+held-smaller : takenOver (withCarried (withHeld empty (offer (processor 1) 4)) (offer (processor 3) 5)) ≡ withCarried empty (offer (processor 3) 5)
 unfolding evaluated
 held-smaller = refl
 
 -- the pointer of an arrival is set, also over a larger count
-set-over : arrivalReceiving (desk 2) 3 (withHint empty (hint (desk 4) 9)) ≡ withHint empty (hint (desk 2) 3)
+set-over : arrivalReceiving (processor 2) 3 (withHint empty (hint (processor 4) 9)) ≡ withHint empty (hint (processor 2) 3)
 unfolding evaluated
 set-over = refl
 
 -- a sender leaves and arrives: its pointer travels; it does not replace a newer one
-sender-leaves : departureSending (withHint empty (hint (desk 2) 3)) ≡ withTravelling (withHint empty (hint (desk 2) 3)) (hint (desk 2) 3)
+sender-leaves : departureSending (withHint empty (hint (processor 2) 3)) ≡ withTravelling (withHint empty (hint (processor 2) 3)) (hint (processor 2) 3)
 unfolding evaluated
 sender-leaves = refl
 
-sender-arrives : arrivalSending (withTravelling empty (hint (desk 2) 3)) ≡ withHint empty (hint (desk 2) 3)
+sender-arrives : arrivalSending (withTravelling empty (hint (processor 2) 3)) ≡ withHint empty (hint (processor 2) 3)
 unfolding evaluated
 sender-arrives = refl
 
-sender-behind : arrivalSending (withTravelling (withHint empty (hint (desk 4) 5)) (hint (desk 2) 3)) ≡ withHint empty (hint (desk 4) 5)
+sender-behind : arrivalSending (withTravelling (withHint empty (hint (processor 4) 5)) (hint (processor 2) 3)) ≡ withHint empty (hint (processor 4) 5)
 unfolding evaluated
 sender-behind = refl
 
@@ -154,11 +154,11 @@ sender-behind = refl
 abbrev mover : System
 mover = startOn 2 ((receive 1 ∷ finish ∷ []) ∷ [])
 
-start-pointer : entryAt mover (desk 1) one .hint ≡ hint (desk 1) 1
+start-pointer : entryAt mover (processor 1) one .hint ≡ hint (processor 1) 1
 unfolding evaluated
 start-pointer = refl
 
-moved-pointer : entryAt (ruledSteps mover (move 1 2 ∷ []) .system) (desk 1) one .hint ≡ hint (desk 2) 2
+moved-pointer : entryAt (ruledSteps mover (move 1 2 ∷ []) .system) (processor 1) one .hint ≡ hint (processor 2) 2
 unfolding evaluated
 moved-pointer = refl
 
@@ -167,36 +167,36 @@ moving-rest : quiescent (ruledSteps mover (move 1 2 ∷ []) .system) ≡ false
 unfolding evaluated
 moving-rest = refl
 
-arrived-pointer : entryAt (ruledSteps mover (move 1 2 ∷ deliver 1 ∷ []) .system) (desk 2) one .hint ≡ hint (desk 2) 2
+arrived-pointer : entryAt (ruledSteps mover (move 1 2 ∷ deliver 1 ∷ []) .system) (processor 2) one .hint ≡ hint (processor 2) 2
 unfolding evaluated
 arrived-pointer = refl
 
 -- the last channel, at both ends: the pointer of a start; a pointer that travels, and another channel's that stays
-last-received : entryAt (startOn 2 ((receive 128 ∷ finish ∷ []) ∷ [])) (desk 1) (channelId 128) .hint ≡ hint (desk 1) 1
+last-received : entryAt (startOn 2 ((receive 128 ∷ finish ∷ []) ∷ [])) (processor 1) (channelId 128) .hint ≡ hint (processor 1) 1
 unfolding evaluated
 last-received = refl
 
 abbrev sender : System
 sender =
-    withCell (withCell (startOn 2 ((send 128 ∷ finish ∷ []) ∷ [])) (desk 1) (channelId 128) (withHint empty (hint (desk 2) 3)))
-    (desk 1)
+    withCell (withCell (startOn 2 ((send 128 ∷ finish ∷ []) ∷ [])) (processor 1) (channelId 128) (withHint empty (hint (processor 2) 3)))
+    (processor 1)
     (channelId 2)
-    (withTravelling empty (hint (desk 2) 4))
+    (withTravelling empty (hint (processor 2) 4))
 
-last-sent : channelAt (ruledSteps sender (move 1 2 ∷ []) .system) (channelId 128) .travelling ≡ hint (desk 2) 3
+last-sent : channelAt (ruledSteps sender (move 1 2 ∷ []) .system) (channelId 128) .travelling ≡ hint (processor 2) 3
 unfolding evaluated
 last-sent = refl
 
-last-arrived : entryAt (ruledSteps sender (move 1 2 ∷ deliver 1 ∷ []) .system) (desk 2) (channelId 128) .hint ≡ hint (desk 2) 3
+last-arrived : entryAt (ruledSteps sender (move 1 2 ∷ deliver 1 ∷ []) .system) (processor 2) (channelId 128) .hint ≡ hint (processor 2) 3
 unfolding evaluated
 last-arrived = refl
 
-other-travels : channelAt (ruledSteps sender (move 1 2 ∷ deliver 1 ∷ []) .system) (channelId 2) .travelling ≡ hint (desk 2) 4
+other-travels : channelAt (ruledSteps sender (move 1 2 ∷ deliver 1 ∷ []) .system) (channelId 2) .travelling ≡ hint (processor 2) 4
 unfolding evaluated
 other-travels = refl
 
 -- a mover letter for a task that is not moving has no effect
-idle-mover : gotMigration small (desk 2) (taskId 1) ≡ small
+idle-mover : gotMigration small (processor 2) (taskId 1) ≡ small
 unfolding evaluated small
 idle-mover = refl
 
@@ -206,35 +206,35 @@ unfolding evaluated
 that-send = refl
 
 -- and the offer that the receiver then carries has its number
-that-offer : channelAt (ruledSteps (startOn 1 ((create 2 ∷ send 1 ∷ send 1 ∷ finish ∷ []) ∷ (receive 1 ∷ finish ∷ []) ∷ [])) (run 1 ∷ run 1 ∷ []) .system) one .carried ≡ offer (desk 1) 1
+that-offer : channelAt (ruledSteps (startOn 1 ((create 2 ∷ send 1 ∷ send 1 ∷ finish ∷ []) ∷ (receive 1 ∷ finish ∷ []) ∷ [])) (run 1 ∷ run 1 ∷ []) .system) one .carried ≡ offer (processor 1) 1
 unfolding evaluated
 that-offer = refl
 
 -- the last entry of desk 1 and the first of desk 2 are two entries
-entries-apart : entryAt (withCell small (desk 1) (channelId 128) (withNoted empty (desk 1))) (desk 2) one .noted ≡ noProcessor
+entries-apart : entryAt (withCell small (processor 1) (channelId 128) (withNoted empty (processor 1))) (processor 2) one .noted ≡ noProcessor
 unfolding evaluated small
 entries-apart = refl
 
 -- "an advert to every other desk in rising order"
-adverts : lettersOf 3 (Adverts one (desk 2)) ≡ Advert one (desk 1) (desk 2) ∷ Advert one (desk 3) (desk 2) ∷ []
+adverts : messagesOf 3 (Adverts one (processor 2)) ≡ Advert one (processor 1) (processor 2) ∷ Advert one (processor 3) (processor 2) ∷ []
 unfolding evaluated
 adverts = refl
 
 -- "Letters join the mail's end; taking one closes the gap.": three letters, without the second; and the empty mail again
-abbrev letter : ProcessorId → ProcessorId → Message
-letter d e = Advert one d e
+abbrev message : ProcessorId → ProcessorId → Message
+message d e = Advert one d e
 
-taken-second : letters (dequeued (enqueuedAll (small .network) (letter (desk 1) (desk 2) ∷ letter (desk 2) (desk 3) ∷ letter (desk 3) (desk 4) ∷ [])) 2)
-    ≡ letter (desk 1) (desk 2) ∷ letter (desk 3) (desk 4) ∷ []
+taken-second : messages (dequeued (enqueuedAll (small .network) (message (processor 1) (processor 2) ∷ message (processor 2) (processor 3) ∷ message (processor 3) (processor 4) ∷ [])) 2)
+    ≡ message (processor 1) (processor 2) ∷ message (processor 3) (processor 4) ∷ []
 unfolding evaluated small
 taken-second = refl
 
-taken-only : dequeued (enqueuedAll (small .network) (letter (desk 1) (desk 2) ∷ [])) 1 ≡ small .network
+taken-only : dequeued (enqueuedAll (small .network) (message (processor 1) (processor 2) ∷ [])) 1 ≡ small .network
 unfolding evaluated small
 taken-only = refl
 
 -- the last of 256 letters: the slot that it leaves is empty
-taken-last : letterAt (dequeued (crowded 256 small .network) 256) 256 ≡ Empty
+taken-last : messageAt (dequeued (crowded 256 small .network) 256) 256 ≡ Empty
 unfolding evaluated crowded small
 taken-last = refl
 

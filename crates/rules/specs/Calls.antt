@@ -7,7 +7,7 @@ use Rattle.plan.specs.declared.Word.{Word as WordOf}
 use Rattle.rules.specs.declared.channel.Hint.{Hint}
 use Rattle.rules.specs.declared.message.Message.the-variants.{Data}
 use Rattle.rules.specs.declared.rule.Site.{Site}
-use Rattle.rules.specs.declared.rule.Posting.the-variants.{Nothing, Letter}
+use Rattle.rules.specs.declared.rule.Posting.the-variants.{Nothing, Single}
 use Rattle.rules.specs.declared.rule.Received.the-variants.{Nothing as NoWord, Word}
 use Rattle.rules.specs.declared.rule.Outcome.{Outcome}
 use Rattle.rules.specs.Tasks.{isAt, readied, taking}
@@ -23,7 +23,7 @@ callRule x c d h =
       sender = readied (x .sender);
       receiver = x .receiver;
       cell = withHint (x .cell) (newer (x .cell .entry .hint) h);
-      posting = Letter (Data c (h .processor) (x .sender .word));
+      posting = Single (Data c (h .processor) (x .sender .word));
       received = NoWord;
     })
     (kept x (x .cell) Nothing)

@@ -14,7 +14,7 @@ use Rattle.rules.specs.declared.step.StepAnswer.{StepAnswer}
 use Rattle.rules.specs.declared.step.StepAnswer.the-variants.{Accepted, NoMessage}
 use Rattle.rules.specs.declared.system.System.{System}
 use Rattle.rules.specs.Tasks.{isIn}
-use Rattle.rules.specs.Networks.{letterAt, dequeued}
+use Rattle.rules.specs.Networks.{messageAt, dequeued}
 use Rattle.rules.specs.Systems.{withNetwork, taskAt, withTask, meaning}
 use Rattle.rules.specs.Effects.{Effect, changed, applied}
 use Rattle.rules.specs.Offers.{offerRule, advertRule}
@@ -46,7 +46,7 @@ opened r (Migration d t) = changed (gotMigration r d t)
 
 -- a delivery of the letter at position p
 unfoldable pub delivered : System → ℕ → Effect
-delivered r p = opened (withNetwork r (dequeued (r .network) p)) (letterAt (r .network) p)
+delivered r p = opened (withNetwork r (dequeued (r .network) p)) (messageAt (r .network) p)
 
 -- "Deliver: 14, no letter there."
 unfoldable pub deliverAnswer : System → ℕ → StepAnswer

@@ -6,7 +6,7 @@ use Rattle.plan.specs.Words.{setWord, addWord}
 use Rattle.rules.specs.declared.task.Task.{Task}
 use Rattle.rules.specs.declared.task.TaskState.the-variants.{Waiting, Done}
 use Rattle.rules.specs.declared.message.Message.the-variants.{Terminated}
-use Rattle.rules.specs.declared.rule.Posting.the-variants.{Nothing, Letter}
+use Rattle.rules.specs.declared.rule.Posting.the-variants.{Nothing, Single}
 use Rattle.rules.specs.declared.rule.Finished.{Finished}
 use Rattle.rules.specs.Numbers.{sameTask, taskId}
 use Rattle.rules.specs.Tasks.{isAt, withState, withWord, advanced, withChild, isChildless, withoutChild}
@@ -26,7 +26,7 @@ finishRule t x parent =
     let done = advanced (withState x Done) in
     pick (sameTask t (taskId 1)) (record { task = done; parent = parent; posting = Nothing })
     (pick (isAt (x .processor) parent) (record { task = done; parent = withoutChild parent t; posting = Nothing })
-    (record { task = done; parent = parent; posting = Letter (Terminated (x .home) t) }))
+    (record { task = done; parent = parent; posting = Single (Terminated (x .home) t) }))
 
 -- "Set stores the task's word; add is taken modulo 65,536."
 abbrev pub setRule : Task → Instruction → Task

@@ -9,7 +9,7 @@ use Rattle.rules.specs.declared.task.Task.{Task}
 use Rattle.rules.specs.declared.task.TaskState.the-variants.{Ready}
 use Rattle.rules.specs.declared.channel.Cell.{Cell}
 use Rattle.rules.specs.declared.message.Message.the-variants.{Migration}
-use Rattle.rules.specs.declared.rule.Posting.the-variants.{Letter}
+use Rattle.rules.specs.declared.rule.Posting.the-variants.{Single}
 use Rattle.rules.specs.declared.step.StepAnswer.{StepAnswer}
 use Rattle.rules.specs.declared.step.StepAnswer.the-variants.{Accepted, NoTask, NotReady, NetworkFull, NoProcessor, AlreadyThere, MoveWithChildren, MovesSpent}
 use Rattle.rules.specs.declared.system.System.{System}
@@ -33,14 +33,14 @@ moved r t e =
     let d = x .processor in
     changedPosting
     (forSending (forReceiving (withTask r t (departed x)) t d (located e (x .moves + 1))) t d departureSending)
-    (Letter (Migration e t))
+    (Single (Migration e t))
 
 -- "Move: 10; 15, desk outside the rig; 11; 16, already there; 17, living children; 18, move count 9,999; 13.": task t of so many, with record
 -- x, would leave for desk e of so many
 abbrev pub moveTests : ℕ → ℕ → TaskId → Task → ProcessorId → Bool → StepAnswer
-moveTests tasks desks t x e fitting =
+moveTests tasks processors t x e fitting =
     unless (taskNumberOk tasks t) NoTask
-    (unless (processorOk desks e) NoProcessor
+    (unless (processorOk processors e) NoProcessor
     (unless (isIn Ready x) NotReady
     (unless (not (isAt e x)) AlreadyThere
     (unless (isChildless x) MoveWithChildren

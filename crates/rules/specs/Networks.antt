@@ -11,8 +11,8 @@ use Rattle.rules.specs.declared.message.Message.the-variants.{Empty, Adv
 use Rattle.rules.specs.declared.message.Slot.{Slot}
 use Rattle.rules.specs.declared.message.Network.{Network}
 use Rattle.rules.specs.declared.rule.Posting.{Posting}
-use Rattle.rules.specs.declared.rule.Posting.the-variants.{Nothing, Letter, Adverts}
-use Rattle.rules.specs.Numbers.{processorId, mailSize}
+use Rattle.rules.specs.declared.rule.Posting.the-variants.{Nothing, Single, Adverts}
+use Rattle.rules.specs.Numbers.{processorId, networkSize}
 
 abbrev pub slot : Message → Slot
 slot m = record { message = m }
@@ -22,12 +22,12 @@ abbrev pub noSlot : Slot
 noSlot = slot Empty
 
 -- the letters in the mail, in order
-unfoldable pub letters : Network → List Message
-letters n = map (λ s. s .message) (take (n .used) (n .slots))
+unfoldable pub messages : Network → List Message
+messages n = map (λ s. s .message) (take (n .used) (n .slots))
 
 -- the letter at position p, from 1
-unfoldable pub letterAt : Network → ℕ → Message
-letterAt n p = getD (n .slots) (p - 1) noSlot .message
+unfoldable pub messageAt : Network → ℕ → Message
+messageAt n p = getD (n .slots) (p - 1) noSlot .message
 
 -- "Letters join the mail's end"
 unfoldable pub enqueued : Network → Message → Network
@@ -46,15 +46,15 @@ dequeued n p =
     }
 
 -- the letters that a rule posts, in a rig of n desks; "an advert to every other desk in rising order"
-unfoldable pub lettersOf : ℕ → Posting → List Message
-lettersOf n Nothing = []
-lettersOf n (Letter m) = m ∷ []
-lettersOf n (Adverts c d) = joined n (λ k. pick (eqb (suc k) (d .0)) [] (Advert c (processorId (suc k)) d ∷ []))
+unfoldable pub messagesOf : ℕ → Posting → List Message
+messagesOf n Nothing = []
+messagesOf n (Single m) = m ∷ []
+messagesOf n (Adverts c d) = joined n (λ k. pick (eqb (suc k) (d .0)) [] (Advert c (processorId (suc k)) d ∷ []))
 
 -- they join the mail
 abbrev pub posted : ℕ → Posting → Network → Network
-posted n p k = enqueuedAll k (lettersOf n p)
+posted n p k = enqueuedAll k (messagesOf n p)
 
 -- "the letters needed" fit in a mail that has so many
 abbrev pub fitsIn : ℕ → Posting → ℕ → Bool
-fitsIn n p used = leb (used + length (lettersOf n p)) mailSize
+fitsIn n p used = leb (used + length (messagesOf n p)) networkSize

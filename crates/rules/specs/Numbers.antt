@@ -26,8 +26,8 @@ abbrev pub channelNumberOk : ChannelId → Bool
 channelNumberOk c = within 1 128 (c .0)
 
 -- "256 letters in the mail"; "a move count is at most 9,999"
-abbrev pub mailSize : ℕ
-mailSize = 256
+abbrev pub networkSize : ℕ
+networkSize = 256
 
 abbrev pub mostMoves : ℕ
 mostMoves = 9999

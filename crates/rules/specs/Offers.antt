@@ -10,7 +10,7 @@ use Rattle.rules.specs.declared.channel.Cell.{Cell}
 use Rattle.rules.specs.declared.message.Message.the-variants.{Offered}
 use Rattle.rules.specs.declared.rule.Site.{Site}
 use Rattle.rules.specs.declared.rule.Posting.{Posting}
-use Rattle.rules.specs.declared.rule.Posting.the-variants.{Nothing, Letter}
+use Rattle.rules.specs.declared.rule.Posting.the-variants.{Nothing, Single}
 use Rattle.rules.specs.declared.rule.Received.the-variants.{Nothing as NoWord}
 use Rattle.rules.specs.declared.rule.Outcome.{Outcome}
 use Rattle.rules.specs.Numbers.{sameProcessor}
@@ -36,7 +36,7 @@ offerRule x c o h =
     pick (not (counts (x .cell) o) && isAt d (x .receiver)) (kept x (x .cell) Nothing)
     (pick (isAt d (x .receiver) && (x .receiving && not (x .cell .channel .awaiting))) (kept x (granting (x .cell)) (callTo (o .processor) c (x .receiver)))
     (pick (isAt d (x .receiver)) (kept x (carrying (x .cell) o) Nothing)
-    (pick (pointsOn own h d) (kept x (x .cell) (Letter (Offered c o own)))
+    (pick (pointsOn own h d) (kept x (x .cell) (Single (Offered c o own)))
     (kept x (holding (x .cell) o) Nothing))))
 
 -- "Advert: receiver here, receiving, called 0: answered. Else noted."; it is at d, from the desk `from`

@@ -10,7 +10,7 @@ use Rattle.rules.specs.declared.channel.Cell.{Cell}
 use Rattle.rules.specs.declared.message.Message.the-variants.{ReadyToReceive}
 use Rattle.rules.specs.declared.rule.Site.{Site}
 use Rattle.rules.specs.declared.rule.Posting.{Posting}
-use Rattle.rules.specs.declared.rule.Posting.the-variants.{Nothing, Letter}
+use Rattle.rules.specs.declared.rule.Posting.the-variants.{Nothing, Single}
 use Rattle.rules.specs.declared.rule.Received.the-variants.{Nothing as NoWord, Word}
 use Rattle.rules.specs.declared.rule.Outcome.{Outcome}
 use Rattle.rules.specs.Numbers.{noProcessor, isNone}
@@ -19,7 +19,7 @@ use Rattle.rules.specs.Cells.{hint, noOffer, counts, noneCalled, withNot
 
 -- "a call letter with (d, move count) goes to the offering desk": from the receiver x
 abbrev pub callTo : ProcessorId → ChannelId → Task → Posting
-callTo from c x = Letter (ReadyToReceive c from (hint (x .processor) (x .moves)))
+callTo from c x = Single (ReadyToReceive c from (hint (x .processor) (x .moves)))
 
 -- "the word passes directly, called becomes that send's number, a carried offer for c is dropped, the sender is ready"
 unfoldable pub receivePasses : Site → ChannelId → ℕ → Outcome

@@ -8,7 +8,7 @@ use Rattle.rules.specs.declared.channel.Cell.{Cell}
 use Rattle.rules.specs.declared.message.Message.the-variants.{Offered}
 use Rattle.rules.specs.declared.rule.Site.{Site}
 use Rattle.rules.specs.declared.rule.Posting.{Posting}
-use Rattle.rules.specs.declared.rule.Posting.the-variants.{Nothing, Letter, Adverts}
+use Rattle.rules.specs.declared.rule.Posting.the-variants.{Nothing, Single, Adverts}
 use Rattle.rules.specs.declared.rule.Received.the-variants.{Nothing as NoWord, Word}
 use Rattle.rules.specs.declared.rule.Outcome.{Outcome}
 use Rattle.rules.specs.Numbers.{sameProcessor}
@@ -43,4 +43,4 @@ sendRule x c w =
     (pick (isAt d (x .receiver)) (sendWaits x (carrying (x .cell) o) Nothing)
     (pick (isUnknown h) (sendWaits x (x .cell) (Adverts c d))
     (pick (sameProcessor (h .processor) d) (sendWaits x (holding (x .cell) o) Nothing)
-    (sendWaits x (x .cell) (Letter (Offered c o h))))))
+    (sendWaits x (x .cell) (Single (Offered c o h))))))

@@ -24,10 +24,10 @@ use Rattle.rules.specs.declared.message.Network.{Network}
 use Rattle.rules.specs.declared.system.Tables.{Tables}
 use Rattle.rules.specs.declared.system.Channels.{Channels}
 use Rattle.rules.specs.declared.system.System.{System}
-use Rattle.rules.specs.Numbers.{taskId, processorId, isNone, processorOk, taskNumberOk, channelNumberOk, mailSize, mostMoves}
+use Rattle.rules.specs.Numbers.{taskId, processorId, isNone, processorOk, taskNumberOk, channelNumberOk, networkSize, mostMoves}
 use Rattle.rules.specs.Tasks.{isIn}
 use Rattle.rules.specs.Cells.{hint, isUnknown, offer}
-use Rattle.rules.specs.Networks.{letters}
+use Rattle.rules.specs.Networks.{messages}
 use Rattle.rules.specs.Places.{lastIn}
 use Rattle.rules.specs.Systems.{taskAt, taskProgram, meaning}
 
@@ -73,7 +73,7 @@ messageOk n m (Migration d t) = processorOk n d && taskNumberOk m t
 
 -- the mail
 unfoldable pub networkOk : ℕ → ℕ → Network → Bool
-networkOk n m x = leb (x .used) mailSize && every (messageOk n m) (letters x)
+networkOk n m x = leb (x .used) networkSize && every (messageOk n m) (messages x)
 
 -- "an unborn .. task not as said above": the record `unborn`, with any children
 unfoldable pub unbornOk : Task → Bool

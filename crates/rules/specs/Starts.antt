@@ -56,12 +56,12 @@ noChannels =
     }
 
 -- no letter
-abbrev pub noLetters : Network
-noLetters = record { slots = replicate 256 noSlot; used = 0 }
+abbrev pub noMessages : Network
+noMessages = record { slots = replicate 256 noSlot; used = 0 }
 
 -- a rig before the birth of task 1
 unfoldable pub blank : ℕ → Plan → System
-blank n p = record { processors = n; plan = p; tasks = unbornTasks; tables = noTables; channels = noChannels; network = noLetters }
+blank n p = record { processors = n; plan = p; tasks = unbornTasks; tables = noTables; channels = noChannels; network = noMessages }
 
 -- "Task 1 is ready at desk 1"; "its start is a birth at desk 1"
 unfoldable pub started : ℕ → Plan → System

@@ -20,7 +20,7 @@ pub struct Site {
 // The letters that a rule posts.
 pub enum Posting {
     Nothing,
-    Letter(Message),
+    Single(Message),
     // an advert of a channel from a desk to every other desk
     Adverts(ChannelId, ProcessorId),
 }

@@ -21,7 +21,7 @@ use Rattle.rules.specs.declared.step.StepAnswer.the-variants.{Accepted}
 use Rattle.rules.specs.declared.system.System.{System}
 use Rattle.rules.specs.Numbers.{taskId, processorId, channelId}
 use Rattle.rules.specs.Tasks.{isIn}
-use Rattle.rules.specs.Networks.{letterAt, enqueuedAll, dequeued}
+use Rattle.rules.specs.Networks.{messageAt, enqueuedAll, dequeued}
 use Rattle.rules.specs.Systems.{withNetwork, taskAt, withTask, withCell}
 use Rattle.rules.specs.Effects.{Effect, completed, withOutcome, forChannels}
 use Rattle.rules.specs.Starts.{birth}
@@ -31,7 +31,7 @@ use Rattle.rules.specs.Deliver.{gotTerminated, gotMigration, opened, delivered}
 use Rattle.rules.specs.Moves.{moved}
 use Rattle.rules.specs.Steps.{isRun, isDeliver, stepAnswer, performed, step, stepsBy, steps}
 use Rattle.rules_laws.proofs.ForChannels.{forChannels-all}
-use Rattle.rules_laws.proofs.Sound.{letters-fit}
+use Rattle.rules_laws.proofs.Sound.{messages-fit}
 use Rattle.rules_laws.proofs.Steps.{step-cases, step-passed}
 use Rattle.rules_laws.proofs.StepKinds.{answer-deliver, deliver-passed}
 
@@ -112,7 +112,7 @@ module _ (P : System → Type 0) (k : Kept P) where
 
   pub delivered-keeps : (r : System) (p : ℕ) → 1 ≤ p → p ≤ r .network .used → r .network .used ≤ 256 → P r → P (delivered r p .system)
   unfolding delivered
-  delivered-keeps r p some there few h = opened-keeps _ (letterAt (r .network) p) (k .leave r p some there few h)
+  delivered-keeps r p some there few h = opened-keeps _ (messageAt (r .network) p) (k .leave r p some there few h)
 
   -- a move
   pub moved-keeps : (r : System) (t : TaskId) (e : ProcessorId) → P r → P (moved r t e .system)
@@ -133,7 +133,7 @@ module _ (P : System → Type 0) (k : Kept P) where
       (pick-cases Q (isDeliver s) _ _
       (λ d.
       let (some, there) = deliver-passed r (s .number) (sym (answer-deliver r s d) ∙ p .rule) in
-      delivered-keeps r (s .number) some there (letters-fit r (p .system)) h)
+      delivered-keeps r (s .number) some there (messages-fit r (p .system)) h)
       (λ d. moved-keeps r (taskId (s .task)) (processorId (s .number)) h))
 
   pub step-keeps : (r : System) (s : Step) → P r → P (step r s .system)

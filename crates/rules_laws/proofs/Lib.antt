@@ -2,7 +2,7 @@
 pub mod TaskAt
 pub mod CellAt
 pub mod ForChannels
-pub mod Letters
+pub mod Messages
 pub mod Steps
 pub mod Sound
 pub mod StepKinds

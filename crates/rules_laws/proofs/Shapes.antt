@@ -17,7 +17,7 @@ use Rattle.rules.specs.Steps.{step, steps}
 use Rattle.rules_laws.specs.Shapes.{Shaped}
 use Rattle.rules_laws.proofs.TaskAt.{withTask-processors, withTask-plan, withTask-shaped}
 use Rattle.rules_laws.proofs.CellAt.{withCell-processors, withCell-plan, withCell-shaped}
-use Rattle.rules_laws.proofs.Letters.{enqueuedAll-size, dequeued-size}
+use Rattle.rules_laws.proofs.Messages.{enqueuedAll-size, dequeued-size}
 use Rattle.rules_laws.proofs.Changes.{Kept, birth-keeps, step-keeps, steps-keep}
 
 -- another mail of the same size

@@ -52,6 +52,6 @@ system-ok r h =
     (and-both (channelEntriesOk (r .processors) (r .channels)) _ (h .channels) (h .network)))))
 
 -- "256 letters in the mail"
-pub letters-fit : (r : System) → systemOk r ≡ true → r .network .used ≤ 256
+pub messages-fit : (r : System) → systemOk r ≡ true → r .network .used ≤ 256
 unfolding networkOk
-letters-fit r h = leb-true (r .network .used) 256 (and-left (leb (r .network .used) 256) _ (system-passed r h .network))
+messages-fit r h = leb-true (r .network .used) 256 (and-left (leb (r .network .used) 256) _ (system-passed r h .network))

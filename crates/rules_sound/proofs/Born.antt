@@ -23,7 +23,7 @@ module _ (n m : ℕ) (g : Program) (x : Task) where
     pub children : ltb (x .children) (2 ^ m) ≡ true
     pub home : processorOk n (x .home) ≡ true
     pub moves : movesOk (x .moves) ≡ true
-    pub desk : whereOk n x ≡ true
+    pub processor : whereOk n x ≡ true
     pub place : placeOk (length g) x ≡ true
     pub last : lastOk g x ≡ true
 
@@ -35,11 +35,11 @@ module _ (n m : ℕ) (g : Program) (x : Task) where
       let (k, b₂) = and-parts (movesOk (x .moves)) _ b₁ in
       let (d, b₃) = and-parts (whereOk n x) _ b₂ in
       let (p, l) = and-parts (placeOk (length g) x) (lastOk g x) b₃ in
-      record { children = c; home = o; moves = k; desk = d; place = p; last = l }
+      record { children = c; home = o; moves = k; processor = d; place = p; last = l }
 
   pub born-ok : BornPassed → isIn Unborn x ≡ false → taskOk n m g x ≡ true
   unfolding taskOk bornOk
-  born-ok b u = simp (u, b .children, b .home, b .moves, b .desk, b .place, b .last)
+  born-ok b u = simp (u, b .children, b .home, b .moves, b .processor, b .place, b .last)
 
   module _ (h : taskOk n m g x ≡ true) where
     unborn-passed : isIn Unborn x ≡ true → unbornOk x ≡ true
@@ -72,12 +72,12 @@ module _ (n m : ℕ) (g : Program) (x : Task) where
           go false e = e
           go true e = absurd (omega (arith, eqb-true (x .processor .0) 0 (and-left (isNone (x .processor)) _ (unborn-passed e))))
 
-      here-desk : processorOk n (x .processor) ≡ true
-      here-desk = go (isIn Moving x) (born-passed h here-born .desk)
+      here-processor : processorOk n (x .processor) ≡ true
+      here-processor = go (isIn Moving x) (born-passed h here-born .processor)
         where
           go : (b : Bool) → pick b (isNone (x .processor)) (processorOk n (x .processor)) ≡ true → processorOk n (x .processor) ≡ true
           go true e = absurd (omega (arith, eqb-true (x .processor .0) 0 e))
           go false e = e
 
       pub here-known : knownOk n (hint (x .processor) (x .moves)) ≡ true
-      here-known = and-both (processorOk n (x .processor)) (movesOk (x .moves)) here-desk (born-passed h here-born .moves)
+      here-known = and-both (processorOk n (x .processor)) (movesOk (x .moves)) here-processor (born-passed h here-born .moves)

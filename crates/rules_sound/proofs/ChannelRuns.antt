@@ -51,7 +51,7 @@ module _ (r : System) (s : Startable (r .processors) (r .plan)) (w : Whole r) (t
       let place : suc (x .pc - 1) ≡ x .pc = omega arith in
       let sends : isUse opSend (c .0) (instructionAt g (x .pc - 1)) ≡ true = and-both _ _ (eq-eqb _ opSend (a .next)) (eq-eqb _ (c .0) e) in
       let some : 1 ≤ sendNumber g c (x .pc) = rw place at (send-some g c (x .pc - 1) sends) in
-      applied-fine r w (tasks-few n (r .plan) s) t u h uh c d (b .desk) (omega (arith, s .few)) (within-low 1 128 (c .0) o) (within-high 1 128 (c .0) o)
+      applied-fine r w (tasks-few n (r .plan) s) t u h uh c d (b .processor) (omega (arith, s .few)) (within-low 1 128 (c .0) o) (within-high 1 128 (c .0) o)
       (FinePosting n m)
       (λ y. sendRule y c (sendNumber g c (y .sender .pc)))
       (λ f. send-fine n m g (programIn (r .plan) u) (siteAt r t u c d) f a c (sendNumber g c (x .pc)) o some (omega (arith, program-in n (r .plan) s t l h .few)))
@@ -80,7 +80,7 @@ module _ (r : System) (s : Startable (r .processors) (r .plan)) (w : Whole r) (t
       let g = programIn (r .plan) v in
       let b = acting-settled n m (programIn (r .plan) t) (taskAt r t) opReceive a in
       let vh = user-in (r .plan) opSend (c .0) in
-      applied-fine r w (tasks-few n (r .plan) s) v t vh h c d (b .desk) (omega (arith, s .few)) (within-low 1 128 (c .0) o) (within-high 1 128 (c .0) o)
+      applied-fine r w (tasks-few n (r .plan) s) v t vh h c d (b .processor) (omega (arith, s .few)) (within-low 1 128 (c .0) o) (within-high 1 128 (c .0) o)
       (FinePosting n m)
       (λ y. receiveRule y c (sendNumber g c (y .sender .pc - 1)))
       (λ f. receive-fine n m g (programIn (r .plan) t) (siteAt r v t c d) f a c (sendNumber g c (taskAt r v .pc - 1)) o (sent-few v vh))

@@ -31,7 +31,7 @@ use Rattle.rules_sound.proofs.Born.{here-known}
 use Rattle.rules_sound.proofs.Settled.{settled}
 use Rattle.rules_sound.proofs.TaskRules.{readied-ok, taking-ok}
 use Rattle.rules_sound.proofs.Cells.{known-fine, counted-known, made-fine, newer-fine, withHint-fine, carrying-fine, holding-fine, noting-fine, granting-fine, cleared-fine, counts-more, none-more}
-use Rattle.rules_sound.proofs.Postings.{nothing-reply, letter-reply, offered-posted, call-posted, data-posted}
+use Rattle.rules_sound.proofs.Postings.{nothing-reply, message-reply, offered-posted, call-posted, data-posted}
 
 module _ (n m : ℕ) (gs gr : Program) (x : Site) (f : FineSite n m gr x) where
   abbrev Left : Outcome → Type 0
@@ -52,7 +52,7 @@ module _ (n m : ℕ) (gs gr : Program) (x : Site) (f : FineSite n m gr x) where
         → x .cell .channel .granted < 64 → Left (kept x (granting (x .cell)) (callTo from c (x .receiver)))
     answered-fine from p d q e l =
         kept-fine _ _ (granting-fine n (x .cell) (f .cell) l)
-        (letter-reply n m (ReadyToReceive c from (hint (x .receiver .processor) (x .receiver .moves))) (call-posted n m c k from (x .receiver) p (here d q e)))
+        (message-reply n m (ReadyToReceive c from (hint (x .receiver .processor) (x .receiver .moves))) (call-posted n m c k from (x .receiver) p (here d q e)))
 
     pub offer-fine : (o : Offer) (h : Hint) → madeOk n o ≡ true → knownOk n h ≡ true → Left (offerRule x c o h)
     unfolding offerRule
@@ -61,7 +61,7 @@ module _ (n m : ℕ) (gs gr : Program) (x : Site) (f : FineSite n m gr x) where
         let own = x .cell .entry .hint in
         let held = made-fine n o made in
         let from = and-left (processorOk n (o .processor)) _ made in
-        let desk = and-left (processorOk n d) _ known in
+        let processor = and-left (processorOk n d) _ known in
         pick-cases Left (not (counts (x .cell) o) && isAt d (x .receiver)) _ _
         (λ e. kept-fine _ _ (f .cell) (nothing-reply n m))
         (λ late.
@@ -69,7 +69,7 @@ module _ (n m : ℕ) (gs gr : Program) (x : Site) (f : FineSite n m gr x) where
         (λ e.
         let at = and-left (isAt d (x .receiver)) _ e in
         let new = not-false _ (first-fails (not (counts (x .cell) o)) (isAt d (x .receiver)) late at) in
-        answered-fine (o .processor) from d desk at (counts-more n (x .cell) (f .cell) o held new))
+        answered-fine (o .processor) from d processor at (counts-more n (x .cell) (f .cell) o held new))
         (λ e.
         pick-cases Left (isAt d (x .receiver)) _ _
         (λ e. kept-fine _ _ (carrying-fine n (x .cell) (f .cell) o held) (nothing-reply n m))
@@ -78,7 +78,7 @@ module _ (n m : ℕ) (gs gr : Program) (x : Site) (f : FineSite n m gr x) where
         (λ e.
         let l = ltb-true (h .moves) (own .moves) (and-right (not (sameProcessor (own .processor) d)) _ e) in
         let on = counted-known n own (f .cell .entry .hint) (omega arith) in
-        kept-fine _ _ (f .cell) (letter-reply n m (Offered c o own) (offered-posted n m c k o own made on)))
+        kept-fine _ _ (f .cell) (message-reply n m (Offered c o own) (offered-posted n m c k o own made on)))
         (λ e. kept-fine _ _ (holding-fine n (x .cell) (f .cell) o held) (nothing-reply n m)))))
 
     pub advert-fine : (d from : ProcessorId) → processorOk n d ≡ true → processorOk n from ≡ true → Left (advertRule x c d from)
@@ -101,7 +101,7 @@ module _ (n m : ℕ) (gs gr : Program) (x : Site) (f : FineSite n m gr x) where
           sender = λ s. readied-ok n m gs (x .sender) (settled n m gs (x .sender) Sending refl (f .sending (and-left (x .sending) _ e)) s);
           receiver = λ s. s;
           cell = withHint-fine n (x .cell) (f .cell) (newer own h) (newer-fine n own h (f .cell .entry .hint) (known-fine n h known));
-          posting = letter-reply n m (Data c (h .processor) (x .sender .word)) word;
+          posting = message-reply n m (Data c (h .processor) (x .sender .word)) word;
         })
         (λ e. kept-fine _ _ (f .cell) (nothing-reply n m))
 

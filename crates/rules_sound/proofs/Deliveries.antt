@@ -100,16 +100,16 @@ module _ (r : System) (s : Startable (r .processors) (r .plan)) (w : Whole r) wh
       on-channel c k (h .processor) (and-left (processorOk (r .processors) (h .processor)) _ known) (λ x. offerRule x c o h) (λ y. offer-fine _ _ _ _ _ y c k o h made known)
   open-fine (Advert c d from) f =
       let (k, f₁) = and-parts (channelNumberOk c) _ f in
-      let (desk, other) = and-parts (processorOk (r .processors) d) (processorOk (r .processors) from) f₁ in
-      on-channel c k d desk (λ x. advertRule x c d from) (λ y. advert-fine _ _ _ _ _ y c k d from desk other)
+      let (processor, other) = and-parts (processorOk (r .processors) d) (processorOk (r .processors) from) f₁ in
+      on-channel c k d processor (λ x. advertRule x c d from) (λ y. advert-fine _ _ _ _ _ y c k d from processor other)
   open-fine (ReadyToReceive c d h) f =
       let (k, f₁) = and-parts (channelNumberOk c) _ f in
-      let (desk, known) = and-parts (processorOk (r .processors) d) (knownOk (r .processors) h) f₁ in
-      on-channel c k d desk (λ x. callRule x c d h) (λ y. call-fine _ _ _ _ _ y c k d h known)
+      let (processor, known) = and-parts (processorOk (r .processors) d) (knownOk (r .processors) h) f₁ in
+      on-channel c k d processor (λ x. callRule x c d h) (λ y. call-fine _ _ _ _ _ y c k d h known)
   open-fine (Data c d v) f =
-      let (k, desk) = and-parts (channelNumberOk c) (processorOk (r .processors) d) f in
-      on-channel c k d desk (λ x. dataRule x c d v) (λ y. data-fine _ _ _ _ _ y c d v)
+      let (k, processor) = and-parts (channelNumberOk c) (processorOk (r .processors) d) f in
+      on-channel c k d processor (λ x. dataRule x c d v) (λ y. data-fine _ _ _ _ _ y c d v)
   open-fine (Terminated d t) f = record { system = terminated d t; posting = nothing-reply _ _ }
   open-fine (Migration d t) f =
-      let (desk, number) = and-parts (processorOk (r .processors) d) (taskNumberOk (r .plan .tasks) t) f in
-      record { system = migrated d t desk (within-low 1 (r .plan .tasks) (t .0) number) (within-high 1 (r .plan .tasks) (t .0) number); posting = nothing-reply _ _ }
+      let (processor, number) = and-parts (processorOk (r .processors) d) (taskNumberOk (r .plan .tasks) t) f in
+      record { system = migrated d t processor (within-low 1 (r .plan .tasks) (t .0) number) (within-high 1 (r .plan .tasks) (t .0) number); posting = nothing-reply _ _ }

@@ -16,7 +16,7 @@ use Rattle.rules.specs.Sound.{messageOk}
 use Rattle.rules_sound.specs.Settled.{Settled}
 use Rattle.rules_sound.specs.Sites.{FineFinished}
 use Rattle.rules_sound.proofs.LifeRules.{done-ok, withoutChild-ok}
-use Rattle.rules_sound.proofs.Postings.{nothing-posted, letter-posted}
+use Rattle.rules_sound.proofs.Postings.{nothing-posted, message-posted}
 
 pub finish-fine : (n m : ℕ) (g gp : Program) (t : TaskId) (x parent : Task) → Settled n m (length g) x → taskNumberOk m t ≡ true
     → FineFinished n m g gp parent (finishRule t x parent)
@@ -33,5 +33,5 @@ finish-fine n m g gp t x parent s k =
     record {
       task = done;
       parent = λ h. h;
-      posting = letter-posted n m (Terminated (x .home) t) (simp (within-both 1 n (x .home .0) (s .home) (s .home-few), k));
+      posting = message-posted n m (Terminated (x .home) t) (simp (within-both 1 n (x .home .0) (s .home) (s .home-few), k));
     }))

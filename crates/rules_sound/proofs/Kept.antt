@@ -13,7 +13,7 @@ use Rattle.rules.specs.declared.step.Step.{Step}
 use Rattle.rules.specs.declared.step.StepAnswer.the-variants.{Accepted}
 use Rattle.rules.specs.declared.system.System.{System}
 use Rattle.rules.specs.Numbers.{taskId, processorId}
-use Rattle.rules.specs.Networks.{letterAt, dequeued}
+use Rattle.rules.specs.Networks.{messageAt, dequeued}
 use Rattle.rules.specs.Systems.{taskAt, withNetwork}
 use Rattle.rules.specs.Effects.{Effect, completed}
 use Rattle.rules.specs.Runs.{ran, fits, runAnswer}
@@ -22,14 +22,14 @@ use Rattle.rules.specs.Moves.{moved, moveAnswer}
 use Rattle.rules.specs.Sound.{systemOk}
 use Rattle.rules.specs.Steps.{isRun, isDeliver, wellFormed, stepAnswer, performed, step, stepsBy, steps, ruledSteps}
 use Rattle.rules_laws.specs.Shapes.{Shaped}
-use Rattle.rules_laws.proofs.Letters.{dequeued-used, dequeued-size}
+use Rattle.rules_laws.proofs.Messages.{dequeued-used, dequeued-size}
 use Rattle.rules_laws.proofs.Steps.{step-cases, step-accepted, step-passed, ruled-step}
 use Rattle.rules_laws.proofs.StepKinds.{answer-run, answer-deliver, answer-move, deliver-passed}
 use Rattle.rules_laws.proofs.Shapes.{step-shaped}
 use Rattle.rules_sound.specs.Fine.{FinePosting}
 use Rattle.rules_sound.specs.Sound.{Sound}
 use Rattle.rules_sound.specs.Stands.{Whole, FineEffect}
-use Rattle.rules_sound.proofs.Mail.{letter-fine, leave-fine, network-stands, completed-sound}
+use Rattle.rules_sound.proofs.Network.{message-fine, leave-fine, network-stands, completed-sound}
 use Rattle.rules_sound.proofs.Runs.{run-fine}
 use Rattle.rules_sound.proofs.Moves.{move-fine}
 use Rattle.rules_sound.proofs.Deliveries.{open-fine}
@@ -44,7 +44,7 @@ module _ (r : System) (z : Shaped r) (f : Sound r) where
   fitting : (e : Effect) → FineEffect (r .processors) (r .plan) (r .network) (FinePosting (r .processors) (r .plan .tasks)) e → fits r e ≡ true
       → Sound (completed e)
   unfolding fits
-  fitting e g h = completed-sound (r .processors) (r .plan) (r .network) e (f .frame) (f .mail) g (leb-true _ 256 h)
+  fitting e g h = completed-sound (r .processors) (r .plan) (r .network) e (f .frame) (f .network) g (leb-true _ 256 h)
 
   run-sound : (t : TaskId) → runAnswer r t ≡ Accepted → Sound (completed (ran r t))
   run-sound t a =
@@ -67,13 +67,13 @@ module _ (r : System) (z : Shaped r) (f : Sound r) where
       let (some, there) = deliver-passed r p a in
       let k = r .network in
       let q = withNetwork r (dequeued k p) in
-      let size = dequeued-size k p some there (omega (arith, f .mail .used, z .slots)) ∙ z .slots in
+      let size = dequeued-size k p some there (omega (arith, f .network .used, z .slots)) ∙ z .slots in
       let w : Whole q = network-stands (r .processors) (r .plan) k r whole (dequeued k p) size in
-      let g = open-fine q (f .frame) w (letterAt k p) (letter-fine (r .processors) (r .plan) k (z .slots) (f .mail) p some there) in
-      let left = leave-fine (r .processors) (r .plan) k (z .slots) (f .mail) p some there in
-      completed-sound (r .processors) (r .plan) (dequeued k p) (opened q (letterAt k p)) (f .frame) left
+      let g = open-fine q (f .frame) w (messageAt k p) (message-fine (r .processors) (r .plan) k (z .slots) (f .network) p some there) in
+      let left = leave-fine (r .processors) (r .plan) k (z .slots) (f .network) p some there in
+      completed-sound (r .processors) (r .plan) (dequeued k p) (opened q (messageAt k p)) (f .frame) left
       (record { system = g .system; posting = g .posting .posting })
-      (omega (arith, g .posting .few, dequeued-used k p, f .mail .used))
+      (omega (arith, g .posting .few, dequeued-used k p, f .network .used))
 
   performed-sound : (s : Step) → stepAnswer r s ≡ Accepted → Sound (completed (performed r s))
   unfolding performed wellFormed

@@ -19,7 +19,7 @@ pub mod ChannelRuns
 pub mod Runs
 pub mod Moves
 pub mod Deliveries
-pub mod Mail
+pub mod Network
 pub mod Entries
 pub mod Sound
 pub mod Answers

@@ -44,7 +44,7 @@ module _ (n m : ℕ) (g : Program) where
           children = lt-ltb _ _ (s .children);
           home = within-both 1 n (x .home .0) (s .home) (s .home-few);
           moves = within-both 1 9999 (x .moves) (s .moves) (s .moves-few);
-          desk = within-both 1 n (x .processor .0) (s .desk) (s .desk-few);
+          processor = within-both 1 n (x .processor .0) (s .processor) (s .processor-few);
           place = within-both 1 (length g + 1) (x .pc + 1) (omega arith) (omega arith);
           last = refl;
         })
@@ -57,7 +57,7 @@ module _ (n m : ℕ) (g : Program) where
           children = lt-ltb _ _ (s .children);
           home = within-both 1 n (x .home .0) (s .home) (s .home-few);
           moves = within-both 1 9999 (x .moves + 1) (omega arith) (omega arith);
-          desk = refl;
+          processor = refl;
           place = within-both 1 (length g) (x .pc) (s .place) (s .place-few);
           last = refl;
         })
@@ -71,7 +71,7 @@ module _ (n m : ℕ) (g : Program) where
           children = b .children;
           home = b .home;
           moves = b .moves;
-          desk = k;
+          processor = k;
           place = rw (eqb-true (stateNumber (x .state)) 5 e) at (b .place);
           last = refl;
         })

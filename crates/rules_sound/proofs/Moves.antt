@@ -23,7 +23,7 @@ use Rattle.rules_sound.specs.Stands.{Whole, FineEffect}
 use Rattle.rules_sound.proofs.Settled.{settled}
 use Rattle.rules_sound.proofs.LifeRules.{departed-ok}
 use Rattle.rules_sound.proofs.ChannelRules.{located-fine, departureSending-fine}
-use Rattle.rules_sound.proofs.Postings.{letter-posted}
+use Rattle.rules_sound.proofs.Postings.{message-posted}
 use Rattle.rules_sound.proofs.Rigs.{task-stands, receiving-stands, sending-stands}
 use Rattle.rules_sound.proofs.Frames.{tasks-few}
 
@@ -38,13 +38,13 @@ move-fine r s w t l h ready k e o =
     let x = taskAt r t in
     let d = x .processor in
     let b = settled n m (programIn (r .plan) t) x Ready refl ready (w .holds .tasks t l h) in
-    let low = b .desk in
-    let high : d .0 ≤ 6 = omega (arith, b .desk-few, s .few) in
+    let low = b .processor in
+    let high : d .0 ≤ 6 = omega (arith, b .processor-few, s .few) in
     let known = and-both (processorOk n e) (movesOk (x .moves + 1)) o (within-both 1 9999 (x .moves + 1) (omega arith) (omega arith)) in
     let q = withTask r t (departed x) in
     let here = task-stands n (r .plan) (r .network) r w (tasks-few n (r .plan) s) t (departed x) (λ z. departed-ok n m (programIn (r .plan) t) x b (omega arith)) in
     let pointed = receiving-stands n (r .plan) (r .network) (located e (x .moves + 1)) (λ y f. located-fine n y f e (x .moves + 1) known) d low high t q here in
     record {
       system = sending-stands n (r .plan) (r .network) departureSending (departureSending-fine n) d low high t (forReceiving q t d (located e (x .moves + 1))) pointed;
-      posting = letter-posted n m (Migration e t) (and-both (processorOk n e) (taskNumberOk m t) o (within-both 1 m (t .0) l h));
+      posting = message-posted n m (Migration e t) (and-both (processorOk n e) (taskNumberOk m t) o (within-both 1 m (t .0) l h));
     }

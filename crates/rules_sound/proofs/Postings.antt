@@ -17,10 +17,10 @@ use Rattle.rules.specs.declared.channel.Hint.{Hint}
 use Rattle.rules.specs.declared.channel.Offer.{Offer}
 use Rattle.rules.specs.declared.message.Message.{Message}
 use Rattle.rules.specs.declared.message.Message.the-variants.{Offered, Advert, ReadyToReceive, Data}
-use Rattle.rules.specs.declared.rule.Posting.the-variants.{Nothing, Letter, Adverts}
+use Rattle.rules.specs.declared.rule.Posting.the-variants.{Nothing, Single, Adverts}
 use Rattle.rules.specs.Numbers.{processorId, processorOk, channelNumberOk}
 use Rattle.rules.specs.Cells.{hint}
-use Rattle.rules.specs.Networks.{lettersOf}
+use Rattle.rules.specs.Networks.{messagesOf}
 use Rattle.rules.specs.Receive.{callTo}
 use Rattle.rules.specs.Sound.{knownOk, madeOk, messageOk}
 use Rattle.rules_sound.specs.Fine.{FinePosting, FineReply}
@@ -28,39 +28,39 @@ use Rattle.base.proofs.Joins.{every-joined}
 
 module _ (n m : ℕ) where
   pub nothing-posted : FinePosting n m Nothing
-  unfolding lettersOf every
-  nothing-posted = record { letters = refl }
+  unfolding messagesOf every
+  nothing-posted = record { messages = refl }
 
-  pub letter-posted : (a : Message) → messageOk n m a ≡ true → FinePosting n m (Letter a)
-  unfolding lettersOf every
-  letter-posted a h = record { letters = rw h refl }
+  pub message-posted : (a : Message) → messageOk n m a ≡ true → FinePosting n m (Single a)
+  unfolding messagesOf every
+  message-posted a h = record { messages = rw h refl }
 
   pub nothing-reply : FineReply n m Nothing
-  unfolding lettersOf
+  unfolding messagesOf
   nothing-reply = record { posting = nothing-posted; few = omega arith }
 
-  pub letter-reply : (a : Message) → FinePosting n m (Letter a) → FineReply n m (Letter a)
-  unfolding lettersOf
-  letter-reply a h = record { posting = h; few = omega arith }
+  pub message-reply : (a : Message) → FinePosting n m (Single a) → FineReply n m (Single a)
+  unfolding messagesOf
+  message-reply a h = record { posting = h; few = omega arith }
 
   module _ (c : ChannelId) (k : channelNumberOk c ≡ true) where
-    pub offered-posted : (o : Offer) (h : Hint) → madeOk n o ≡ true → knownOk n h ≡ true → FinePosting n m (Letter (Offered c o h))
+    pub offered-posted : (o : Offer) (h : Hint) → madeOk n o ≡ true → knownOk n h ≡ true → FinePosting n m (Single (Offered c o h))
     unfolding messageOk
-    offered-posted o h p q = letter-posted (Offered c o h) (simp (k, p, q))
+    offered-posted o h p q = message-posted (Offered c o h) (simp (k, p, q))
 
     pub call-posted : (from : ProcessorId) (x : Task) → processorOk n from ≡ true → knownOk n (hint (x .processor) (x .moves)) ≡ true → FinePosting n m (callTo from c x)
     unfolding messageOk
-    call-posted from x p q = letter-posted (ReadyToReceive c from (hint (x .processor) (x .moves))) (simp (k, p, q))
+    call-posted from x p q = message-posted (ReadyToReceive c from (hint (x .processor) (x .moves))) (simp (k, p, q))
 
-    pub data-posted : (d : ProcessorId) (w : Word) → processorOk n d ≡ true → FinePosting n m (Letter (Data c d w))
+    pub data-posted : (d : ProcessorId) (w : Word) → processorOk n d ≡ true → FinePosting n m (Single (Data c d w))
     unfolding messageOk
-    data-posted d w p = letter-posted (Data c d w) (simp (k, p))
+    data-posted d w p = message-posted (Data c d w) (simp (k, p))
 
     pub adverts-posted : (d : ProcessorId) → processorOk n d ≡ true → FinePosting n m (Adverts c d)
-    unfolding lettersOf every messageOk
+    unfolding messagesOf every messageOk
     adverts-posted d p =
         record {
-          letters =
+          messages =
               every-joined (messageOk n m) n (λ j. pick (eqb (suc j) (d .0)) [] (Advert c (processorId (suc j)) d ∷ []))
               (λ j q.
               pick-cases (λ l. every (messageOk n m) l ≡ true) (eqb (suc j) (d .0)) [] (Advert c (processorId (suc j)) d ∷ [])

@@ -54,7 +54,7 @@ module _ (n m : ℕ) (gs gr : Program) (x : Site) (f : FineSite n m gr x) (a : A
       let o = x .cell .channel .carried in
       let from = x .cell .entry .noted in
       let P = FineOutcome n m gs gr (FinePosting n m) x in
-      let here : knownOk n (hint d (x .receiver .moves)) ≡ true = here-known n m gr (x .receiver) (a .fine) (acting-settled n m gr (x .receiver) opReceive a .desk) in
+      let here : knownOk n (hint d (x .receiver .moves)) ≡ true = here-known n m gr (x .receiver) (a .fine) (acting-settled n m gr (x .receiver) opReceive a .processor) in
       pick-cases P (x .sending && isAt d (x .sender)) _ _
       (λ e. passes-fine (and-left (x .sending) _ e) c w l)
       (λ e.

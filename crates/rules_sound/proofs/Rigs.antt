@@ -72,9 +72,9 @@ module _ (n : ℕ) (p : Plan) (k : Network) where
                       by-cases
                       (ℕ-discrete (c .0) (b .0))
                       (λ (j : c .0 ≡ b .0).
-                      let desk : e ≡ d = ap processorId (sym i) in
+                      let processor : e ≡ d = ap processorId (sym i) in
                       let here : b ≡ c = ap channelId (sym j) in
-                      rw (desk, here, entryAt-same r d c x (s .shaped) dh ch) (f .entry))
+                      rw (processor, here, entryAt-same r d c x (s .shaped) dh ch) (f .entry))
                       (λ j. rw (entryAt-other-channel r d c x e b cl ch bl bh j) (s .holds .entries e b el eh bl bh)))
                       (λ i. rw (entryAt-other-processor r d c x e b dl el ch bh i) (s .holds .entries e b el eh bl bh));
                   channels =

@@ -86,8 +86,8 @@ module _ (r : System) (s : Startable (r .processors) (r .plan)) (w : Whole r) (t
       let high = within-high 2 (r .plan .tasks) (u .0) o in
       let few = inserted-below (u .0) (taskAt r t .children) (r .plan .tasks) (omega arith) high (here .children) in
       let made = changes (createRule (taskAt r t) u) (create-ok _ _ _ (taskAt r t) opCreate a u few) in
-      let desk = within-both 1 (r .processors) (taskAt r t .processor .0) (here .desk) (here .desk-few) in
-      record { system = birth-stands _ _ _ s _ (made .system) u high (taskAt r t .processor) desk; posting = nothing-posted _ _ }
+      let processor = within-both 1 (r .processors) (taskAt r t .processor .0) (here .processor) (here .processor-few) in
+      record { system = birth-stands _ _ _ s _ (made .system) u high (taskAt r t .processor) processor; posting = nothing-posted _ _ }
 
   finishes : Left (ranFinish r t)
   unfolding ranFinish

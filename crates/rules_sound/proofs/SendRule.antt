@@ -53,7 +53,7 @@ module _ (n m : ℕ) (gs gr : Program) (x : Site) (f : FineSite n m gr x) (a : A
       let h = x .cell .entry .hint in
       let P = FineOutcome n m gs gr (FinePosting n m) x in
       let s = acting-settled n m gs (x .sender) opSend a in
-      let here : processorOk n d ≡ true = within-both 1 n (d .0) (s .desk) (s .desk-few) in
+      let here : processorOk n d ≡ true = within-both 1 n (d .0) (s .processor) (s .processor-few) in
       let made : madeOk n o ≡ true = and-both (processorOk n d) (within 1 64 w) here (within-both 1 64 w l u) in
       pick-cases P (isAt d (x .receiver) && (x .receiving && not (x .cell .channel .awaiting))) _ _
       (λ e. passes-fine (and-left (x .receiving) _ (and-right (isAt d (x .receiver)) _ e)) c w u)

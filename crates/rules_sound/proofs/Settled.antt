@@ -26,7 +26,7 @@ module _ (n m : ℕ) (g : Program) (x : Task) where
       let p : 1 ≤ stateNumber (x .state) = omega (arith, within-low 1 4 (stateNumber s) w) in
       let q : stateNumber (x .state) ≤ 4 = omega (arith, within-high 1 4 (stateNumber s) w) in
       let b = born-passed n m g x h (ne-eqb (stateNumber (x .state)) 0 (λ z. omega arith)) in
-      let d : processorOk n (x .processor) ≡ true = rw (ne-eqb (stateNumber (x .state)) 5 (λ z. omega arith)) at (b .desk) in
+      let d : processorOk n (x .processor) ≡ true = rw (ne-eqb (stateNumber (x .state)) 5 (λ z. omega arith)) at (b .processor) in
       let l : within 1 (length g) (x .pc) ≡ true = rw (ne-eqb (stateNumber (x .state)) 6 (λ z. omega arith)) at (b .place) in
       record {
         born = p;
@@ -36,8 +36,8 @@ module _ (n m : ℕ) (g : Program) (x : Task) where
         home-few = within-high 1 n (x .home .0) (b .home);
         moves = within-low 1 9999 (x .moves) (b .moves);
         moves-few = within-high 1 9999 (x .moves) (b .moves);
-        desk = within-low 1 n (x .processor .0) d;
-        desk-few = within-high 1 n (x .processor .0) d;
+        processor = within-low 1 n (x .processor .0) d;
+        processor-few = within-high 1 n (x .processor .0) d;
         place = within-low 1 (length g) (x .pc) l;
         place-few = within-high 1 (length g) (x .pc) l;
       }
@@ -52,7 +52,7 @@ module _ (n m : ℕ) (g : Program) (x : Task) where
         children = lt-ltb _ _ (s .children);
         home = within-both 1 n (x .home .0) (s .home) (s .home-few);
         moves = within-both 1 9999 (x .moves) (s .moves) (s .moves-few);
-        desk = rw (ne-eqb (stateNumber (x .state)) 5 (λ z. omega arith)) (within-both 1 n (x .processor .0) (s .desk) (s .desk-few));
+        processor = rw (ne-eqb (stateNumber (x .state)) 5 (λ z. omega arith)) (within-both 1 n (x .processor .0) (s .processor) (s .processor-few));
         place = rw (ne-eqb (stateNumber (x .state)) 6 (λ z. omega arith)) (within-both 1 (length g) (x .pc) (s .place) (s .place-few));
         last = l;
       })

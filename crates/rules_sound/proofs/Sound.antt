@@ -13,7 +13,7 @@ use Rattle.plan.specs.Refusals.{planAnswer}
 use Rattle.plan_laws.proofs.Answers.{and-parts}
 use Rattle.rules.specs.declared.system.System.{System}
 use Rattle.rules.specs.Numbers.{taskId}
-use Rattle.rules.specs.Networks.{letters}
+use Rattle.rules.specs.Networks.{messages}
 use Rattle.rules.specs.Systems.{meaning}
 use Rattle.rules.specs.Sound.{networkOk, systemOk}
 use Rattle.rules_laws.specs.Shapes.{Shaped}
@@ -40,7 +40,7 @@ module _ (r : System) (s : Shaped r) where
               entries = tables-fine n r s (b .tables);
               channels = channels-fine n r s (b .channels);
             };
-        mail = record { letters = all; used = leb-true (r .network .used) 256 used };
+        network = record { messages = all; used = leb-true (r .network .used) 256 used };
       }
 
   pub sound-ok : Sound r → systemOk r ≡ true
@@ -54,5 +54,5 @@ module _ (r : System) (s : Shaped r) where
         tasks = below-all (λ i. taskOkIn r (suc i)) (r .plan .tasks) (λ i l. f .rig .tasks (taskId (suc i)) (omega arith) (omega arith));
         tables = fine-tables n r s (f .rig .entries);
         channels = fine-channels n r s (f .rig .channels);
-        network = and-both (leb (r .network .used) 256) _ (le-leb (r .network .used) 256 (f .mail .used)) (f .mail .letters);
+        network = and-both (leb (r .network .used) 256) _ (le-leb (r .network .used) 256 (f .network .used)) (f .network .messages);
       })

@@ -21,19 +21,19 @@ use Rattle.rules.specs.declared.step.Step.{Step}
 use Rattle.rules.specs.declared.step.StepAnswer.the-variants.{BadSystem}
 use Rattle.rules.specs.Numbers.{taskId, processorId}
 use Rattle.rules.specs.Tasks.{noTask, unborn}
-use Rattle.rules.specs.Networks.{letters}
+use Rattle.rules.specs.Networks.{messages}
 use Rattle.rules.specs.Systems.{taskAt, entryIndex, entryAt, channelAt, taskIn}
 use Rattle.rules.specs.Starts.{blank, started}
 use Rattle.rules.specs.Sound.{systemOk}
 use Rattle.rules.specs.Steps.{stepAnswer, steps}
 use Rattle.rules_laws.proofs.Shapes.{blank-shaped, started-shaped}
 use Rattle.rules_sound.specs.Fine.{FineEntry, FineChannel}
-use Rattle.rules_sound.specs.Sound.{programIn, HoldsMail, Startable, Sound}
+use Rattle.rules_sound.specs.Sound.{programIn, HoldsNetwork, Startable, Sound}
 use Rattle.rules_sound.specs.Stands.{Stands}
 use Rattle.rules_sound.proofs.LifeRules.{unborn-ok}
 use Rattle.rules_sound.proofs.Frames.{tasks-few, tasks-some}
 use Rattle.rules_sound.proofs.Births.{birth-stands}
-use Rattle.rules_sound.proofs.Mail.{stands-sound}
+use Rattle.rules_sound.proofs.Network.{stands-sound}
 use Rattle.rules_sound.proofs.Sound.{sound-ok}
 use Rattle.rules_sound.proofs.Kept.{steps-kept}
 use Rattle.rules_sound.proofs.Answers.{not-bad}
@@ -71,15 +71,15 @@ module _ (n : ℕ) (p : Plan) (s : Startable n p) where
             };
       }
 
-  blank-mail : HoldsMail n p (blank n p .network)
-  unfolding blank letters every
-  blank-mail = record { letters = refl; used = omega arith }
+  blank-network : HoldsNetwork n p (blank n p .network)
+  unfolding blank messages every
+  blank-network = record { messages = refl; used = omega arith }
 
 pub started-sound : (n : ℕ) (p : Plan) → Startable n p → Sound (started n p)
 unfolding started
 started-sound n p s =
     let k = blank n p .network in
-    stands-sound n p k (started n p) s (blank-mail n p s)
+    stands-sound n p k (started n p) s (blank-network n p s)
     (birth-stands n p k s (blank n p) (blank-stands n p s) (taskId 1) (tasks-some n p s) (processorId 1) (within-both 1 n 1 (omega arith) (s .some)))
 
 pub started-ok : (n : ℕ) (p : Plan) → 1 ≤ n → n ≤ 6 → planAnswer (programs p) ≡ Accepted → systemOk (started n p) ≡ true

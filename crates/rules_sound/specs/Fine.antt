@@ -8,7 +8,7 @@ use Rattle.rules.specs.declared.channel.Entry.{Entry}
 use Rattle.rules.specs.declared.channel.Channel.{Channel}
 use Rattle.rules.specs.declared.channel.Cell.{Cell}
 use Rattle.rules.specs.declared.rule.Posting.{Posting}
-use Rattle.rules.specs.Networks.{lettersOf}
+use Rattle.rules.specs.Networks.{messagesOf}
 use Rattle.rules.specs.Sound.{hintOk, offerOk, messageOk}
 
 -- a desk's entry for a channel, in a rig of n desks
@@ -30,9 +30,9 @@ pub record FineCell (n : ℕ) (x : Cell) : Type 0 where
 
 -- letters that a rule posts, in a rig of n desks and m tasks
 pub record FinePosting (n m : ℕ) (p : Posting) : Type 0 where
-  pub letters : every (messageOk n m) (lettersOf n p) ≡ true
+  pub messages : every (messageOk n m) (messagesOf n p) ≡ true
 
 -- and of which there is at most one
 pub record FineReply (n m : ℕ) (p : Posting) : Type 0 where
   pub posting : FinePosting n m p
-  pub few : length (lettersOf n p) ≤ 1
+  pub few : length (messagesOf n p) ≤ 1

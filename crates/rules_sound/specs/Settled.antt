@@ -12,7 +12,7 @@ pub record Settled (n m size : ℕ) (x : Task) : Type 0 where
   pub home-few : x .home .0 ≤ n
   pub moves : 1 ≤ x .moves
   pub moves-few : x .moves ≤ 9999
-  pub desk : 1 ≤ x .processor .0
-  pub desk-few : x .processor .0 ≤ n
+  pub processor : 1 ≤ x .processor .0
+  pub processor-few : x .processor .0 ≤ n
   pub place : 1 ≤ x .pc
   pub place-few : x .pc ≤ size

@@ -12,7 +12,7 @@ use Rattle.plan.specs.Programs.{Program, programAt, programs}
 use Rattle.plan.specs.Refusals.{planAnswer}
 use Rattle.rules.specs.declared.message.Network.{Network}
 use Rattle.rules.specs.declared.system.System.{System}
-use Rattle.rules.specs.Networks.{letters}
+use Rattle.rules.specs.Networks.{messages}
 use Rattle.rules.specs.Systems.{taskAt, entryAt, channelAt}
 use Rattle.rules.specs.Sound.{taskOk, messageOk}
 use Rattle.rules_sound.specs.Fine.{FineEntry, FineChannel}
@@ -28,8 +28,8 @@ pub record Holds (n : ℕ) (p : Plan) (r : System) : Type 0 where
   pub channels : (c : ChannelId) → 1 ≤ c .0 → c .0 ≤ 128 → FineChannel n (channelAt r c)
 
 -- the mail of such a rig
-pub record HoldsMail (n : ℕ) (p : Plan) (k : Network) : Type 0 where
-  pub letters : every (messageOk n (p .tasks)) (letters k) ≡ true
+pub record HoldsNetwork (n : ℕ) (p : Plan) (k : Network) : Type 0 where
+  pub messages : every (messageOk n (p .tasks)) (messages k) ≡ true
   pub used : k .used ≤ 256
 
 -- a number of desks and a plan of which there can be a rig
@@ -42,4 +42,4 @@ pub record Startable (n : ℕ) (p : Plan) : Type 0 where
 pub record Sound (r : System) : Type 0 where
   pub frame : Startable (r .processors) (r .plan)
   pub rig : Holds (r .processors) (r .plan) r
-  pub mail : HoldsMail (r .processors) (r .plan) (r .network)
+  pub network : HoldsNetwork (r .processors) (r .plan) (r .network)

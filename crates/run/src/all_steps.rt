@@ -48,17 +48,17 @@ pub fn run_steps<'a>(
         r (now (progress .exit)) (now (out .exit)) ⌝ }
 {
     let n = steps.len() / 4;
-    let mut mail = network;
+    let mut network = network;
     let mut k: usize = 0;
     while k < n {
         let next = k + 1;
         let s = step_at(steps, k);
-        let used = mail.used;
+        let used = network.used;
         let p = position(used, s);
         if p != 0 {
             // a delivery: the letter leaves the mail, and the last place holds what is posted, a letter or nothing
             let place = p - 1;
-            let slot = mail.slots[place];
+            let slot = network.slots[place];
             let m = slot.message;
             let r = deliver(
                 operands,
@@ -74,14 +74,14 @@ pub fn run_steps<'a>(
             let last = used - 1;
             let mut j: usize = 0;
             while place + j < last {
-                let moved = mail.slots[place + j + 1];
-                mail.slots[place + j] = moved;
+                let moved = network.slots[place + j + 1];
+                network.slots[place + j] = moved;
                 j += 1;
             }
             let posting = r.posting;
-            let l = network::letter(posting, 0);
-            mail.slots[last] = l;
-            mail.used = last + base::wide8(network::rounds(1, posting));
+            let l = network::message(posting, 0);
+            network.slots[last] = l;
+            network.used = last + base::wide8(network::rounds(1, posting));
             let answer = r.answer;
             let received = r.received;
             let report = Report {
@@ -120,18 +120,18 @@ pub fn run_steps<'a>(
                 );
                 let posting = r.posting;
                 if network::posts(posting) {
-                    let l = network::letter(posting, 0);
-                    mail.slots[used] = l;
-                    mail.used = used + 1;
+                    let l = network::message(posting, 0);
+                    network.slots[used] = l;
+                    network.used = used + 1;
                 } else {
                     let rounds = network::rounds(size.processors, posting);
                     let mut e: u8 = 0;
                     while e < rounds {
                         if !network::skips(posting, e) {
-                            let l = network::letter(posting, e);
-                            let free = mail.used;
-                            mail.slots[free] = l;
-                            mail.used = free + 1;
+                            let l = network::message(posting, e);
+                            let free = network.used;
+                            network.slots[free] = l;
+                            network.used = free + 1;
                         }
                         e += 1;
                     }
@@ -147,5 +147,5 @@ pub fn run_steps<'a>(
         }
         k = next;
     }
-    mail
+    network
 }

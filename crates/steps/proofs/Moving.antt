@@ -12,12 +12,12 @@ use Rattle.plan.specs.declared.TaskId.{TaskId}
 use Rattle.plan.specs.declared.ProcessorId.{ProcessorId}
 use Rattle.rules.specs.declared.task.Task.{Task}
 use Rattle.rules.specs.declared.message.Message.{Message}
-use Rattle.rules.specs.declared.rule.Posting.the-variants.{Letter}
+use Rattle.rules.specs.declared.rule.Posting.the-variants.{Single}
 use Rattle.rules.specs.declared.step.StepAnswer.{StepAnswer}
 use Rattle.rules.specs.declared.system.Channels.{Channels}
 use Rattle.rules.specs.Answers.{isAccepted}
 use Rattle.rules.specs.Tasks.{departed}
-use Rattle.rules.specs.Networks.{lettersOf}
+use Rattle.rules.specs.Networks.{messagesOf}
 use Rattle.rules.specs.Systems.{store, taskIn, taskStored}
 use Rattle.rig_parts.specs.declared.sweep.CellRule.the-variants.{Locate, DepartSending}
 use Rattle.rig_parts.specs.declared.change.Change.{Change}
@@ -28,7 +28,7 @@ use Rattle.rig_parts.specs.Fetches.{cellPut}
 use Rattle.rig_parts.specs.MoveVerdicts.{moveChange, moveRefusal, judgedMove}
 use Rattle.rig_parts.specs.Answers.{verdictOf}
 use Rattle.rig_parts.proofs.BoundsParts.{count-few}
-use Rattle.rig_parts.proofs.BoundsReady.{desk-in, ready-counts}
+use Rattle.rig_parts.proofs.BoundsReady.{processor-in, ready-counts}
 use Rattle.board.specs.declared.act.Act.{Act}
 use Rattle.board.specs.declared.act.Size.{Size}
 use Rattle.board.specs.Rigs.{RigOn}
@@ -38,12 +38,12 @@ use Rattle.steps.specs.Moves.{CanMove}
 use Rattle.steps.proofs.Acting.{stored-none}
 
 -- one letter fits behind fewer than 256
-pub one-fits : (n used : ℕ) (m : Message) → used < 256 → leb (used + length (lettersOf n (Letter m))) 256 ≡ true
-unfolding lettersOf
+pub one-fits : (n used : ℕ) (m : Message) → used < 256 → leb (used + length (messagesOf n (Single m))) 256 ≡ true
+unfolding messagesOf
 one-fits n used m h = le-leb (used + 1) 256 (omega (arith, h))
 
-pub one-over : (n used : ℕ) (m : Message) → 256 ≤ used → leb (used + length (lettersOf n (Letter m))) 256 ≡ false
-unfolding lettersOf
+pub one-over : (n used : ℕ) (m : Message) → 256 ≤ used → leb (used + length (messagesOf n (Single m))) 256 ≡ false
+unfolding messagesOf
 one-over n used m h = lt-leb (used + 1) 256 (omega (arith, h))
 
 -- what is said, by the answer
@@ -95,4 +95,4 @@ module _ (ss rs hp hm op on notes board gone hp' hm' left : List ℕ) (t : TaskI
 -- in a rig that 9 does not refuse a task can be moved
 pub rig-moves : {opcodes operands numbers users : List ℕ} {n : Size} {l : Lent} → RigOn opcodes operands numbers users n l → (t : TaskId) → CanMove users (l .board) (n .tasks) t
 rig-moves g t =
-    record { whole = g .whole; indexed = g .indexed; few = count-few (g .parts); counts = ready-counts (g .parts) t; desk = desk-in (g .parts) t }
+    record { whole = g .whole; indexed = g .indexed; few = count-few (g .parts); counts = ready-counts (g .parts) t; processor = processor-in (g .parts) t }

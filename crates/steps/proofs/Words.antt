@@ -16,7 +16,7 @@ use Rattle.rules.specs.declared.step.Step.{Step}
 use Rattle.rules.specs.declared.system.Channels.{Channels}
 use Rattle.rules.specs.declared.system.Store.{Store}
 use Rattle.rules.specs.Numbers.{taskId}
-use Rattle.rules.specs.Networks.{lettersOf}
+use Rattle.rules.specs.Networks.{messagesOf}
 use Rattle.rules.specs.Steps.{isRun, wellFormed}
 use Rattle.rules.specs.Systems.{store, taskIn, taskStored}
 use Rattle.rules.specs.Tasks.{isIn}
@@ -54,7 +54,7 @@ module _ (f : Facts) (n : ℕ) (ts : List Task) (s : Store) (used : ℕ) (x : St
   -- a set or an add of a ready task is accepted
   pub word-judged : isRun x ≡ true → x .number ≡ 0 → within 1 (f .tasks) (x .task) ≡ true → isIn Ready (taskIn ts t) ≡ true → 6 ≤ nextAt f ts t .opcode → used ≤ 256
       → stepVerdict f n ts s used x ≡ Accepted (taskChange k (siteIn (f .operands) ts s k) (wordChanged (taskIn ts t) (nextAt f ts t)))
-  unfolding stepVerdict judgedRun runRefusal ranIn runChange runScope sendIn siteIn lettersOf wellFormed
+  unfolding stepVerdict judgedRun runRefusal ranIn runChange runScope sendIn siteIn messagesOf wellFormed
   word-judged run zero w ready high few =
       let o = nextAt f ts t .opcode in
       rw

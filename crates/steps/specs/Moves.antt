@@ -27,7 +27,7 @@ pub record CanMove (users board : List ℕ) (m : ℕ) (t : TaskId) : Type 0 wher
   pub indexed : Indexed users
   pub few : m ≤ 64
   pub counts : readyCounts m (tasksOn board) t
-  pub desk : readyPlaced m (tasksOn board) t
+  pub processor : readyPlaced m (tasksOn board) t
 
 -- it was carried out, beside any held offers and notes
 abbrev pub Moved : List ℕ → Size → TaskId → ProcessorId → List ℕ → List ℕ → List ℕ → Act → List ℕ → List ℕ → List ℕ → Type 0

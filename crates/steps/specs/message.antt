@@ -1,5 +1,5 @@
 -- What is not lent, letters about a channel, and what their rules see.
 pub mod Parts
-pub mod ChannelLetters
+pub mod ChannelMessages
 pub mod Seen
-pub mod TaskLetters
+pub mod TaskMessages

@@ -23,7 +23,7 @@ use rules::step::Step;
 use rules::step::StepAnswer;
 
 // A step that is no run and no move, and delivers nothing.
-fn no_letter(s: Step) -> Act
+fn no_message(s: Step) -> Act
     ensures { λ r. ⌜ r ≡ refusedAct (kindRefusal s) ⌝ }
 {
     if s.kind != 2 {
@@ -89,7 +89,7 @@ pub fn other<'a>(
             s.number,
         );
     }
-    no_letter(s)
+    no_message(s)
 }
 
 // What the step is answered and would post; nothing is changed.
@@ -134,5 +134,5 @@ pub fn step_decided<'a>(
     if s.kind == 3 {
         return move_decided(board, n, TaskId(s.task), s.number);
     }
-    no_letter(s)
+    no_message(s)
 }

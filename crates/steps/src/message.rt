@@ -70,7 +70,7 @@ pub fn deliver<'a>(
 }
 
 // What opening the letter m would say and post.
-pub fn letter_decided<'a>(
+pub fn message_decided<'a>(
     operands: &'a [u16; 4096],
     users: &'a [u8; 1024],
     hintprocessors: &'a [u8; 768],

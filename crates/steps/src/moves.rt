@@ -64,7 +64,7 @@ pub fn move_decided(board: &[u64; 256], n: Size, t: TaskId, to: u16) -> Act
         return refused(q);
     }
     let e = ProcessorId(to as u8);
-    posted(Posting::Letter(Message::Migration(e, t)))
+    posted(Posting::Single(Message::Migration(e, t)))
 }
 
 // The move, where it is not refused: the task leaves, the pointers of its desk for what it receives on name the desk that it

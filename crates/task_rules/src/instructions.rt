@@ -61,11 +61,11 @@ pub fn finish_rule(t: TaskId, x: Task, parent: Task) -> Finished
             posting: Posting::Nothing,
         };
     }
-    let letter = Message::Terminated(home, t);
+    let message = Message::Terminated(home, t);
     Finished {
         task: done,
         parent: parent,
-        posting: Posting::Letter(letter),
+        posting: Posting::Single(message),
     }
 }
 

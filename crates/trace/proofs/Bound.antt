@@ -29,7 +29,7 @@ use Rattle.rules.specs.Trace.{stepLines, endLine}
 use Rattle.rules.specs.StepFiles.{fileSteps, startOf, traceLines, text, stepsOk, answerAfter, runFileAnswer, fitting, writtenAfter, runFileText}
 use Rattle.rules_laws.specs.Shapes.{Shaped}
 use Rattle.rules_laws.proofs.Shapes.{started-shaped}
-use Rattle.rules_laws.proofs.Sound.{letters-fit}
+use Rattle.rules_laws.proofs.Sound.{messages-fit}
 use Rattle.rules_sound.proofs.Kept.{steps-kept}
 use Rattle.rules_sound.proofs.Starts.{started-ok}
 use Rattle.trace.specs.Words.{FitSystem}
@@ -50,7 +50,7 @@ trace-short r z ok h ss l =
       arith,
       length-append (text lines) (endLine q),
       steps-short r z ok h 0 ss (omega arith),
-      end-short q (letters-fit q (steps-kept r ss z ok)),
+      end-short q (messages-fit q (steps-kept r ss z ok)),
     ))
 
 -- an accepted file on desks of a right number

@@ -15,7 +15,7 @@ use Rattle.rules.specs.declared.message.Message.{Message}
 use Rattle.rules.specs.declared.message.Message.the-variants.{Empty, Offered, Advert, ReadyToReceive, Data, Terminated, Migration}
 use Rattle.rules.specs.declared.system.System.{System}
 use Rattle.rules.specs.Tasks.{isIn, isAt, arrived}
-use Rattle.rules.specs.Networks.{letterAt}
+use Rattle.rules.specs.Networks.{messageAt}
 use Rattle.rules.specs.Systems.{taskAt, meaning}
 use Rattle.rules.specs.Effects.{siteAt}
 use Rattle.rules.specs.Sound.{messageOk}
@@ -23,7 +23,7 @@ use Rattle.rules.specs.Arrivals.{terminatedRule, arrival}
 use Rattle.rules.specs.Deliver.{gotTerminated, gotMigration, opened, delivered}
 use Rattle.trace.specs.Words.{taskFits, messageFits, FitSystem, FitEffect}
 use Rattle.trace.proofs.Rules.{offer-fits, advert-fits, call-fits, data-fits}
-use Rattle.trace.proofs.Systems.{task-fits, letter-there, put-task, put-cells, outcome-fits, left-fits}
+use Rattle.trace.proofs.Systems.{task-fits, message-there, put-task, put-cells, outcome-fits, left-fits}
 use Rattle.trace.proofs.Runs.{changed-fits, woken-fits}
 
 ended-fits : (x : Task) (d : ProcessorId) (t : TaskId) → taskFits x ≡ true → taskFits (terminatedRule x d t) ≡ true
@@ -54,6 +54,6 @@ module _ (r : System) (h : FitSystem r) where
   opened-fits n m (Terminated d t) k w = changed-fits _ (terminated-fits d t)
   opened-fits n m (Migration d t) k w = changed-fits _ (migrated-fits d t)
 
-pub delivered-fits : (r : System) → FitSystem r → (n m p : ℕ) → messageOk n m (letterAt (r .network) p) ≡ true → FitEffect (delivered r p)
+pub delivered-fits : (r : System) → FitSystem r → (n m p : ℕ) → messageOk n m (messageAt (r .network) p) ≡ true → FitEffect (delivered r p)
 unfolding delivered
-delivered-fits r h n m p k = opened-fits _ (left-fits r h p) n m _ k (letter-there r h p)
+delivered-fits r h n m p k = opened-fits _ (left-fits r h p) n m _ k (message-there r h p)

@@ -11,24 +11,24 @@ use Rattle.plan.specs.declared.ProcessorId.{ProcessorId}
 use Rattle.plan.specs.declared.ChannelId.{ChannelId}
 use Rattle.rules.specs.declared.message.Message.{Message}
 use Rattle.rules.specs.declared.message.Message.the-variants.{Advert}
-use Rattle.rules.specs.declared.rule.Posting.the-variants.{Nothing, Letter, Adverts}
+use Rattle.rules.specs.declared.rule.Posting.the-variants.{Nothing, Single, Adverts}
 use Rattle.rules.specs.Numbers.{processorId}
-use Rattle.rules.specs.Networks.{lettersOf}
+use Rattle.rules.specs.Networks.{messagesOf}
 use Rattle.trace.specs.Words.{messageFits, FitPosting}
 
 pub none-fits : FitPosting Nothing
-unfolding lettersOf every
-none-fits = record { letters = λ n. refl }
+unfolding messagesOf every
+none-fits = record { messages = λ n. refl }
 
-pub letter-fits : (m : Message) → messageFits m ≡ true → FitPosting (Letter m)
-unfolding lettersOf every
-letter-fits m h = record { letters = λ n. rw h refl }
+pub message-fits : (m : Message) → messageFits m ≡ true → FitPosting (Single m)
+unfolding messagesOf every
+message-fits m h = record { messages = λ n. rw h refl }
 
 pub adverts-fit : (c : ChannelId) (d : ProcessorId) → FitPosting (Adverts c d)
-unfolding lettersOf every messageFits
+unfolding messagesOf every messageFits
 adverts-fit c d =
     record {
-      letters =
+      messages =
           λ n.
           every-joined messageFits n _
           (λ k h.

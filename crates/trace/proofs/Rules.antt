@@ -22,7 +22,7 @@ use Rattle.rules.specs.Receive.{callTo, receivePasses, receiveWaits, receiveRul
 use Rattle.rules.specs.Offers.{kept, pointsOn, offerRule, advertRule}
 use Rattle.rules.specs.Calls.{callRule, dataRule}
 use Rattle.trace.specs.Words.{wordFits, taskFits, messageFits, receivedFits, FitPosting, FitOutcome}
-use Rattle.trace.proofs.Postings.{none-fits, letter-fits, adverts-fit}
+use Rattle.trace.proofs.Postings.{none-fits, message-fits, adverts-fit}
 
 module _ (c : ChannelId) where
   received-fits : (w : WordOf) → c .0 ≤ 128 → wordFits w ≡ true → receivedFits (Word c w) ≡ true
@@ -60,11 +60,11 @@ module _ (c : ChannelId) where
         (pick-either FitOutcome (isAt d (x .receiver)) _ _ (send-waits _ _ none-fits)
         (pick-either FitOutcome (isUnknown h) _ _ (send-waits _ _ (adverts-fit c d))
         (pick-either FitOutcome (sameProcessor (h .processor) d) _ _ (send-waits _ _ none-fits)
-        (send-waits _ _ (letter-fits (Offered c (offer d w) h) refl)))))
+        (send-waits _ _ (message-fits (Offered c (offer d w) h) refl)))))
 
     called-fits : (from : ProcessorId) → FitPosting (callTo from c (x .receiver))
     unfolding messageFits
-    called-fits from = letter-fits (ReadyToReceive c from (hint (x .receiver .processor) (x .receiver .moves))) refl
+    called-fits from = message-fits (ReadyToReceive c from (hint (x .receiver .processor) (x .receiver .moves))) refl
 
     pub receive-fits : (w : ℕ) → c .0 ≤ 128 → FitOutcome (receiveRule x c w)
     unfolding receiveRule
@@ -84,7 +84,7 @@ module _ (c : ChannelId) where
         pick-either FitOutcome (not (counts (x .cell) o) && isAt d (x .receiver)) _ _ (kept-fits _ _ none-fits)
         (pick-either FitOutcome (isAt d (x .receiver) && (x .receiving && not (x .cell .channel .awaiting))) _ _ (kept-fits _ _ (called-fits (o .processor)))
         (pick-either FitOutcome (isAt d (x .receiver)) _ _ (kept-fits _ _ none-fits)
-        (pick-either FitOutcome (pointsOn own h d) _ _ (kept-fits _ _ (letter-fits (Offered c o own) refl))
+        (pick-either FitOutcome (pointsOn own h d) _ _ (kept-fits _ _ (message-fits (Offered c o own) refl))
         (kept-fits _ _ none-fits))))
 
     pub advert-fits : (d from : ProcessorId) → FitOutcome (advertRule x c d from)
@@ -96,7 +96,7 @@ module _ (c : ChannelId) where
     unfolding callRule messageFits receivedFits
     call-fits d h =
         pick-either FitOutcome (x .sending && isAt d (x .sender)) _ _
-        (record { sender = s; receiver = u; posting = letter-fits (Data c (h .processor) (x .sender .word)) s; received = refl })
+        (record { sender = s; receiver = u; posting = message-fits (Data c (h .processor) (x .sender .word)) s; received = refl })
         (kept-fits _ _ none-fits)
 
     pub data-fits : (d : ProcessorId) (w : WordOf) → c .0 ≤ 128 → wordFits w ≡ true → FitOutcome (dataRule x c d w)

@@ -37,7 +37,7 @@ use Rattle.rules.specs.Local.{createRule, syncRule, finishRule, setRule, addRul
 use Rattle.rules.specs.Moves.{moved}
 use Rattle.rules.specs.Runs.{ranCreate, ranFinish, ranSend, ranReceive, executed, ran}
 use Rattle.trace.specs.Words.{taskFits, messageFits, receivedFits, FitPosting, FitSystem, FitEffect}
-use Rattle.trace.proofs.Postings.{none-fits, letter-fits}
+use Rattle.trace.proofs.Postings.{none-fits, message-fits}
 use Rattle.trace.proofs.Rules.{send-fits, receive-fits}
 use Rattle.trace.proofs.Systems.{task-fits, put-task, put-cells, birth-fits, outcome-fits}
 
@@ -61,7 +61,7 @@ unfolding finishRule messageFits
 finished-fits t x y h k =
     pick-either FitFinished (sameTask t (taskId 1)) _ _ (record { task = h; parent = k; posting = none-fits })
     (pick-either FitFinished (isAt (x .processor) y) _ _ (record { task = h; parent = woken-fits _ k; posting = none-fits })
-    (record { task = h; parent = k; posting = letter-fits (Terminated (x .home) t) refl }))
+    (record { task = h; parent = k; posting = message-fits (Terminated (x .home) t) refl }))
 
 -- arguments in range, as an accepted plan has them
 pub record Ranged (i : Instruction) : Type 0 where
@@ -144,6 +144,6 @@ module _ (r : System) (h : FitSystem r) (t : TaskId) where
   moved-fits e =
       record {
         system = put-cells 128 _ _ _ _ (put-cells 128 _ _ _ _ (put-task r h t (departed (taskAt r t)) (task-fits r h t)));
-        posting = letter-fits (Migration e t) refl;
+        posting = message-fits (Migration e t) refl;
         received = refl;
       }

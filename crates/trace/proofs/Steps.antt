@@ -20,7 +20,7 @@ use Rattle.rules_laws.proofs.Shapes.{step-shaped}
 use Rattle.rules_laws.proofs.Steps.{step-cases, step-passed}
 use Rattle.rules_laws.proofs.StepKinds.{answer-deliver, deliver-passed}
 use Rattle.rules_sound.proofs.Kept.{step-kept}
-use Rattle.rules_sound.proofs.Mail.{letter-fine}
+use Rattle.rules_sound.proofs.Network.{message-fine}
 use Rattle.rules_sound.proofs.Sound.{sound}
 use Rattle.trace.specs.Words.{FitSystem, FitEffect}
 use Rattle.trace.proofs.Lengths.{reportText, refused-short, accepted-short, line-short}
@@ -42,7 +42,7 @@ module _ (r : System) (z : Shaped r) (ok : systemOk r ≡ true) (h : FitSystem r
       (pick-cases FitEffect (isDeliver s) _ _
       (λ d.
       let (some, there) = deliver-passed r (s .number) (sym (answer-deliver r s d) ∙ step-passed r s a .rule) in
-      delivered-fits r h _ _ (s .number) (letter-fine (r .processors) (r .plan) (r .network) (z .slots) (f .mail) (s .number) some there))
+      delivered-fits r h _ _ (s .number) (message-fine (r .processors) (r .plan) (r .network) (z .slots) (f .network) (s .number) some there))
       (λ d. moved-fits r h (taskId (s .task)) (processorId (s .number))))
 
   step-short : Short (step r s)

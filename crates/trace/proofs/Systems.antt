@@ -21,7 +21,7 @@ use Rattle.rules.specs.declared.rule.Outcome.{Outcome}
 use Rattle.rules.specs.declared.system.System.{System}
 use Rattle.rules.specs.Numbers.{taskId, processorId, channelId}
 use Rattle.rules.specs.Tasks.{noTask, born}
-use Rattle.rules.specs.Networks.{slot, noSlot, letterAt, enqueued, enqueuedAll, dequeued}
+use Rattle.rules.specs.Networks.{slot, noSlot, messageAt, enqueued, enqueuedAll, dequeued}
 use Rattle.rules.specs.Systems.{withNetwork, taskAt, withTask, withCell, taskIn, taskStored}
 use Rattle.rules.specs.Effects.{Effect, completed, withOutcome, forChannels}
 use Rattle.rules.specs.Starts.{birth, blank, started}
@@ -33,9 +33,9 @@ module _ (r : System) (h : FitSystem r) where
   unfolding taskIn
   task-fits t = pick-either (λ x. taskFits x ≡ true) (eqb (t .0) 0) noTask _ refl (every-any taskFits (r .tasks) (t .0 - 1) noTask refl (h .tasks))
 
-  pub letter-there : (p : ℕ) → messageFits (letterAt (r .network) p) ≡ true
-  unfolding letterAt messageFits
-  letter-there p = every-any slotFits (r .network .slots) (p - 1) noSlot refl (h .slots)
+  pub message-there : (p : ℕ) → messageFits (messageAt (r .network) p) ≡ true
+  unfolding messageAt messageFits
+  message-there p = every-any slotFits (r .network .slots) (p - 1) noSlot refl (h .slots)
 
   pub put-task : (t : TaskId) (x : Task) → taskFits x ≡ true → FitSystem (withTask r t x)
   unfolding withTask taskStored
@@ -88,7 +88,7 @@ joined-fit n (m ∷ ms) h k = joined-fit (enqueued n m) ms (every-set slotFits (
 pub completed-fits : (e : Effect) → FitEffect e → FitSystem (completed e)
 unfolding completed
 completed-fits e h =
-    record { tasks = h .system .tasks; slots = joined-fit (e .system .network) _ (h .system .slots) (h .posting .letters (e .system .processors)) }
+    record { tasks = h .system .tasks; slots = joined-fit (e .system .network) _ (h .system .slots) (h .posting .messages (e .system .processors)) }
 
 pub started-fits : (n : ℕ) (p : Plan) → FitSystem (started n p)
 unfolding started blank every messageFits

@@ -14,7 +14,7 @@ use Rattle.rules.specs.declared.rule.Received.{Received}
 use Rattle.rules.specs.declared.rule.Received.the-variants.{Nothing, Word}
 use Rattle.rules.specs.declared.rule.Outcome.{Outcome}
 use Rattle.rules.specs.declared.system.System.{System}
-use Rattle.rules.specs.Networks.{lettersOf}
+use Rattle.rules.specs.Networks.{messagesOf}
 use Rattle.rules.specs.Effects.{Effect}
 
 abbrev pub wordFits : WordOf → Bool
@@ -37,7 +37,7 @@ slotFits s = messageFits (s .message)
 
 -- the letters that a rule posts, in a rig of any number of desks
 pub record FitPosting (p : Posting) : Type 0 where
-  pub letters : (n : ℕ) → every messageFits (lettersOf n p) ≡ true
+  pub messages : (n : ℕ) → every messageFits (messagesOf n p) ≡ true
 
 -- what is received, with its channel
 unfoldable pub receivedFits : Received → Bool

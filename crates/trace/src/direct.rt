@@ -205,25 +205,25 @@ fn put_end(rest: &mut [u8]) -> usize
 }
 
 // The last line at the front of the rest of the output, if it fits: how many bytes were written.
-fn write_end(rest: &mut [u8], quiet: bool, letters: usize) -> usize
-    requires { ⌜ letters < 100000 ⌝ }
-    ensures { λ r. ⌜ Emitted (now (rest .entry)) 0 (endText quiet letters) r (now (rest .exit)) ⌝ }
+fn write_end(rest: &mut [u8], quiet: bool, messages: usize) -> usize
+    requires { ⌜ messages < 100000 ⌝ }
+    ensures { λ r. ⌜ Emitted (now (rest .entry)) 0 (endText quiet messages) r (now (rest .exit)) ⌝ }
 {
-    if rest.len() < digits(letters) + 7 {
+    if rest.len() < digits(messages) + 7 {
         return 0;
     }
     let word = put_end(rest);
     let answer = put_field(rest, word, flag(quiet));
-    let end = put_field(rest, answer, letters);
+    let end = put_field(rest, answer, messages);
     rest[end] = 10;
     end + 1
 }
 
 // The last line written into the part of the output that is not yet filled: how many bytes were written, 0 where it
 // does not fit.
-pub fn emit_end(out: &mut [u8], filled: usize, quiet: bool, letters: usize) -> usize
-    requires { ⌜ (filled ≤ length (now out)) × (letters < 100000) ⌝ }
-    ensures { λ r. ⌜ Emitted (now (out .entry)) filled (endText quiet letters) r (now (out .exit)) ⌝ }
+pub fn emit_end(out: &mut [u8], filled: usize, quiet: bool, messages: usize) -> usize
+    requires { ⌜ (filled ≤ length (now out)) × (messages < 100000) ⌝ }
+    ensures { λ r. ⌜ Emitted (now (out .entry)) filled (endText quiet messages) r (now (out .exit)) ⌝ }
 {
-    write_end(&mut out[filled..], quiet, letters)
+    write_end(&mut out[filled..], quiet, messages)
 }

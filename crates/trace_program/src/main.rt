@@ -6,7 +6,7 @@ use libc::STDIN_FILENO;
 use libc::STDOUT_FILENO;
 
 // A first byte that is no digit counts as 0 desks.
-fn desks() -> u32 {
+fn processors() -> u32 {
     let mut first = [0u8; 1];
     let got = libc::read(STDIN_FILENO, &mut first);
     if got < 1 {
@@ -61,7 +61,7 @@ fn say(answer: u64, out: &[u8]) {
 // a longer one is refused and not cut; and than any trace, of 2,000 lines of at most 19 bytes and the
 // last.
 fn main() {
-    let n = desks();
+    let n = processors();
     let mut plan = io::large_buffer();
     let mut steps = io::large_buffer();
     let mut out = io::large_buffer();

@@ -12,8 +12,8 @@ use Rattle.plan.specs.declared.TaskId.{TaskId}
 use Rattle.plan.specs.declared.ProcessorId.{ProcessorId}
 use Rattle.rules.specs.declared.message.Message.the-variants.{Terminated, Migration}
 use Rattle.channel.specs.Bags.{one, without, total}
-use Rattle.channel.specs.Letters.{words, isWord, Letter, offer, advert, call, word}
-use Rattle.transitions.specs.Letters.{flat, wordIn, wordsIn, endedTo, moverTo}
+use Rattle.channel.specs.Messages.{words, isWord, ChannelMessage, offer, advert, call, word}
+use Rattle.transitions.specs.Messages.{flat, wordIn, wordsIn, endedTo, moverTo}
 
 -- behind a list, places are counted from its end
 behind-at : {A : Type 0} (xs ys : List A) (k : ℕ) → getElem? (xs ++ ys) (length xs + k) ≡ getElem? ys k
@@ -100,7 +100,7 @@ pub none-of : {A : Type 0} (xs : List A) → length xs ≡ 0 → xs ≡ []
 none-of [] e = refl
 none-of (x ∷ xs) e = absurd (omega arith)
 
-pub words-length : (ls : List Letter) → length (wordsIn ls) ≡ words ls
+pub words-length : (ls : List ChannelMessage) → length (wordsIn ls) ≡ words ls
 unfolding flat wordIn total isWord
 words-length [] = refl
 words-length (offer to d w k ∷ ls) = omega (arith, words-length ls)
@@ -108,7 +108,7 @@ words-length (advert to d ∷ ls) = omega (arith, words-length ls)
 words-length (call to d k ∷ ls) = omega (arith, words-length ls)
 words-length (word to x ∷ ls) = omega (arith, words-length ls)
 
-pub no-words : (ls : List Letter) → words ls ≡ 0 → wordsIn ls ≡ []
+pub no-words : (ls : List ChannelMessage) → words ls ≡ 0 → wordsIn ls ≡ []
 no-words ls e = none-of (wordsIn ls) (words-length ls ∙ e)
 
 -- a list of at most one element in which something stands
@@ -120,7 +120,7 @@ only-one (x ∷ []) (suc i) e few = absurd (let z : _≡_ {A = ℕ} 0 1 = cc in 
 only-one (x ∷ y ∷ xs) i e few = absurd (omega arith)
 
 -- the word at place q, where at most one is under way: the words before and after it is taken
-pub one-word : (ls : List Letter) (q to : ℕ) (w : Word) → getElem? ls q ≡ some (word to w) → words ls ≤ 1
+pub one-word : (ls : List ChannelMessage) (q to : ℕ) (w : Word) → getElem? ls q ≡ some (word to w) → words ls ≤ 1
     → (wordsIn ls ≡ one w) × (wordsIn (without ls q) ≡ [])
 unfolding wordIn
 one-word ls q to w e few =

@@ -28,7 +28,7 @@ use Rattle.rules.specs.declared.message.Network.{Network}
 use Rattle.rules.specs.declared.rule.Outcome.{Outcome}
 use Rattle.rules.specs.declared.system.System.{System}
 use Rattle.rules.specs.Numbers.{channelNumberOk}
-use Rattle.rules.specs.Networks.{letters, letterAt, enqueuedAll, dequeued, lettersOf}
+use Rattle.rules.specs.Networks.{messages, messageAt, enqueuedAll, dequeued, messagesOf}
 use Rattle.rules.specs.Systems.{withNetwork, taskAt, withTask, entryAt, channelAt, cellAt, withCell}
 use Rattle.rules.specs.Effects.{Effect, completed, withOutcome, forChannels}
 use Rattle.rules.specs.Tasks.{noTask}
@@ -38,12 +38,12 @@ use Rattle.rules_laws.proofs.TaskAt.{taskAt-same, taskAt-other, taskAt-none}
 use Rattle.rules_laws.proofs.CellAt.{withCell-processors, withCell-network, withCell-taskAt, withCell-shaped, entryAt-same, channelAt-same}
 use Rattle.rules_laws.proofs.CellAt.{entryAt-other-processor, entryAt-other-channel, channelAt-other}
 use Rattle.rules_laws.proofs.ForChannels.{forChannels-processors, forChannels-network, forChannels-taskAt, forChannels-elsewhere, forChannels-cellAt}
-use Rattle.rules_laws.proofs.Letters.{length-letters, letters-enqueuedAll, letterAt-letters, letters-dequeued}
+use Rattle.rules_laws.proofs.Messages.{length-messages, messages-enqueuedAll, messageAt-messages, messages-dequeued}
 use Rattle.net.specs.States.{atChannel}
 use Rattle.channel.specs.Updates.{atNumber}
 use Rattle.channel.specs.Bags.{without}
 use Rattle.channel.proofs.Updates.{at-elim as at-number-elim}
-use Rattle.transitions.specs.Readings.{Reading, reading, entryOf, channelOf, noEntry, noChannel, cellOf, withTaskRead, withLettersRead}
+use Rattle.transitions.specs.Readings.{Reading, reading, entryOf, channelOf, noEntry, noChannel, cellOf, withTaskRead, withMessagesRead}
 use Rattle.transitions.specs.Readings.{withOutcomeRead, forChannelsRead}
 use Rattle.transitions.proofs.Updates.{at-elim, at-channel-elim}
 
@@ -54,21 +54,21 @@ pub record IsTask (t : TaskId) : Type 0 where
 
 -- a channel at a desk
 pub record IsCell (d : ProcessorId) (c : ChannelId) : Type 0 where
-  pub desk : 1 ≤ d .0
-  pub desk-few : d .0 ≤ 6
+  pub processor : 1 ≤ d .0
+  pub processor-few : d .0 ≤ 6
   pub low : 1 ≤ c .0
   pub high : c .0 ≤ 128
 
 -- readings with the same parts
 abbrev made : ℕ → (TaskId → Task) → (ChannelId → ℕ → Entry) → (ChannelId → Channel) → List Message → Reading
-made n t e k l = record { processors = n; tasks = t; entries = e; channels = k; letters = l }
+made n t e k l = record { processors = n; tasks = t; entries = e; channels = k; messages = l }
 
 made-same : {n m : ℕ} {t u : TaskId → Task} {e f : ChannelId → ℕ → Entry} {j k : ChannelId → Channel} {l i : List Message}
     → n ≡ m → t ≡ u → e ≡ f → j ≡ k → l ≡ i → made n t e j l ≡ made m u f k i
 made-same p q r s z = cc
 
 readings-same : (x y : Reading) → x .processors ≡ y .processors → ((t : TaskId) → x .tasks t ≡ y .tasks t)
-    → ((c : ChannelId) (d : ℕ) → x .entries c d ≡ y .entries c d) → ((c : ChannelId) → x .channels c ≡ y .channels c) → x .letters ≡ y .letters
+    → ((c : ChannelId) (d : ℕ) → x .entries c d ≡ y .entries c d) → ((c : ChannelId) → x .channels c ≡ y .channels c) → x .messages ≡ y .messages
     → x ≡ y
 readings-same x y p t e k l = made-same p (fun-ext t) (fun-ext λ c. fun-ext (e c)) (fun-ext k) l
 
@@ -76,7 +76,7 @@ readings-same x y p t e k l = made-same p (fun-ext t) (fun-ext λ c. fun-ext (e 
 abbrev withCellRead : Reading → ChannelId → ℕ → Cell → Reading
 withCellRead x c d y =
     let es = atChannel (x .entries) c (atNumber (x .entries c) d (y .entry)) in
-    made (x .processors) (x .tasks) es (atChannel (x .channels) c (y .channel)) (x .letters)
+    made (x .processors) (x .tasks) es (atChannel (x .channels) c (y .channel)) (x .messages)
 
 -- where there is a channel and a desk
 module _ (r : System) (c : ChannelId) where
@@ -89,7 +89,7 @@ module _ (r : System) (c : ChannelId) where
   channel-there cl ch = rw (within-both 1 128 (c .0) cl ch) refl
 
   cell-there : (d : ProcessorId) → IsCell d c → cellAt r d c ≡ record { entry = entryOf r c (d .0); channel = channelOf r c }
-  cell-there d is = rw (entry-there (d .0) (is .low) (is .high) (is .desk), channel-there (is .low) (is .high)) refl
+  cell-there d is = rw (entry-there (d .0) (is .low) (is .high) (is .processor), channel-there (is .low) (is .high)) refl
 
 -- entries and channels are read alike in two rigs where they are alike wherever there is a desk and a channel
 module _ (q r : System) where
@@ -131,19 +131,19 @@ unfolding reading
 nobody r = taskAt-none r
 
 -- another mail
-read-network : (r : System) (k : Network) → reading (withNetwork r k) ≡ withLettersRead (reading r) (letters k)
+read-network : (r : System) (k : Network) → reading (withNetwork r k) ≡ withMessagesRead (reading r) (messages k)
 unfolding reading entryOf entryAt channelOf channelAt
 read-network r k = refl
 
 -- letters join the mail
-pub read-completed : (e : Effect) → Shaped (e .system) → e .system .network .used + length (lettersOf (e .system .processors) (e .posting)) ≤ 256
-    → reading (completed e) ≡ withLettersRead (reading (e .system)) ((reading (e .system)) .letters ++ lettersOf (e .system .processors) (e .posting))
+pub read-completed : (e : Effect) → Shaped (e .system) → e .system .network .used + length (messagesOf (e .system .processors) (e .posting)) ≤ 256
+    → reading (completed e) ≡ withMessagesRead (reading (e .system)) ((reading (e .system)) .messages ++ messagesOf (e .system .processors) (e .posting))
 unfolding reading completed
 read-completed e shaped fits =
     let r = e .system in
-    let ms = lettersOf (r .processors) (e .posting) in
+    let ms = messagesOf (r .processors) (e .posting) in
     read-network r (enqueuedAll (r .network) ms)
-    ∙ ap (withLettersRead (reading r)) (letters-enqueuedAll (r .network) ms (omega (arith, shaped .slots)))
+    ∙ ap (withMessagesRead (reading r)) (messages-enqueuedAll (r .network) ms (omega (arith, shaped .slots)))
 
 module _ (r : System) (shaped : Shaped r) where
   -- a task that does not exist is written as it was
@@ -163,17 +163,17 @@ module _ (r : System) (shaped : Shaped r) where
         (at-elim (λ u z. taskAt (withTask r t y) u ≡ z) (taskAt r) t y task-written (λ u ne. taskAt-other r t y u (λ e. ne (sym e))))
         (λ c d. entries-same (withTask r t y) r c d (λ cl ch dl. withTask-entryAt r t y (processorId d) c))
         (λ c. channels-same (withTask r t y) r c (λ cl ch. withTask-channelAt r t y c))
-        (ap letters (withTask-network r t y))
+        (ap messages (withTask-network r t y))
 
   -- a cell that is written
   module _ (d : ProcessorId) (c : ChannelId) (x : Cell) (is : IsCell d c) where
     written-entry : (e : ℕ) → entryOf (withCell r d c x) c e ≡ atNumber (entryOf r c) (d .0) (x .entry) e
     written-entry =
         at-number-elim (λ e z. entryOf (withCell r d c x) c e ≡ z) (entryOf r c) (d .0) (x .entry)
-        (entry-there (withCell r d c x) c (d .0) (is .low) (is .high) (is .desk) ∙ entryAt-same r d c x shaped (is .desk-few) (is .high))
+        (entry-there (withCell r d c x) c (d .0) (is .low) (is .high) (is .processor) ∙ entryAt-same r d c x shaped (is .processor-few) (is .high))
         (λ e ne.
         entries-same (withCell r d c x) r c e
-        (λ cl ch el. entryAt-other-processor r d c x (processorId e) c (is .desk) el (is .high) ch (λ h. ne (sym h))))
+        (λ cl ch el. entryAt-other-processor r d c x (processorId e) c (is .processor) el (is .high) ch (λ h. ne (sym h))))
 
     written-entries : (f : ChannelId) (e : ℕ)
         → entryOf (withCell r d c x) f e ≡ atChannel (entryOf r) c (atNumber (entryOf r c) (d .0) (x .entry)) f e
@@ -200,7 +200,7 @@ module _ (r : System) (shaped : Shaped r) where
         (withCell-taskAt r d c x)
         written-entries
         written-channels
-        (ap letters (withCell-network r d c x))
+        (ap messages (withCell-network r d c x))
 
 -- a rule for each channel of which a test holds
 module _ (r : System) (shaped : Shaped r) (test : ChannelId → Bool) (rule : Cell → Cell) (d : ProcessorId) (l : 1 ≤ d .0) (u : d .0 ≤ 6) where
@@ -217,7 +217,7 @@ module _ (r : System) (shaped : Shaped r) (test : ChannelId → Bool) (rule : Ce
     -- the channel exists, and the test has the value t
     module _ (e : channelNumberOk c ≡ true) (t : Bool) (f : test c ≡ t) where
       is : IsCell d c
-      is = record { desk = l; desk-few = u; low = within-low 1 128 (c .0) e; high = within-high 1 128 (c .0) e }
+      is = record { processor = l; processor-few = u; low = within-low 1 128 (c .0) e; high = within-high 1 128 (c .0) e }
 
       cell-here : record { entry = entryOf then c (d .0); channel = channelOf then c } ≡ pick t (rule found) found
       cell-here =
@@ -254,7 +254,7 @@ module _ (r : System) (shaped : Shaped r) (test : ChannelId → Bool) (rule : Ce
       (λ (h : e ≡ d .0). rw h (entry-here c (channelNumberOk c) refl (test c) refl))
       (λ ne. entry-elsewhere c e ne))
       (λ c. channel-here c (channelNumberOk c) refl (test c) refl)
-      (ap letters (forChannels-network test rule d 128 r))
+      (ap messages (forChannels-network test rule d 128 r))
 
 module _ (r : System) (shaped : Shaped r) where
   pub read-task : (t : TaskId) (y : Task) → IsTask t → reading (withTask r t y) ≡ withTaskRead (reading r) t y
@@ -275,9 +275,9 @@ module _ (r : System) (shaped : Shaped r) where
   -- an end of a channel exists, or nothing changes there
   pub read-outcome : (s u : TaskId) (c : ChannelId) (d : ProcessorId) (o : Outcome) → IsCell d c → s .0 ≤ 64 → u .0 ≤ 64
       → (s .0 ≡ 0 → o .sender ≡ taskAt r s) → (u .0 ≡ 0 → o .receiver ≡ taskAt r u)
-      → r .network .used + length (lettersOf (r .processors) (o .posting)) ≤ 256
+      → r .network .used + length (messagesOf (r .processors) (o .posting)) ≤ 256
       → reading (completed (withOutcome r s u c d o))
-      ≡ withOutcomeRead (reading r) s u c (d .0) o ((reading r) .letters ++ lettersOf (r .processors) (o .posting))
+      ≡ withOutcomeRead (reading r) s u c (d .0) o ((reading r) .messages ++ messagesOf (r .processors) (o .posting))
   unfolding withOutcome
   read-outcome s u c d o is sf uf sn un fits =
       let q1 = withTask r s (o .sender) in
@@ -286,16 +286,16 @@ module _ (r : System) (shaped : Shaped r) where
       let shaped1 = withTask-shaped r s (o .sender) shaped in
       let shaped2 = withTask-shaped q1 u (o .receiver) shaped1 in
       let shaped3 = withCell-shaped q2 d c (o .cell) shaped2 in
-      let mail : q3 .network ≡ r .network =
+      let network : q3 .network ≡ r .network =
       rw (withCell-network q2 d c (o .cell), withTask-network q1 u (o .receiver)) (withTask-network r s (o .sender)) in
-      let desks : q3 .processors ≡ r .processors =
+      let processors : q3 .processors ≡ r .processors =
       rw (withCell-processors q2 d c (o .cell), withTask-processors q1 u (o .receiver)) (withTask-processors r s (o .sender))
       in
       let none : u .0 ≡ 0 → o .receiver ≡ taskAt q1 u = λ e. un e ∙ sym (none-written s u (o .sender) sn e) in
       let read1 : reading q1 ≡ withTaskRead (reading r) s (o .sender) = read-end r shaped s (o .sender) sf sn in
       let read2 : reading q2 ≡ withTaskRead (reading q1) u (o .receiver) = read-end q1 shaped1 u (o .receiver) uf none in
       let read3 : reading q3 ≡ withCellRead (reading q2) c (d .0) (o .cell) = read-written q2 shaped2 d c (o .cell) is in
-      read-completed (withOutcome r s u c d o) shaped3 (rw (mail, desks) fits) ∙ rw (read3, read2, read1, desks) refl
+      read-completed (withOutcome r s u c d o) shaped3 (rw (network, processors) fits) ∙ rw (read3, read2, read1, processors) refl
 
   pub read-forChannels : (test : ChannelId → Bool) (rule : Cell → Cell) (d : ProcessorId) → 1 ≤ d .0 → d .0 ≤ 6
       → reading (forChannels 128 test rule d r) ≡ forChannelsRead test rule (d .0) (reading r)
@@ -303,18 +303,18 @@ module _ (r : System) (shaped : Shaped r) where
 
   -- a letter is taken out
   pub read-dequeued : (p : ℕ) → 1 ≤ p → p ≤ r .network .used → r .network .used ≤ 256
-      → reading (withNetwork r (dequeued (r .network) p)) ≡ withLettersRead (reading r) (without ((reading r) .letters) (p - 1))
+      → reading (withNetwork r (dequeued (r .network) p)) ≡ withMessagesRead (reading r) (without ((reading r) .messages) (p - 1))
   unfolding reading
   read-dequeued p l u few =
-      let ms = letters (r .network) in
+      let ms = messages (r .network) in
       let e : suc (p - 1) ≡ p = omega arith in
       let s : without ms (p - 1) ≡ take (p - 1) ms ++ drop p ms = rw e at (without-split ms (p - 1)) in
       read-network r (dequeued (r .network) p)
-      ∙ ap (withLettersRead (reading r)) (letters-dequeued (r .network) p l u (omega (arith, shaped .slots)) ∙ sym s)
+      ∙ ap (withMessagesRead (reading r)) (messages-dequeued (r .network) p l u (omega (arith, shaped .slots)) ∙ sym s)
 
-  pub read-letter : (p : ℕ) → 1 ≤ p → p ≤ r .network .used → r .network .used ≤ 256
-      → getElem? ((reading r) .letters) (p - 1) ≡ some (letterAt (r .network) p)
+  pub read-message : (p : ℕ) → 1 ≤ p → p ≤ r .network .used → r .network .used ≤ 256
+      → getElem? ((reading r) .messages) (p - 1) ≡ some (messageAt (r .network) p)
   unfolding reading
-  read-letter p l u few =
-      let size : length (letters (r .network)) ≡ r .network .used = length-letters (r .network) (omega (arith, shaped .slots)) in
-      getElem-getD (letters (r .network)) (p - 1) Empty (omega arith) ∙ ap some (sym (letterAt-letters (r .network) p l u))
+  read-message p l u few =
+      let size : length (messages (r .network)) ≡ r .network .used = length-messages (r .network) (omega (arith, shaped .slots)) in
+      getElem-getD (messages (r .network)) (p - 1) Empty (omega arith) ∙ ap some (sym (messageAt-messages (r .network) p l u))

@@ -6,31 +6,31 @@ pub mod Flats
 -- one task
 pub mod Parents
 pub mod Tasks
-pub mod Turns
+pub mod EndSteps
 pub mod Unseen
 -- what is read of a rig
 pub mod Frames
 pub mod Rigs
 pub mod Runs
 -- steps that no channel sees
-pub mod OwnActs
-pub mod FinishActs
-pub mod EndedActs
+pub mod OwnTransitions
+pub mod FinishTransitions
+pub mod EndedTransitions
 -- a channel: what a rule leaves
 pub mod Outcomes
 -- births, moves and arrivals
 pub mod PlaceViews
-pub mod CreateActs
-pub mod MoveActs
-pub mod ArrivalActs
+pub mod CreateTransitions
+pub mod MoveTransitions
+pub mod ArrivalTransitions
 -- a channel: runs
 pub mod Transfers
-pub mod SendActs
-pub mod ReceiveActs
+pub mod SendTransitions
+pub mod ReceiveTransitions
 -- a channel: letters
-pub mod LetterActs
-pub mod OfferActs
-pub mod AdvertActs
-pub mod CallActs
+pub mod MessageTransitions
+pub mod OfferTransitions
+pub mod AdvertTransitions
+pub mod CallTransitions
 -- all steps
 pub mod Dispatch

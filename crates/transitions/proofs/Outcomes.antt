@@ -36,7 +36,7 @@ use Rattle.rules.specs.declared.rule.Received.{Received}
 use Rattle.rules.specs.declared.rule.Received.the-variants.{Nothing as NoWord, Word as GotWord}
 use Rattle.rules.specs.declared.rule.Posting.the-variants.{Nothing}
 use Rattle.rules.specs.declared.system.System.{System}
-use Rattle.rules.specs.Networks.{lettersOf}
+use Rattle.rules.specs.Networks.{messagesOf}
 use Rattle.rules.specs.Places.{isOn}
 use Rattle.rules.specs.Systems.{meaning}
 use Rattle.rules.specs.Effects.{siteAt}
@@ -44,20 +44,20 @@ use Rattle.rules_laws.specs.Shapes.{Shaped}
 use Rattle.net.specs.States.{atTask}
 use Rattle.channel.specs.Updates.{atNumber}
 use Rattle.channel.specs.Bags.{one, without}
-use Rattle.channel.specs.Letters.{offer, advert, call, word, Letter as LetterOf}
+use Rattle.channel.specs.Messages.{offer, advert, call, word, ChannelMessage}
 use Rattle.channel.specs.Views.{View}
 use Rattle.channel.specs.Events.{Event, guard, after}
 use Rattle.channel.proofs.Updates.{at-self}
 use Rattle.transitions.specs.Readings.{Reading, reading, cellOf, withOutcomeRead}
 use Rattle.transitions.specs.Progress.{programOf}
-use Rattle.transitions.specs.Letters.{flat, letterOn, lettersOn, wordsIn, endedTo, endedOf, moverTo, moversOf}
+use Rattle.transitions.specs.Messages.{flat, messageOn, messagesOn, wordsIn, endedTo, endedOf, moverTo, moversOf}
 use Rattle.transitions.specs.Views.{Histories, senderView, receiverView, tablesView, stateView, viewOf}
-use Rattle.transitions.specs.Turns.{Turn}
-use Rattle.transitions.specs.Acts.{Passing, nothing, direct, called, taken, Ran, ChannelAct}
+use Rattle.transitions.specs.EndSteps.{EndStep}
+use Rattle.transitions.specs.Transitions.{Passing, nothing, direct, called, taken, Ran, ChannelTransition}
 use Rattle.transitions.proofs.Updates.{at-task, at-other, at-elim, at-channel, at-other-channel}
 use Rattle.transitions.proofs.Flats.{flat-append, flat-one, flat-without}
 use Rattle.transitions.proofs.Tasks.{sends, receives}
-use Rattle.transitions.proofs.Turns.{turn-other-sender, turn-other-receiver}
+use Rattle.transitions.proofs.EndSteps.{end-step-other-sender, end-step-other-receiver}
 use Rattle.transitions.proofs.Frames.{IsCell, read-cell}
 
 -- what a rule about channel c at desk d looks at
@@ -115,73 +115,73 @@ module _ (f : ℕ → Entry) (d : ℕ) where
       tables-entry (record { hint = f d .hint; held = f d .held; noted = z }) ∙ rw (at-self (λ k. f k .hint) d, at-self (λ k. f k .held) d) refl
 
 -- letters that belong to channel c, and are these there
-pub record Posted (c : ChannelId) (ps : List Message) (ls : List LetterOf) : Type 0 where
-  pub on : lettersOn c ps ≡ ls
-  pub off : (d : ChannelId) → d .0 ≢ c .0 → lettersOn d ps ≡ []
+pub record Posted (c : ChannelId) (ps : List Message) (ls : List ChannelMessage) : Type 0 where
+  pub on : messagesOn c ps ≡ ls
+  pub off : (d : ChannelId) → d .0 ≢ c .0 → messagesOn d ps ≡ []
   pub ended : (t : TaskId) → endedOf t ps ≡ []
   pub movers : (t : TaskId) → moversOf t ps ≡ []
 
 -- mail xs becomes mail ms, and only letters of channel c come or go
 pub record OnlyOn (c : ChannelId) (xs ms : List Message) : Type 0 where
-  pub others : (d : ChannelId) → d .0 ≢ c .0 → lettersOn d ms ≡ lettersOn d xs
+  pub others : (d : ChannelId) → d .0 ≢ c .0 → messagesOn d ms ≡ messagesOn d xs
   pub ended : (t : TaskId) → endedOf t ms ≡ endedOf t xs
   pub movers : (t : TaskId) → moversOf t ms ≡ moversOf t xs
 
 module _ (c : ChannelId) where
-  pub posted-nothing : (n : ℕ) → Posted c (lettersOf n Nothing) []
-  unfolding lettersOf flat
+  pub posted-nothing : (n : ℕ) → Posted c (messagesOf n Nothing) []
+  unfolding messagesOf flat
   posted-nothing n = record { on = refl; off = λ d ne. refl; ended = λ t. refl; movers = λ t. refl }
 
   -- one letter of this channel
-  posted-one : (l : Message) (b : LetterOf) → ((d : ChannelId) → letterOn d l ≡ pick (sameChannel c d) (one b) []) → ((t : TaskId) → endedTo t l ≡ [])
+  posted-one : (l : Message) (b : ChannelMessage) → ((d : ChannelId) → messageOn d l ≡ pick (sameChannel c d) (one b) []) → ((t : TaskId) → endedTo t l ≡ [])
       → ((t : TaskId) → moverTo t l ≡ []) → Posted c (one l) (one b)
   posted-one l b on ended movers =
       record {
-        on = flat-one (letterOn c) l ∙ on c ∙ rw (eq-eqb (c .0) (c .0) refl) refl;
-        off = λ d ne. flat-one (letterOn d) l ∙ on d ∙ rw (ne-eqb (c .0) (d .0) (λ e. ne (sym e))) refl;
+        on = flat-one (messageOn c) l ∙ on c ∙ rw (eq-eqb (c .0) (c .0) refl) refl;
+        off = λ d ne. flat-one (messageOn d) l ∙ on d ∙ rw (ne-eqb (c .0) (d .0) (λ e. ne (sym e))) refl;
         ended = λ t. flat-one (endedTo t) l ∙ ended t;
         movers = λ t. flat-one (moverTo t) l ∙ movers t;
       }
 
   pub posted-offer : (o : Offer) (h : Hint) → Posted c (one (Offered c o h)) (one (offer (h .processor .0) (o .processor .0) (o .number) (h .moves)))
-  unfolding letterOn endedTo moverTo
+  unfolding messageOn endedTo moverTo
   posted-offer o h = posted-one (Offered c o h) _ (λ d. refl) (λ t. refl) (λ t. refl)
 
   pub posted-advert : (d from : ProcessorId) → Posted c (one (Advert c d from)) (one (advert (d .0) (from .0)))
-  unfolding letterOn endedTo moverTo
+  unfolding messageOn endedTo moverTo
   posted-advert d from = posted-one (Advert c d from) _ (λ e. refl) (λ t. refl) (λ t. refl)
 
   pub posted-call : (d : ProcessorId) (h : Hint) → Posted c (one (ReadyToReceive c d h)) (one (call (d .0) (h .processor .0) (h .moves)))
-  unfolding letterOn endedTo moverTo
+  unfolding messageOn endedTo moverTo
   posted-call d h = posted-one (ReadyToReceive c d h) _ (λ e. refl) (λ t. refl) (λ t. refl)
 
   pub posted-word : (d : ProcessorId) (w : Word) → Posted c (one (Data c d w)) (one (word (d .0) w))
-  unfolding letterOn endedTo moverTo
+  unfolding messageOn endedTo moverTo
   posted-word d w = posted-one (Data c d w) _ (λ e. refl) (λ t. refl) (λ t. refl)
 
   pub only-same : (xs : List Message) → OnlyOn c xs xs
   only-same xs = record { others = λ d ne. refl; ended = λ t. refl; movers = λ t. refl }
 
   -- letters are posted; the one at place p is taken out
-  pub only-posted : {xs ms ps : List Message} {ls : List LetterOf} → OnlyOn c xs ms → Posted c ps ls → OnlyOn c xs (ms ++ ps)
+  pub only-posted : {xs ms ps : List Message} {ls : List ChannelMessage} → OnlyOn c xs ms → Posted c ps ls → OnlyOn c xs (ms ++ ps)
   only-posted {xs} {ms} {ps} o p =
       record {
-        others = λ d ne. flat-append (letterOn d) ms ps ∙ rw (p .off d ne, append-nil (lettersOn d ms)) (o .others d ne);
+        others = λ d ne. flat-append (messageOn d) ms ps ∙ rw (p .off d ne, append-nil (messagesOn d ms)) (o .others d ne);
         ended = λ t. flat-append (endedTo t) ms ps ∙ rw (p .ended t, append-nil (endedOf t ms)) (o .ended t);
         movers = λ t. flat-append (moverTo t) ms ps ∙ rw (p .movers t, append-nil (moversOf t ms)) (o .movers t);
       }
 
-  pub only-without : (xs : List Message) (p : ℕ) {l : Message} {b : LetterOf} → getElem? xs p ≡ some l → Posted c (one l) (one b)
+  pub only-without : (xs : List Message) (p : ℕ) {l : Message} {b : ChannelMessage} → getElem? xs p ≡ some l → Posted c (one l) (one b)
       → OnlyOn c xs (without xs p)
   only-without xs p {l} e q =
       record {
-        others = λ d ne. flat-without (letterOn d) xs p e (sym (flat-one (letterOn d) l) ∙ q .off d ne);
+        others = λ d ne. flat-without (messageOn d) xs p e (sym (flat-one (messageOn d) l) ∙ q .off d ne);
         ended = λ t. flat-without (endedTo t) xs p e (sym (flat-one (endedTo t) l) ∙ q .ended t);
         movers = λ t. flat-without (moverTo t) xs p e (sym (flat-one (moverTo t) l) ∙ q .movers t);
       }
 
-  pub letters-posted : (ms : List Message) {ps : List Message} {ls : List LetterOf} → Posted c ps ls → lettersOn c (ms ++ ps) ≡ lettersOn c ms ++ ls
-  letters-posted ms {ps} p = flat-append (letterOn c) ms ps ∙ ap (lettersOn c ms ++_) (p .on)
+  pub messages-posted : (ms : List Message) {ps : List Message} {ls : List ChannelMessage} → Posted c ps ls → messagesOn c (ms ++ ps) ≡ messagesOn c ms ++ ls
+  messages-posted ms {ps} p = flat-append (messageOn c) ms ps ∙ ap (messagesOn c ms ++_) (p .on)
 
 -- how the word passes, with the words under way then
 module _ {c : ChannelId} {value : Word} {before then : List Word} where
@@ -206,13 +206,13 @@ outcomeView m h x c d o ms =
       receiver = receiverView (programOf m (receiverOf m c)) c (h (receiverOf m c)) (o .receiver);
       tables = tablesView (atNumber (x .entries c) d (o .cell .entry));
       state = stateView (o .cell .channel);
-      letters = lettersOn c ms;
+      messages = messagesOn c ms;
     }
 
 -- what it leaves of the two ends: each takes a turn, and an end that is none stays
-pub record EndsTurn (m : Programs) (x : Reading) (c : ChannelId) (o : Outcome) (n k : ℕ) (value : Word) : Type 0 where
-  pub sender : Turn (programOf m (senderOf m c)) opSend Sending c (x .tasks (senderOf m c)) n (x .tasks (senderOf m c) .word) (o .sender)
-  pub receiver : Turn (programOf m (receiverOf m c)) opReceive Receiving c (x .tasks (receiverOf m c)) k value (o .receiver)
+pub record EndsStep (m : Programs) (x : Reading) (c : ChannelId) (o : Outcome) (n k : ℕ) (value : Word) : Type 0 where
+  pub sender : EndStep (programOf m (senderOf m c)) opSend Sending c (x .tasks (senderOf m c)) n (x .tasks (senderOf m c) .word) (o .sender)
+  pub receiver : EndStep (programOf m (receiverOf m c)) opReceive Receiving c (x .tasks (receiverOf m c)) k value (o .receiver)
   pub no-sender : senderOf m c .0 ≡ 0 → o .sender ≡ x .tasks (senderOf m c)
   pub no-receiver : receiverOf m c .0 ≡ 0 → o .receiver ≡ x .tasks (receiverOf m c)
 
@@ -221,7 +221,7 @@ abbrev tasksThen : Programs → Reading → ChannelId → Outcome → TaskId →
 tasksThen m x c o = atTask (atTask (x .tasks) (senderOf m c) (o .sender)) (receiverOf m c) (o .receiver)
 
 module _ (m : Programs) (a : planAnswer m ≡ Accepted) (x : Reading) (c : ChannelId) (o : Outcome) {n k : ℕ} {value : Word}
-    (ends : EndsTurn m x c o n k value) where
+    (ends : EndsStep m x c o n k value) where
   receiver-then : tasksThen m x c o (receiverOf m c) ≡ o .receiver
   receiver-then = at-task (atTask (x .tasks) (senderOf m c) (o .sender)) (receiverOf m c) (o .receiver)
 
@@ -258,36 +258,36 @@ module _ (m : Programs) (a : planAnswer m ≡ Accepted) (x : Reading) (c : Chann
         let channel = o .cell .channel in
         rw (sender-then, receiver-then, at-channel (x .entries) c entries, at-channel (x .channels) c channel) refl
 
-    others-then : 1 ≤ c .0 → OnlyOn c (x .letters) ms → (b : ChannelId) → b .0 ≢ c .0
+    others-then : 1 ≤ c .0 → OnlyOn c (x .messages) ms → (b : ChannelId) → b .0 ≢ c .0
         → viewOf m h (withOutcomeRead x (senderOf m c) (receiverOf m c) c d o ms) b ≡ viewOf m h x b
     unfolding viewOf
-    others-then low mail b ne =
+    others-then low network b ne =
         let s = ends .sender in
         let u = ends .receiver in
         let history = h (receiverOf m b) in
         let entries = atNumber (x .entries c) d (o .cell .entry) in
         rw (
-          seen-then (λ g z. senderView g b z) (turn-other-sender sends low s b ne) (turn-other-sender receives low u b ne) (senderOf m b),
-          seen-then (λ g z. receiverView g b history z) (turn-other-receiver sends low s b ne history)
-              (turn-other-receiver receives low u b ne history) (receiverOf m b),
+          seen-then (λ g z. senderView g b z) (end-step-other-sender sends low s b ne) (end-step-other-sender receives low u b ne) (senderOf m b),
+          seen-then (λ g z. receiverView g b history z) (end-step-other-receiver sends low s b ne history)
+              (end-step-other-receiver receives low u b ne history) (receiverOf m b),
           at-other-channel (x .entries) c b entries ne,
           at-other-channel (x .channels) c b (o .cell .channel) ne,
-          mail .others b ne,
+          network .others b ne,
         )
         refl
 
 -- the act by which that happens: the event, and how the word passes and places go on
 module _ (m : Programs) (a : planAnswer m ≡ Accepted) (h : Histories) (x : Reading) (c : ChannelId) (low : 1 ≤ c .0) (high : c .0 ≤ 128)
     (d : ℕ) (o : Outcome) where
-  pub outcome-act : {ms : List Message} {n k : ℕ} {value : Word} {received : Received} (e : Event)
-      → EndsTurn m x c o n k value
-      → OnlyOn c (x .letters) ms
+  pub outcome-transition : {ms : List Message} {n k : ℕ} {value : Word} {received : Received} (e : Event)
+      → EndsStep m x c o n k value
+      → OnlyOn c (x .messages) ms
       → guard e (viewOf m h x c)
       → outcomeView m h x c d o ms ≡ after e (viewOf m h x c)
-      → Passing c (x .tasks (senderOf m c) .word) (wordsIn (lettersOn c (x .letters))) n k value (wordsIn (lettersOn c ms)) received
+      → Passing c (x .tasks (senderOf m c) .word) (wordsIn (messagesOn c (x .messages))) n k value (wordsIn (messagesOn c ms)) received
       → ((y : TaskId → Task) → y (senderOf m c) ≡ o .sender → y (receiverOf m c) ≡ o .receiver → Ran m (senderOf m c) (receiverOf m c) (x .tasks) y e)
-      → ChannelAct m h x (withOutcomeRead x (senderOf m c) (receiverOf m c) c d o ms) e received
-  outcome-act {ms} {n} {k} {value} e ends mail allowed view passing ran =
+      → ChannelTransition m h x (withOutcomeRead x (senderOf m c) (receiverOf m c) c d o ms) e received
+  outcome-transition {ms} {n} {k} {value} e ends network allowed view passing ran =
       let y = withOutcomeRead x (senderOf m c) (receiverOf m c) c d o ms in
       record {
         channel = c;
@@ -295,19 +295,19 @@ module _ (m : Programs) (a : planAnswer m ≡ Accepted) (h : Histories) (x : Rea
         high = high;
         allowed = allowed;
         view = view-then m a x c o ends h d ms ∙ view;
-        others = λ b l u ne. others-then m a x c o ends h d ms low mail b ne;
+        others = λ b l u ne. others-then m a x c o ends h d ms low network b ne;
         sender = o .sender;
         receiver = o .receiver;
         tasks = refl;
         sent = n;
         got = k;
         value = value;
-        sender-turn = ends .sender;
-        receiver-turn = ends .receiver;
+        sender-end-step = ends .sender;
+        receiver-end-step = ends .receiver;
         passing = passing;
         ran = ran (y .tasks) (sender-then m a x c o ends) (receiver-then m a x c o ends);
         processors = refl;
-        other-letters = mail .others;
-        ended = mail .ended;
-        movers = mail .movers;
+        other-messages = network .others;
+        ended = network .ended;
+        movers = network .movers;
       }

@@ -34,12 +34,12 @@ use Rattle.rules_laws.proofs.TaskAt.{withTask-plan, withTask-network, withTask-
 use Rattle.rules_laws.proofs.ForChannels.{forChannels-plan, forChannels-network, forChannels-shaped}
 use Rattle.net.specs.States.{atTask}
 use Rattle.channel.specs.Updates.{atNumber}
-use Rattle.channel.specs.Letters.{Letter}
+use Rattle.channel.specs.Messages.{ChannelMessage}
 use Rattle.channel.specs.Views.{Sender, Receiver, View}
 use Rattle.channel.proofs.Updates.{at-self}
-use Rattle.transitions.specs.Readings.{Reading, reading, cellOf, withTaskRead, withLettersRead, forChannelsRead}
+use Rattle.transitions.specs.Readings.{Reading, reading, cellOf, withTaskRead, withMessagesRead, forChannelsRead}
 use Rattle.transitions.specs.Progress.{programOf, isBlocked}
-use Rattle.transitions.specs.Letters.{lettersOn}
+use Rattle.transitions.specs.Messages.{messagesOn}
 use Rattle.transitions.specs.Views.{Histories, senderView, receiverView, tablesView, stateView, viewOf}
 use Rattle.transitions.proofs.Updates.{at-task, at-other}
 use Rattle.transitions.proofs.Tasks.{not-receiving, completed-free, off-in, not-sending}
@@ -68,21 +68,21 @@ module _ (g : Program) (c : ChannelId) (x x' : Task) (f : isBlocked x ≡ false)
   receiver-elsewhere history history' = rw (completed-free x f, completed-free x' f', free-on g c x f .1, free-on g c x' f' .1, same) refl
 
 -- the view of a channel by its parts
-abbrev pub viewBy : ℕ → List Letter → Sender → Receiver → (ℕ → Entry) → Channel → View
-viewBy n l s u entries k = record { processors = n; sender = s; receiver = u; tables = tablesView entries; state = stateView k; letters = l }
+abbrev pub viewBy : ℕ → List ChannelMessage → Sender → Receiver → (ℕ → Entry) → Channel → View
+viewBy n l s u entries k = record { processors = n; sender = s; receiver = u; tables = tablesView entries; state = stateView k; messages = l }
 
 -- task t becomes x', and its receiving and its sending channels follow the two rules at desk d; the letters ms are in the mail
 abbrev pub placedRead : Programs → TaskId → Task → (Cell → Cell) → (Cell → Cell) → ℕ → List Message → Reading → Reading
 placedRead m t x' receiving sending d ms x =
-    forChannelsRead (sendsOn m t) sending d (forChannelsRead (receivesOn m t) receiving d (withTaskRead (withLettersRead x ms) t x'))
+    forChannelsRead (sendsOn m t) sending d (forChannelsRead (receivesOn m t) receiving d (withTaskRead (withMessagesRead x ms) t x'))
 
-pub same-parts : (n : ℕ) {l l' : List Letter} {s s' : Sender} {u u' : Receiver} {e e' : ℕ → Entry} {k k' : Channel}
+pub same-parts : (n : ℕ) {l l' : List ChannelMessage} {s s' : Sender} {u u' : Receiver} {e e' : ℕ → Entry} {k k' : Channel}
     → l ≡ l' → s ≡ s' → u ≡ u' → e ≡ e' → k ≡ k' → viewBy n l s u e k ≡ viewBy n l' s' u' e' k'
 same-parts n l s u e k = λ i. viewBy n (l i) (s i) (u i) (e i) (k i)
 
 module _ (m : Programs) (plan : planAnswer m ≡ Accepted) (h h' : Histories) (x : Reading) (t : TaskId) (some : 1 ≤ t .0)
     (kept : (u : TaskId) → u .0 ≢ t .0 → h' u ≡ h u) (x' : Task) (receiving sending : Cell → Cell) (d : ℕ) (ms : List Message)
-    (c : ChannelId) (low : 1 ≤ c .0) (high : c .0 ≤ 128) (mail : lettersOn c ms ≡ lettersOn c (x .letters)) where
+    (c : ChannelId) (low : 1 ≤ c .0) (high : c .0 ≤ 128) (network : messagesOn c ms ≡ messagesOn c (x .messages)) where
   abbrev here : Cell
   here = cellOf x c d
 
@@ -90,7 +90,7 @@ module _ (m : Programs) (plan : planAnswer m ≡ Accepted) (h h' : Histories) (x
   then = placedRead m t x' receiving sending d ms x
 
   abbrev parts : Sender → Receiver → (ℕ → Entry) → Channel → View
-  parts = viewBy (x .processors) (lettersOn c (x .letters))
+  parts = viewBy (x .processors) (messagesOn c (x .messages))
 
   -- what an end sees of the tasks
   sees : {A : Type 0} (f : TaskId → Task → A) (u : TaskId) → u ≡ t → f u (atTask (x .tasks) t x' u) ≡ f t x'
@@ -126,7 +126,7 @@ module _ (m : Programs) (plan : planAnswer m ≡ Accepted) (h h' : Histories) (x
       subst₂ P
       (sym (ap (λ (v : TaskId). parts sees-s (receiverView (programOf m v) c (h v) (x .tasks v)) (x .entries c) (x .channels c)) z))
       (sym
-      (same-parts (x .processors) mail (unseen (senderView (programOf m s) c) s ne) (sees (λ v. receiverView (programOf m v) c (h' v)) u z)
+      (same-parts (x .processors) network (unseen (senderView (programOf m s) c) s ne) (sees (λ v. receiverView (programOf m v) c (h' v)) u z)
       (rw (inside, p, q) refl) (rw (inside, p, q) refl)))
       (as-receiver sees-s))
       (λ nu.
@@ -139,7 +139,7 @@ module _ (m : Programs) (plan : planAnswer m ≡ Accepted) (h h' : Histories) (x
       subst₂ P
       (sym (ap (λ (v : TaskId). parts (senderView (programOf m v) c (x .tasks v)) sees-u (x .entries c) (x .channels c)) z))
       (sym
-      (same-parts (x .processors) mail (sees (λ v. senderView (programOf m v) c) s z)
+      (same-parts (x .processors) network (sees (λ v. senderView (programOf m v) c) s z)
       (rw (kept u nu) (unseen (receiverView (programOf m u) c (h u)) u nu))
       (rw (inside, p, q) refl) (rw (inside, p, q) refl)))
       (as-sender sees-u))
@@ -147,7 +147,7 @@ module _ (m : Programs) (plan : planAnswer m ≡ Accepted) (h h' : Histories) (x
       let q = ne-eqb (s .0) (t .0) ns in
       subst (P (viewOf m h x c))
       (sym
-      (same-parts (x .processors) mail (unseen (senderView (programOf m s) c) s ns)
+      (same-parts (x .processors) network (unseen (senderView (programOf m s) c) s ns)
       (rw (kept u nu) (unseen (receiverView (programOf m u) c (h u)) u nu))
       (rw (inside, p, q) refl) (rw (inside, p, q) refl)))
       (neither (viewOf m h x c))))
@@ -161,7 +161,7 @@ forChannels-none test d x =
       tasks = x .tasks;
       entries = fun-ext (λ (c : ChannelId). pick-either (λ f. f ≡ x .entries c) (channelNumberOk c && test c) _ _ (at-self (x .entries c) d) refl) i;
       channels = fun-ext (λ (c : ChannelId). pick-either (λ k. k ≡ x .channels c) (channelNumberOk c && test c) _ _ refl refl) i;
-      letters = x .letters;
+      messages = x .messages;
     }
 
 -- what is read of a rig of which a task and its channels are so changed
@@ -177,7 +177,7 @@ module _ (r : System) (shaped : Shaped r) (t : TaskId) (is : IsTask t) (x' : Tas
 
   pub read-placed : (receiving sending : Cell → Cell)
       → reading (forSending (forReceiving (withTask r t x') t d receiving) t d sending)
-      ≡ placedRead (meaning r) t x' receiving sending (d .0) ((reading r) .letters) (reading r)
+      ≡ placedRead (meaning r) t x' receiving sending (d .0) ((reading r) .messages) (reading r)
   read-placed receiving sending =
       let q = withTask r t x' in
       let y = forReceiving q t d receiving in

@@ -18,7 +18,7 @@ use Rattle.plan.proofs.Parts.{tasks-of}
 use Rattle.rules.specs.declared.message.Message.{Message}
 use Rattle.rules.specs.declared.system.System.{System}
 use Rattle.rules.specs.Numbers.{channelNumberOk}
-use Rattle.rules.specs.Networks.{letterAt, dequeued}
+use Rattle.rules.specs.Networks.{messageAt, dequeued}
 use Rattle.rules.specs.Systems.{withNetwork, meaning}
 use Rattle.rules.specs.Sound.{messageOk, systemOk}
 use Rattle.rules_laws.specs.Shapes.{Shaped}
@@ -26,11 +26,11 @@ use Rattle.rules_laws.proofs.Shapes.{shaped-kept}
 use Rattle.rules_sound.specs.Sound.{Sound}
 use Rattle.rules_sound.proofs.Sound.{sound}
 use Rattle.rules_sound.proofs.Frames.{user-in, tasks-few}
-use Rattle.rules_sound.proofs.Mail.{letter-fine}
+use Rattle.rules_sound.proofs.Network.{message-fine}
 use Rattle.transitions.specs.Readings.{reading}
 use Rattle.transitions.specs.Agreement.{TasksOk}
 use Rattle.transitions.proofs.Parents.{parent-number}
-use Rattle.transitions.proofs.Frames.{IsTask, IsCell, read-letter}
+use Rattle.transitions.proofs.Frames.{IsTask, IsCell, read-message}
 
 module _ (r : System) (shaped : Shaped r) (ok : systemOk r ≡ true) where
   pub is-sound : Sound r
@@ -39,11 +39,11 @@ module _ (r : System) (shaped : Shaped r) (ok : systemOk r ≡ true) where
   pub plan-accepted : planAnswer (meaning r) ≡ PlanAccepted
   plan-accepted = is-sound .frame .plan
 
-  pub desks-few : r .processors ≤ 6
-  desks-few = is-sound .frame .few
+  pub processors-few : r .processors ≤ 6
+  processors-few = is-sound .frame .few
 
-  pub mail-few : r .network .used ≤ 256
-  mail-few = is-sound .mail .used
+  pub network-few : r .network .used ≤ 256
+  network-few = is-sound .network .used
 
   -- a task of the plan, and a channel at a desk
   pub is-task : (t : TaskId) → within 1 (r .plan .tasks) (t .0) ≡ true → IsTask t
@@ -55,7 +55,7 @@ module _ (r : System) (shaped : Shaped r) (ok : systemOk r ≡ true) where
 
   pub is-cell : (d : ProcessorId) (c : ChannelId) → 1 ≤ d .0 → d .0 ≤ r .processors → channelNumberOk c ≡ true → IsCell d c
   is-cell d c low high number =
-      record { desk = low; desk-few = omega (arith, desks-few); low = within-low 1 128 (c .0) number; high = within-high 1 128 (c .0) number }
+      record { processor = low; processor-few = omega (arith, processors-few); low = within-low 1 128 (c .0) number; high = within-high 1 128 (c .0) number }
 
   -- 9 does not refuse its tasks
   pub tasks-ok : TasksOk (meaning r) (reading r)
@@ -79,15 +79,15 @@ module _ (r : System) (shaped : Shaped r) (ok : systemOk r ≡ true) where
   -- the letter at position p, from 1
   module _ (p : ℕ) (low : 1 ≤ p) (high : p ≤ r .network .used) where
     -- 9 does not refuse it, and it is read
-    pub letter-ok : (a : Message) → letterAt (r .network) p ≡ a → messageOk (r .processors) (r .plan .tasks) a ≡ true
-    letter-ok a e = rw e at (letter-fine (r .processors) (r .plan) (r .network) (shaped .slots) (is-sound .mail) p low high)
+    pub message-ok : (a : Message) → messageAt (r .network) p ≡ a → messageOk (r .processors) (r .plan .tasks) a ≡ true
+    message-ok a e = rw e at (message-fine (r .processors) (r .plan) (r .network) (shaped .slots) (is-sound .network) p low high)
 
-    pub letter-at : (a : Message) → letterAt (r .network) p ≡ a → getElem? ((reading r) .letters) (p - 1) ≡ some a
-    letter-at a e = read-letter r shaped p low high mail-few ∙ ap some e
+    pub message-at : (a : Message) → messageAt (r .network) p ≡ a → getElem? ((reading r) .messages) (p - 1) ≡ some a
+    message-at a e = read-message r shaped p low high network-few ∙ ap some e
 
     -- the rig without it
     abbrev pub emptied : System
     emptied = withNetwork r (dequeued (r .network) p)
 
     pub emptied-shaped : Shaped emptied
-    emptied-shaped = shaped-kept .leave r p low high mail-few shaped
+    emptied-shaped = shaped-kept .leave r p low high network-few shaped

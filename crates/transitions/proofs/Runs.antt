@@ -14,7 +14,7 @@ use Rattle.plan_laws.proofs.Programs.{instruction-fine}
 use Rattle.rules.specs.declared.step.StepAnswer.the-variants.{Accepted}
 use Rattle.rules.specs.declared.task.TaskState.the-variants.{Ready}
 use Rattle.rules.specs.declared.system.System.{System}
-use Rattle.rules.specs.Networks.{enqueuedAll, lettersOf}
+use Rattle.rules.specs.Networks.{enqueuedAll, messagesOf}
 use Rattle.rules.specs.Systems.{taskAt, taskProgram, meaning}
 use Rattle.rules.specs.Places.{nextIn}
 use Rattle.rules.specs.Effects.{completed, changed}
@@ -26,13 +26,13 @@ use Rattle.rules_sound.proofs.Answers.{run-passed}
 use Rattle.rules_sound.proofs.Frames.{in-plan}
 use Rattle.rules_sound.proofs.Settled.{settled}
 use Rattle.transitions.specs.Readings.{reading}
-use Rattle.transitions.specs.Acts.{Runs}
+use Rattle.transitions.specs.Transitions.{Runs}
 use Rattle.transitions.proofs.Frames.{IsTask}
 use Rattle.transitions.proofs.Rigs.{is-sound, is-task}
 
 -- no letters join the mail
 pub completed-changed : (q : System) → completed (changed q) ≡ q
-unfolding completed enqueuedAll lettersOf
+unfolding completed enqueuedAll messagesOf
 completed-changed q = refl
 
 module _ (r : System) (shaped : Shaped r) (ok : systemOk r ≡ true) where
@@ -57,7 +57,7 @@ module _ (r : System) (shaped : Shaped r) (ok : systemOk r ≡ true) where
         rw (tasks-of (r .plan)) at (instruction-fine (programs (r .plan)) (s .plan) (t .0 - 1) there (taskAt r t .pc - 1) (omega arith))
 
     -- what it posts fits in the mail
-    pub run-fits : r .network .used + length (lettersOf (r .processors) (ran r t .posting)) ≤ 256
+    pub run-fits : r .network .used + length (messagesOf (r .processors) (ran r t .posting)) ≤ 256
     unfolding fits
     run-fits = leb-true _ _ (run-passed r t a .fitting)
 

@@ -22,12 +22,12 @@ use Rattle.net.specs.States.{atTask}
 use Rattle.net.specs.Labels.{isTransfer}
 use Rattle.transitions.specs.Readings.{Reading}
 use Rattle.transitions.specs.Progress.{programOf, completedBy, useNumber}
-use Rattle.transitions.specs.Letters.{lettersOn}
+use Rattle.transitions.specs.Messages.{messagesOn}
 use Rattle.transitions.specs.Views.{Histories, senderView, receiverView, viewOf}
-use Rattle.transitions.specs.Acts.{Unseen, finished}
+use Rattle.transitions.specs.Transitions.{Unseen, finished}
 use Rattle.transitions.proofs.Updates.{at-elim}
 use Rattle.transitions.proofs.Tasks.{state-is, blocked-in, completed-blocked, completed-ready, next-completed, last-is, last-some, off-in}
-use Rattle.transitions.proofs.Turns.{use-more}
+use Rattle.transitions.proofs.EndSteps.{use-more}
 
 -- two records of a task with program g that no channel tells apart
 pub record SeenAlike (g : Program) (x y : Task) : Type 0 where
@@ -63,7 +63,7 @@ module _ (g : Program) where
   alike-then x y z p q = record { sender = λ c. q .sender c ∙ p .sender c; receiver = λ c history. q .receiver c history ∙ p .receiver c history }
 
   -- an idle task that stays idle, at one desk with one move count
-  module _ (x y : Task) (desk : y .processor ≡ x .processor) (moves : y .moves ≡ x .moves) (before : Idle x) (after : Idle y) where
+  module _ (x y : Task) (processor : y .processor ≡ x .processor) (moves : y .moves ≡ x .moves) (before : Idle x) (after : Idle y) where
     -- it has completed as many sends and receives
     alike : ((c : ChannelId) → useNumber opSend g c (completedBy y) ≡ useNumber opSend g c (completedBy x))
         → ((c : ChannelId) → useNumber opReceive g c (completedBy y) ≡ useNumber opReceive g c (completedBy x))
@@ -71,9 +71,9 @@ module _ (g : Program) where
     unfolding senderView receiverView
     alike sent received =
         record {
-          sender = λ c. rw (sent c, off-in Sending g c y (after .sends), off-in Sending g c x (before .sends), desk) refl;
+          sender = λ c. rw (sent c, off-in Sending g c y (after .sends), off-in Sending g c x (before .sends), processor) refl;
           receiver =
-              λ c history. rw (received c, off-in Receiving g c y (after .receives), off-in Receiving g c x (before .receives), desk, moves) refl;
+              λ c history. rw (received c, off-in Receiving g c y (after .receives), off-in Receiving g c x (before .receives), processor, moves) refl;
         }
 
     -- it has completed nothing
@@ -147,16 +147,16 @@ alike-at m tasks t y p = at-elim (λ u z. SeenAlike (programOf m u) (tasks u) z)
 -- no channel sees that tasks change
 module _ (m : Programs) (h : Histories) where
   pub unseen-of : (x y : Reading) → y .processors ≡ x .processors → y .entries ≡ x .entries → y .channels ≡ x .channels
-      → ((c : ChannelId) → lettersOn c (y .letters) ≡ lettersOn c (x .letters))
+      → ((c : ChannelId) → messagesOn c (y .messages) ≡ messagesOn c (x .messages))
       → ((t : TaskId) → SeenAlike (programOf m t) (x .tasks t) (y .tasks t))
       → Unseen m h x y
   unfolding viewOf
-  unseen-of x y desks entries channels letters tasks =
+  unseen-of x y processors entries channels messages tasks =
       record {
-        processors = desks;
+        processors = processors;
         views =
             λ c low high.
             let sender = tasks (senderOf m c) .sender c in
             let receiver = tasks (receiverOf m c) .receiver c (h (receiverOf m c)) in
-            rw (desks, entries, channels, letters c, sender, receiver) refl;
+            rw (processors, entries, channels, messages c, sender, receiver) refl;
       }

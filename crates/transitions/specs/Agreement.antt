@@ -22,13 +22,13 @@ use Rattle.net.specs.States.{Net}
 use Rattle.channel.specs.Invariant.{Invariant}
 use Rattle.transitions.specs.Readings.{Reading}
 use Rattle.transitions.specs.Progress.{programOf, completedBy}
-use Rattle.transitions.specs.Letters.{lettersOn, wordsIn, endedOf, moversOf}
+use Rattle.transitions.specs.Messages.{messagesOn, wordsIn, endedOf, moversOf}
 use Rattle.transitions.specs.Views.{Histories, viewOf}
 use Rattle.transitions.specs.Family.{Placed, Child, Kin}
 
 -- the words on their way to a task x with program g: the net's task has them already
 unfoldable pub comingTo : Program → List Message → Task → List Word
-comingTo g ms x = pick (isIn Receiving x) (wordsIn (lettersOn (channelId (lastIn g x .operand)) ms)) []
+comingTo g ms x = pick (isIn Receiving x) (wordsIn (messagesOn (channelId (lastIn g x .operand)) ms)) []
 
 -- the word of a task to which these are on their way
 unfoldable pub wordWith : Word → List Word → Word
@@ -48,7 +48,7 @@ pub record Agrees (m : Programs) (s : Net) (ms : List Message) (t : TaskId) (x :
 
 -- the words received so far and those under way are the words passed in the net
 abbrev pub PassedAlike : Net → (ChannelId → List Word) → List Message → Type 0
-PassedAlike s received ms = (c : ChannelId) → s .passed c ≡ received c ++ wordsIn (lettersOn c ms)
+PassedAlike s received ms = (c : ChannelId) → s .passed c ≡ received c ++ wordsIn (messagesOn c ms)
 
 -- what 9 says of the tasks
 abbrev pub TasksOk : Programs → Reading → Type 0
@@ -59,10 +59,10 @@ pub record Running (m : Programs) (h : Histories) (s : Net) (x : Reading) (recei
   pub few : x .processors ≤ 6
   pub tasks : TasksOk m x
   pub views : (c : ChannelId) → 1 ≤ c .0 → c .0 ≤ 128 → Invariant (viewOf m h x c)
-  pub places : (t : TaskId) → within 1 (length m) (t .0) ≡ true → Placed (x .processors) (h t) (x .tasks t) (moversOf t (x .letters))
-  pub children : (u : TaskId) → within 2 (length m) (u .0) ≡ true → Child u (x .tasks (parentOf m u)) (x .tasks u) (endedOf u (x .letters))
+  pub places : (t : TaskId) → within 1 (length m) (t .0) ≡ true → Placed (x .processors) (h t) (x .tasks t) (moversOf t (x .messages))
+  pub children : (u : TaskId) → within 2 (length m) (u .0) ≡ true → Child u (x .tasks (parentOf m u)) (x .tasks u) (endedOf u (x .messages))
   pub kin : Kin m (x .tasks)
   -- task 1 has no parent, so that no ended letter names it
-  pub root : endedOf (taskId 1) (x .letters) ≡ []
-  pub agrees : (t : TaskId) → Agrees m s (x .letters) t (x .tasks t)
-  pub passed : PassedAlike s received (x .letters)
+  pub root : endedOf (taskId 1) (x .messages) ≡ []
+  pub agrees : (t : TaskId) → Agrees m s (x .messages) t (x .tasks t)
+  pub passed : PassedAlike s received (x .messages)

@@ -2,11 +2,11 @@
 -- what is read
 pub mod Readings
 pub mod Progress
-pub mod Letters
+pub mod Messages
 pub mod Views
 -- what the accepted steps change
-pub mod Turns
-pub mod Acts
+pub mod EndSteps
+pub mod Transitions
 -- what holds of every rig that a run reaches
 pub mod Family
 pub mod Agreement

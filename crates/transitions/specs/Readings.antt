@@ -16,7 +16,7 @@ use Rattle.rules.specs.declared.rule.Outcome.{Outcome}
 use Rattle.rules.specs.declared.system.System.{System}
 use Rattle.rules.specs.Numbers.{channelNumberOk}
 use Rattle.rules.specs.Cells.{unknown, noOffer}
-use Rattle.rules.specs.Networks.{letters}
+use Rattle.rules.specs.Networks.{messages}
 use Rattle.rules.specs.Systems.{taskAt, entryAt, channelAt}
 use Rattle.net.specs.States.{atTask, atChannel}
 use Rattle.channel.specs.Updates.{atNumber}
@@ -27,7 +27,7 @@ pub record Reading : Type 0 where
   -- of each channel, the entry of each desk
   pub entries : ChannelId → ℕ → Entry
   pub channels : ChannelId → Channel
-  pub letters : List Message
+  pub messages : List Message
 
 -- what stands where there is no desk or no channel
 abbrev pub noEntry : Entry
@@ -43,7 +43,7 @@ unfoldable pub channelOf : System → ChannelId → Channel
 channelOf r c = pick (channelNumberOk c) (channelAt r c) noChannel
 
 unfoldable pub reading : System → Reading
-reading r = record { processors = r .processors; tasks = taskAt r; entries = entryOf r; channels = channelOf r; letters = letters (r .network) }
+reading r = record { processors = r .processors; tasks = taskAt r; entries = entryOf r; channels = channelOf r; messages = messages (r .network) }
 
 -- the entry of desk d and channel c, and the channel's own
 abbrev pub cellOf : Reading → ChannelId → ℕ → Cell
@@ -52,10 +52,10 @@ cellOf x c d = record { entry = x .entries c d; channel = x .channels c }
 -- with one part changed
 abbrev pub withTaskRead : Reading → TaskId → Task → Reading
 withTaskRead x t y =
-    record { processors = x .processors; tasks = atTask (x .tasks) t y; entries = x .entries; channels = x .channels; letters = x .letters }
+    record { processors = x .processors; tasks = atTask (x .tasks) t y; entries = x .entries; channels = x .channels; messages = x .messages }
 
-abbrev pub withLettersRead : Reading → List Message → Reading
-withLettersRead x ms = record { processors = x .processors; tasks = x .tasks; entries = x .entries; channels = x .channels; letters = ms }
+abbrev pub withMessagesRead : Reading → List Message → Reading
+withMessagesRead x ms = record { processors = x .processors; tasks = x .tasks; entries = x .entries; channels = x .channels; messages = ms }
 
 -- after a rule about channel c at desk d, between tasks s and u, with the letters ms in the mail
 abbrev pub withOutcomeRead : Reading → TaskId → TaskId → ChannelId → ℕ → Outcome → List Message → Reading
@@ -65,7 +65,7 @@ withOutcomeRead x s u c d o ms =
       tasks = atTask (atTask (x .tasks) s (o .sender)) u (o .receiver);
       entries = atChannel (x .entries) c (atNumber (x .entries c) d (o .cell .entry));
       channels = atChannel (x .channels) c (o .cell .channel);
-      letters = ms;
+      messages = ms;
     }
 
 -- after a rule for each channel of which the test holds, at desk d
@@ -76,5 +76,5 @@ forChannelsRead test rule d x =
       tasks = x .tasks;
       entries = λ c. pick (channelNumberOk c && test c) (atNumber (x .entries c) d (rule (cellOf x c d) .entry)) (x .entries c);
       channels = λ c. pick (channelNumberOk c && test c) (rule (cellOf x c d) .channel) (x .channels c);
-      letters = x .letters;
+      messages = x .messages;
     }

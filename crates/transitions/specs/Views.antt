@@ -13,7 +13,7 @@ use Rattle.rules.specs.Places.{isOn}
 use Rattle.channel.specs.Views.{Sender, Receiver, Tables, State, View}
 use Rattle.transitions.specs.Readings.{Reading}
 use Rattle.transitions.specs.Progress.{flag, programOf, completedBy, useNumber}
-use Rattle.transitions.specs.Letters.{lettersOn}
+use Rattle.transitions.specs.Messages.{messagesOn}
 
 abbrev pub Histories : Type 0
 Histories = TaskId → ℕ → ℕ
@@ -45,5 +45,5 @@ viewOf m histories x c =
       receiver = receiverView (programOf m (receiverOf m c)) c (histories (receiverOf m c)) (x .tasks (receiverOf m c));
       tables = tablesView (x .entries c);
       state = stateView (x .channels c);
-      letters = lettersOn c (x .letters);
+      messages = messagesOn c (x .messages);
     }

@@ -58,10 +58,10 @@ fn as_expected(answer: u64, out: &[u8], before: &[u8], expected: &[u8]) -> bool 
 }
 
 // The output is longer than any trace of the records and holds a byte that no trace has.
-fn agrees<'a>(desks: u8, plan: &'a [u8], steps: &'a [u8], expected: &'a [u8]) -> bool {
+fn agrees<'a>(processors: u8, plan: &'a [u8], steps: &'a [u8], expected: &'a [u8]) -> bool {
     let before = [165u8; 16384];
     let mut out = [165u8; 16384];
-    let answer = driver::mortarsedge_run(desks as u32, plan, steps, &mut out);
+    let answer = driver::mortarsedge_run(processors as u32, plan, steps, &mut out);
     as_expected(answer, &out, &before, expected)
 }
 
@@ -119,9 +119,9 @@ fn compare_all(file: &[u8]) -> Tally {
         if file.len() < next {
             return t;
         }
-        let desks = byte_at(file, at);
+        let processors = byte_at(file, at);
         let ok = agrees(
-            desks,
+            processors,
             &file[plan..steps],
             &file[steps..output],
             &file[output..next],

@@ -48,7 +48,7 @@ pub fn call_rule(x: Site, c: ChannelId, d: ProcessorId, h: Hint) -> Outcome
         sender: ready,
         receiver: receiver,
         cell: known,
-        posting: Posting::Letter(Message::Data(c, to, word)),
+        posting: Posting::Single(Message::Data(c, to, word)),
         received: Received::Nothing,
     }
 }

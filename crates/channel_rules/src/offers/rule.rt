@@ -57,7 +57,7 @@ fn offer_away(x: Site, c: ChannelId, o: Offer, h: Hint) -> Outcome
 {
     let own = x.cell.entry.hint;
     if points_on(own, h) {
-        return crate::outcomes::kept(x, x.cell, Posting::Letter(Message::Offered(c, o, own)));
+        return crate::outcomes::kept(x, x.cell, Posting::Single(Message::Offered(c, o, own)));
     }
     let held = cell_rules::change::holding(x.cell, o);
     crate::outcomes::kept(x, held, Posting::Nothing)

@@ -26,7 +26,7 @@ packed-requires : tie.Need-packed-requires
 packed-requires c κs =
     let f = c .before .before .before in
     let a = f .before .before .before .before .before .args in
-    (c .run-number .ensures .1, omega (arith, f .run-file .ensures .count, run-text-short (a .desks) (a .plan .now) (a .steps .now) (a .out .now)))
+    (c .run-number .ensures .1, omega (arith, f .run-file .ensures .count, run-text-short (a .processors) (a .plan .now) (a .steps .now) (a .out .now)))
 
 same-length : tie.Need-same-length
 same-length c = search needs
@@ -40,9 +40,9 @@ returns c =
     record {
       outcome = c .packed .ensures ∙ ap₂ packed (c .before .run-number .ensures .0 ∙ ap runNumber (r .answered)) (r .count);
       bytes = r .bytes;
-      room = room-enough (a .desks) (a .plan .now) (a .steps .now) (a .out .now);
-      demand-3 = λ h. demand-3-file (a .desks) (a .plan .now) h (a .steps .now);
-      lines = λ h. r .bytes ∙ output-lines (a .desks) (a .plan .now) (a .steps .now) (a .out .now) h;
+      room = room-enough (a .processors) (a .plan .now) (a .steps .now) (a .out .now);
+      demand-3 = λ h. demand-3-file (a .processors) (a .plan .now) h (a .steps .now);
+      lines = λ h. r .bytes ∙ output-lines (a .processors) (a .plan .now) (a .steps .now) (a .out .now) h;
     }
 
 pub mortarsedge-run-spec : {M : Type 1} → statement M

@@ -27,9 +27,9 @@ module _ (count : ℕ) (opcodes operands : List ℕ) (ts : List Task) where
   stuck-more k b h = below-more stuckAfter k b (stuck-is k h)
 
   module _ (used : ℕ) where
-    pub quiet-mail : (used ≡ 0 → ⊥) → quietIn count opcodes operands ts used ≡ false
+    pub quiet-network : (used ≡ 0 → ⊥) → quietIn count opcodes operands ts used ≡ false
     unfolding quietIn
-    quiet-mail h = rw (ne-eqb used 0 h) refl
+    quiet-network h = rw (ne-eqb used 0 h) refl
 
     -- one task that can run
     pub quiet-fails : (k : ℕ) → used ≡ 0 → k < count → isAccepted (runRefusal opcodes operands count ts (taskId (k + 1))) ≡ true → quietIn count opcodes operands ts used ≡ false

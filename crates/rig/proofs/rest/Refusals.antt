@@ -14,8 +14,8 @@ use Rattle.rules.specs.declared.task.Task.{Task}
 use Rattle.rules.specs.declared.system.Store.{Store}
 use Rattle.rules.specs.Numbers.{taskId}
 use Rattle.rules.specs.Answers.{isAccepted}
-use Rattle.rules.specs.Networks.{lettersOf}
-use Rattle.rules_laws.proofs.Letters.{few-letters}
+use Rattle.rules.specs.Networks.{messagesOf}
+use Rattle.rules_laws.proofs.Messages.{few-messages}
 use Rattle.rig_parts.specs.declared.change.Change.{Change}
 use Rattle.rig_parts.specs.Facts.{Facts, PartsOf}
 use Rattle.rig_parts.specs.RunVerdicts.{runRefusal, judgedRun, fittingIn, ranIn}
@@ -29,8 +29,8 @@ use Rattle.rig.proofs.rest.Quiet.{stuckAfter}
 -- with no letter in the mail there is room for what a rule posts
 fits : (n : ℕ) → n ≤ 6 → (k : Change) → isRefused (fittingIn n 0 k) ≡ false
 fits n few k =
-    let m = length (lettersOf n (k .outcome .posting)) in
-    rw (le-leb (0 + m) 256 (omega (arith, few-letters n (k .outcome .posting)))) refl
+    let m = length (messagesOf n (k .outcome .posting)) in
+    rw (le-leb (0 + m) 256 (omega (arith, few-messages n (k .outcome .posting)))) refl
 
 -- so the first tests alone refuse
 run-stuck : (f : Facts) (n : ℕ) (ts : List Task) (s : Store) → n ≤ 6 → (t : TaskId)

@@ -9,7 +9,7 @@ use Rattle.rules.specs.declared.system.Store.{Store}
 use Rattle.rules.specs.Numbers.{taskId, processorId}
 use Rattle.rules.specs.Tasks.{born}
 use Rattle.rules.specs.Systems.{withTasks, withTask, taskStored, store, storeIn}
-use Rattle.rules.specs.Starts.{birth, blank, started, noLetters, noChannels}
+use Rattle.rules.specs.Starts.{birth, blank, started, noMessages, noChannels}
 use Rattle.plan_index.specs.ends.Derived.{endsOf}
 use Rattle.rig_parts.specs.Sweeps.{forEnds}
 use Rattle.rig_parts.proofs.Sweeps.{sweptIn, birth-swept}
@@ -32,7 +32,7 @@ none = replicate 768 0
 module _ (n : ℕ) (p : Plan) where
   -- the rig with this for the channels
   abbrev made : Store → System
-  made s = record { processors = n; plan = p; tasks = startTasks; tables = s .tables; channels = s .channels; network = noLetters }
+  made s = record { processors = n; plan = p; tasks = startTasks; tables = s .tables; channels = s .channels; network = noMessages }
 
   started-is : made (startStore (endsOf p .receivers)) ≡ started n p
   unfolding started blank
@@ -41,7 +41,7 @@ module _ (n : ℕ) (p : Plan) where
   pub started-tasks : started n p .tasks ≡ startTasks
   started-tasks = ap (λ (r : System). r .tasks) (sym started-is)
 
-  pub started-network : started n p .network ≡ noLetters
+  pub started-network : started n p .network ≡ noMessages
   started-network = ap (λ (r : System). r .network) (sym started-is)
 
   pub started-store : storeIn (started n p) ≡ startStore (endsOf p .receivers)

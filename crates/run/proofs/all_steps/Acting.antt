@@ -16,7 +16,7 @@ use Rattle.rules.specs.declared.step.Report.{Report}
 use Rattle.rules.specs.declared.step.Step.{Step}
 use Rattle.rules.specs.declared.system.Store.{Store}
 use Rattle.rules.specs.Numbers.{taskId, processorId}
-use Rattle.rules.specs.Networks.{enqueuedAll, lettersOf, letterAt, dequeued}
+use Rattle.rules.specs.Networks.{enqueuedAll, messagesOf, messageAt, dequeued}
 use Rattle.rules.specs.Steps.{isRun, isDeliver, isMove, wellFormed}
 use Rattle.rig_parts.specs.declared.change.Verdict.{Verdict}
 use Rattle.rig_parts.specs.declared.change.Verdict.the-variants.{Refused, Accepted}
@@ -40,16 +40,16 @@ reportOf r = record { answer = r .answer; received = r .received }
 
 -- what is said, the tasks, the mail and the store then
 turned-as : (n : ℕ) (k : Network) {r q : Act} {ts us : List Task} {s v : Store} → r ≡ q → ts ≡ us → s ≡ v
-    → turned (reportOf r) ts (enqueuedAll k (lettersOf n (r .posting))) s ≡ turned (reportOf q) us (enqueuedAll k (lettersOf n (q .posting))) v
+    → turned (reportOf r) ts (enqueuedAll k (messagesOf n (r .posting))) s ≡ turned (reportOf q) us (enqueuedAll k (messagesOf n (q .posting))) v
 turned-as n k {r} {q} {ts} {us} {s} {v} e p d =
-    let g : Act → List Task → Store → Turn = λ z y w. turned (reportOf z) y (enqueuedAll k (lettersOf n (z .posting))) w in
+    let g : Act → List Task → Store → Turn = λ z y w. turned (reportOf z) y (enqueuedAll k (messagesOf n (z .posting))) w in
     ap (λ (z : Act). g z ts s) e ∙ ap (λ (z : List Task). g q z s) p ∙ ap (λ (z : Store). g q us z) d
 
 -- a verdict carried out, and its letters posted
 module _ (senders receivers : List ℕ) (n : ℕ) (k : Network) (before after : Lent) (r : Act) where
   pub acted-turn : (v : Verdict) → Acted senders receivers v before r after
-      → turned (reportOf r) (tasksOf after) (enqueuedAll k (lettersOf n (r .posting))) (storeOf after) ≡ settled senders receivers n v (tasksOf before) k (storeOf before)
-  unfolding carriedOut enqueuedAll lettersOf
+      → turned (reportOf r) (tasksOf after) (enqueuedAll k (messagesOf n (r .posting))) (storeOf after) ≡ settled senders receivers n v (tasksOf before) k (storeOf before)
+  unfolding carriedOut enqueuedAll messagesOf
   acted-turn (Refused q) a = turned-as n k (a .act) (a .tasks) (a .store)
   acted-turn (Accepted x) a = turned-as n k (a .act) (a .tasks) (a .store)
 
@@ -78,10 +78,10 @@ module _ (f : Facts) (n : ℕ) (ts : List Task) (k : Network) (s : Store) (x : S
       some h e = omega arith
 
   -- a step that delivers the letter at position p
-  pub letter-turn : (p : ℕ) → p ≡ positionOf (k .used) x → (p ≡ 0 → ⊥)
-      → settled (f .senders) (f .receivers) n (Accepted (openedIn f ts s (letterAt k p))) ts (dequeued k p) s ≡ turnOf f n ts k s x
+  pub message-turn : (p : ℕ) → p ≡ positionOf (k .used) x → (p ≡ 0 → ⊥)
+      → settled (f .senders) (f .receivers) n (Accepted (openedIn f ts s (messageAt k p))) ts (dequeued k p) s ≡ turnOf f n ts k s x
   unfolding turnOf wellFormed deliveredTurn positionOf
-  letter-turn p at some =
+  message-turn p at some =
       by-bool (isDeliver x)
       (λ d.
       let two = eqb-true (x .kind) 2 d in
@@ -100,14 +100,14 @@ either P true a b p q = q
 either P false a b p q = p
 
 -- there is room for what is posted
-room-of : (n used : ℕ) (v : Verdict) → used ≤ 256 → verdictOk n used v ≡ true → used + length (lettersOf n (actOf v .posting)) ≤ 256
-unfolding lettersOf
+room-of : (n used : ℕ) (v : Verdict) → used ≤ 256 → verdictOk n used v ≡ true → used + length (messagesOf n (actOf v .posting)) ≤ 256
+unfolding messagesOf
 room-of n used (Refused q) few ok = omega arith
 room-of n used (Accepted y) few ok = change-room n used y ok
 
 -- a step that delivers nothing has room for its letters
 pub step-room : {f : Facts} {n : ℕ} {ts : List Task} {s : Store} {used : ℕ} (p : PartsOf f n ts s used) (x : Step) {r : Act}
-    → r ≡ actOf (stepVerdict f n ts s used x) → used + length (lettersOf n (r .posting)) ≤ 256
+    → r ≡ actOf (stepVerdict f n ts s used x) → used + length (messagesOf n (r .posting)) ≤ 256
 unfolding stepVerdict
 step-room {f} {n} {ts} {s} {used} p x e =
     let Ok : Verdict → Type 0 = λ v. verdictOk n used v ≡ true in

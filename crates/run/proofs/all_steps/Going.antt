@@ -34,10 +34,10 @@ module _ (f : Facts) (n : ℕ) (ts : List Task) (k : Network) (s : Store) (at : 
   firstLines j = stepLines 0 (firstTurns j .reports)
 
   -- the parts then are a rig's, and the lines of those steps are written into o
-  pub record Going (o : List ℕ) (j : ℕ) (all : List Task) (mail : Network) (kept : Store) (progress out : List ℕ) : Type 0 where
-    pub rig : Rig f n all mail kept
+  pub record Going (o : List ℕ) (j : ℕ) (all : List Task) (messages : Network) (kept : Store) (progress out : List ℕ) : Type 0 where
+    pub rig : Rig f n all messages kept
     pub tasks : all ≡ firstTurns j .tasks
-    pub network : mail ≡ firstTurns j .network
+    pub network : messages ≡ firstTurns j .network
     pub store : kept ≡ firstTurns j .store
     pub lines : WrittenBy (firstLines j) o progress out
     pub two : length progress ≡ 2
@@ -46,7 +46,7 @@ module _ (f : Facts) (n : ℕ) (ts : List Task) (k : Network) (s : Store) (at : 
   unfolding table tableBefore turnsOf stepLines text
   going-start o progress e g = rw e (record { rig = g; tasks = refl; network = refl; store = refl; lines = filled-written [] (filled-none o); two = refl })
 
-  module _ {o : List ℕ} {j : ℕ} {all : List Task} {mail : Network} {kept : Store} {progress out : List ℕ} (g : Going o j all mail kept progress out) where
+  module _ {o : List ℕ} {j : ℕ} {all : List Task} {messages : Network} {kept : Store} {progress out : List ℕ} (g : Going o j all messages kept progress out) where
     pub going-room : filledBy progress ≤ length out
     going-room =
         let l = fitting (length o) (firstLines j) in
@@ -57,11 +57,11 @@ module _ (f : Facts) (n : ℕ) (ts : List Task) (k : Network) (s : Store) (at : 
         let l = fitting (length o) (firstLines j) in
         rw (g .lines .bytes) (omega (arith, length-append l (drop (length l) o), length-drop (length l) o, fitting-room (length o) (firstLines j)))
 
-    pub going-done : RanTo (firstTurns j) o all mail kept progress out
+    pub going-done : RanTo (firstTurns j) o all messages kept progress out
     going-done = record { lines = g .lines; tasks = g .tasks; network = g .network; store = g .store }
 
     -- a step more
-    module _ {t : Turn} (q : t ≡ turnOf f n all mail kept (at j)) where
+    module _ {t : Turn} (q : t ≡ turnOf f n all messages kept (at j)) where
       abbrev line : List ℕ
       line = stepLine (j + 1) (t .report)
 

@@ -10,54 +10,54 @@ use lib.Seq.{set-set}
 use Rattle.base.proofs.Tests.{tests-differ}
 use Rattle.base.proofs.Choices.{pick-either}
 use Rattle.rules.specs.declared.rule.Posting.{Posting}
-use Rattle.rules.specs.declared.rule.Posting.the-variants.{Nothing, Letter, Adverts}
+use Rattle.rules.specs.declared.rule.Posting.the-variants.{Nothing, Single, Adverts}
 use Rattle.rules.specs.declared.task.TaskState.the-variants.{Moving}
 use Rattle.rules.specs.declared.message.Slot.{Slot}
 use Rattle.rules.specs.declared.message.Message.{Message}
 use Rattle.rules.specs.declared.message.Message.the-variants.{Empty, Offered, Advert, ReadyToReceive, Data, Terminated, Migration}
 use Rattle.rules.specs.declared.rule.Site.{Site}
 use Rattle.rules.specs.declared.rule.Outcome.{Outcome}
-use Rattle.rules.specs.Networks.{slot, noSlot, enqueued, enqueuedAll, lettersOf}
+use Rattle.rules.specs.Networks.{slot, noSlot, enqueued, enqueuedAll, messagesOf}
 use Rattle.rules.specs.Tasks.{isIn, isAt}
 use Rattle.rules.specs.Cells.{counts, noneCalled}
 use Rattle.rules.specs.Offers.{offerRule, advertRule, pointsOn}
 use Rattle.rules.specs.Calls.{callRule, dataRule}
 use Rattle.rig_parts.specs.declared.change.Scope.{Scope}
 use Rattle.rig_parts.specs.declared.change.Change.{Change}
-use Rattle.rig_parts.specs.Openings.{letterChange}
-use Rattle.network.specs.Mailing.{isLetter, roundsOf, letterOf}
+use Rattle.rig_parts.specs.Openings.{messageChange}
+use Rattle.network.specs.Rounds.{isMessage, roundsOf, messageOf}
 use Rattle.network.proofs.Gaps.{holding}
 use Rattle.network.proofs.Posted.{AtMostOne}
 
 -- one letter at most
-pub letter-posts : (k : Scope) (m : Message) (y : Site) → AtMostOne (letterChange k m y .outcome .posting)
+pub message-posts : (k : Scope) (m : Message) (y : Site) → AtMostOne (messageChange k m y .outcome .posting)
 unfolding offerRule advertRule callRule dataRule
-letter-posts k Empty y = tt
-letter-posts k (Offered c o h) y =
+message-posts k Empty y = tt
+message-posts k (Offered c o h) y =
     let One : Outcome → Type 0 = λ z. AtMostOne (z .posting) in
     let d = h .processor in
     pick-either One (not (counts (y .cell) o) && isAt d (y .receiver)) _ _ tt
     (pick-either One (isAt d (y .receiver) && (y .receiving && not (y .cell .channel .awaiting))) _ _ tt
     (pick-either One (isAt d (y .receiver)) _ _ tt (pick-either One (pointsOn (y .cell .entry .hint) h d) _ _ tt tt)))
-letter-posts k (Advert c d from) y =
+message-posts k (Advert c d from) y =
     pick-either (λ (z : Outcome). AtMostOne (z .posting)) (isAt d (y .receiver) && (y .receiving && noneCalled (y .cell))) _ _ tt tt
-letter-posts k (ReadyToReceive c d h) y = pick-either (λ (z : Outcome). AtMostOne (z .posting)) (y .sending && isAt d (y .sender)) _ _ tt tt
-letter-posts k (Data c d w) y =
+message-posts k (ReadyToReceive c d h) y = pick-either (λ (z : Outcome). AtMostOne (z .posting)) (y .sending && isAt d (y .sender)) _ _ tt tt
+message-posts k (Data c d w) y =
     pick-either (λ (z : Outcome). AtMostOne (z .posting)) (isAt d (y .receiver) && (y .receiving && y .cell .channel .awaiting)) _ _ tt tt
-letter-posts k (Terminated d t) y = tt
-letter-posts k (Migration d t) y = pick-either (λ (z : Change). AtMostOne (z .outcome .posting)) (isIn Moving (y .sender)) _ _ tt tt
+message-posts k (Terminated d t) y = tt
+message-posts k (Migration d t) y = pick-either (λ (z : Change). AtMostOne (z .outcome .posting)) (isIn Moving (y .sender)) _ _ tt tt
 
 -- a letter has room where all that is posted has
-pub one-room : (n used : ℕ) (x : Posting) → isLetter x ≡ true → used + length (lettersOf n x) ≤ 256 → used < 256
-unfolding lettersOf
+pub one-room : (n used : ℕ) (x : Posting) → isMessage x ≡ true → used + length (messagesOf n x) ≤ 256 → used < 256
+unfolding messagesOf
 one-room n used Nothing h l = absurd (tests-differ h refl)
-one-room n used (Letter m) h l = omega (arith, l)
+one-room n used (Single m) h l = omega (arith, l)
 one-room n used (Adverts c d) h l = absurd (tests-differ h refl)
 
 -- it takes the last place, which stays empty if nothing is posted
 pub posted-last : (n u : ℕ) (l : List Slot) (x : Posting) → AtMostOne x
-    → holding (u + roundsOf 1 x) (set l u (slot (letterOf x 0))) ≡ enqueuedAll (holding u (set l u noSlot)) (lettersOf n x)
-unfolding lettersOf enqueuedAll enqueued
+    → holding (u + roundsOf 1 x) (set l u (slot (messageOf x 0))) ≡ enqueuedAll (holding u (set l u noSlot)) (messagesOf n x)
+unfolding messagesOf enqueuedAll enqueued
 posted-last n u l Nothing one = ap (λ i. holding i (set l u noSlot)) (add-zero u)
-posted-last n u l (Letter m) one = ap (holding (u + 1)) (sym (set-set l u noSlot (slot m)))
+posted-last n u l (Single m) one = ap (holding (u + 1)) (sym (set-set l u noSlot (slot m)))
 posted-last n u l (Adverts c d) one = absurd one

@@ -8,7 +8,7 @@ use Rattle.rules.specs.declared.system.Tables.{Tables}
 use Rattle.rules.specs.declared.system.Channels.{Channels}
 use Rattle.rules.specs.declared.system.Store.{Store}
 use Rattle.rules.specs.Numbers.{taskId, processorId}
-use Rattle.rules.specs.Starts.{started, noLetters, noTables, noChannels}
+use Rattle.rules.specs.Starts.{started, noMessages, noTables, noChannels}
 use Rattle.rules.specs.Systems.{store}
 use Rattle.rules_laws.proofs.Shapes.{started-shaped, started-plan, started-processors}
 use Rattle.rules_sound.proofs.Starts.{started-ok}
@@ -38,14 +38,14 @@ module _ (count : ℕ) (opcodes operands numbers : List ℕ) {senders receivers 
   -- pointers are set for the channels that task 1 receives on; there is nothing else in the tables, and the start on the board
   abbrev pub begun : {n : ℕ} {p : Plan} {k : Network} {z : Tables} {hp hm board : List ℕ}
       → Begins n p (facts count opcodes operands numbers senders receivers parents)
-      → k ≡ noLetters
+      → k ≡ noMessages
       → z ≡ noTables
       → StartsOn board
       → StoredBy (forEnds (receiversOf users) (taskId 1) (processorId 1) (Locate (processorId 1) 1))
       (lent (z .hintprocessors) (z .hintmoves) (z .heldprocessors) (z .heldnumbers) (z .notes) board)
       (lent hp hm (z .heldprocessors) (z .heldnumbers) (z .notes) board)
       → Rig (factsIn count opcodes operands numbers users) n (tasksOn board) k (storeOf (lent hp hm (z .heldprocessors) (z .heldnumbers) (z .notes) board))
-  begun {n} {p} {k} {z} {hp} {hm} {board} b mail empty on located =
+  begun {n} {p} {k} {z} {hp} {hm} {board} b network empty on located =
       let e = facts-in ∙ b .derived in
       let sweep : List ℕ → Store → Store = λ receivers. forEnds receivers (taskId 1) (processorId 1) (Locate (processorId 1) 1) in
       record {
@@ -63,7 +63,7 @@ module _ (count : ℕ) (opcodes operands numbers : List ℕ) {senders receivers 
                   ∙ ap (λ (x : Tables). sweep (receiversOf users) (store x noChannels)) empty
                   ∙ ap (λ (x : Facts). startStore (x .receivers)) e
                   ∙ sym (started-store n p);
-              letters = ap (λ (q : Network). q .used) (mail ∙ sym (started-network n p));
+              messages = ap (λ (q : Network). q .used) (network ∙ sym (started-network n p));
             };
-        network = mail ∙ sym (started-network n p);
+        network = network ∙ sym (started-network n p);
       }

@@ -72,9 +72,9 @@ module _ (n : ℕ) (p b o : List ℕ) where
   unfolding runFileAnswer runFileText runFileOutput
   unstarted a e = record { answered = rw e refl; count = rw e refl; bytes = rw e refl }
 
-  pub desks-refused : within 1 6 n ≡ false → RunFile n p b o (Unstarted BadProcessors) 0 o
+  pub processors-refused : within 1 6 n ≡ false → RunFile n p b o (Unstarted BadProcessors) 0 o
   unfolding startAnswer
-  desks-refused d = unstarted BadProcessors (rw d refl)
+  processors-refused d = unstarted BadProcessors (rw d refl)
 
   module _ (d : within 1 6 n ≡ true) where
     pub file-refused : (a : Refusal) → fileAnswer p ≡ Refused a → RunFile n p b o (Unstarted a) 0 o

@@ -45,8 +45,8 @@ stood f n g (x ∷ xs) =
     record { rig = i .rig; system = i .system ∙ rw e refl; reports = rw (i .reports, e, rig-turn g x) refl }
 
 -- the mail is never over-full
-pub rig-letters : {f : Facts} {n : ℕ} {ts : List Task} {k : Network} {s : Store} → Rig f n ts k s → k .used ≤ 256
-rig-letters g = rw (g .network) (sound (g .parts .system) (g .parts .shaped) (g .parts .sound) .mail .used)
+pub rig-messages : {f : Facts} {n : ℕ} {ts : List Task} {k : Network} {s : Store} → Rig f n ts k s → k .used ≤ 256
+rig-messages g = rw (g .network) (sound (g .parts .system) (g .parts .shaped) (g .parts .sound) .network .used)
 
 -- the trace of a rig, by its parts
 module _ {f : Facts} {n : ℕ} {ts : List Task} {k : Network} {s : Store} (g : Rig f n ts k s) (xs : List Step) where
@@ -66,8 +66,8 @@ module _ {f : Facts} {n : ℕ} {ts : List Task} {k : Network} {s : Store} (g : R
       ap (λ (q : Network). q .used) (w .rig .network) ∙ ap (λ (p : System). p .network .used) (w .system) in
       rw (rest, used, w .reports, end-of (steps (g .parts .system) xs .system)) refl
 
-  module _ {before : List ℕ} {all : List Task} {mail : Network} {kept : Store} {progress mid : List ℕ} (h : RanTo ranIn before all mail kept progress mid) where
-    pub ran-rig : Rig f n (all) (mail) kept
+  module _ {before : List ℕ} {all : List Task} {network : Network} {kept : Store} {progress mid : List ℕ} (h : RanTo ranIn before all network kept progress mid) where
+    pub ran-rig : Rig f n (all) (network) kept
     ran-rig = rw (h .tasks, h .network, h .store) (stood-in .rig)
 
     -- a line of a step does not fit
@@ -82,7 +82,7 @@ module _ {f : Facts} {n : ℕ} {ts : List Task} {k : Network} {s : Store} (g : R
       pub ran-room : filledBy progress ≤ length mid
       ran-room = let l = written-filled all-fit in omega (arith, l .end, l .room, filled-length l)
 
-      pub driven-end : {d : Driven} {after : List ℕ} (b : Bool) → b ≡ restIn f n (all) kept (mail .used)
-          → Ended (endText b (mail .used)) mid (filledBy progress) d after
+      pub driven-end : {d : Driven} {after : List ℕ} (b : Bool) → b ≡ restIn f n (all) kept (network .used)
+          → Ended (endText b (network .used)) mid (filledBy progress) d after
           → Written (traceLines (g .parts .system) xs) before (d .filled) (d .whole) after
       driven-end b e t = rw (trace-lines b (rw (h .tasks, h .network, h .store) at e)) (written-end all-fit (rw (h .network) at t))

@@ -12,7 +12,7 @@ use plan::ProcessorId;
 use plan::TaskId;
 use plan_index::user_table::users::build;
 use rig::rest::at_rest;
-use rig::start::no_letters;
+use rig::start::no_messages;
 use rig::start::no_tables;
 use rig::start::start_board;
 use rules::channel::Hint;
@@ -25,11 +25,11 @@ pub struct Driven {
 }
 
 // The last line.
-fn write_end(rest: bool, letters: usize, out: &mut [u8], filled: usize) -> Driven
-    requires { ⌜ (letters ≤ 256) × (filled ≤ length (now out)) ⌝ }
-    ensures { λ r. ⌜ Ended (endText rest letters) (now (out .entry)) filled r (now (out .exit)) ⌝ }
+fn write_end(rest: bool, messages: usize, out: &mut [u8], filled: usize) -> Driven
+    requires { ⌜ (messages ≤ 256) × (filled ≤ length (now out)) ⌝ }
+    ensures { λ r. ⌜ Ended (endText rest messages) (now (out .entry)) filled r (now (out .exit)) ⌝ }
 {
-    let written = emit_end(out, filled, rest, letters);
+    let written = emit_end(out, filled, rest, messages);
     if written == 0 {
         return Driven {
             filled: filled,
@@ -92,9 +92,9 @@ pub fn drive<'a>(
         processors: processors,
         used: 0,
     };
-    let network = no_letters();
+    let network = no_messages();
     let mut progress = [0usize; 2];
-    let mail = run_steps(
+    let network = run_steps(
         opcodes,
         operands,
         numbers,
@@ -118,7 +118,7 @@ pub fn drive<'a>(
             whole: false,
         };
     }
-    let letters = mail.used;
-    let rest = at_rest(count, opcodes, operands, &board, letters);
-    write_end(rest, letters, out, filled)
+    let messages = network.used;
+    let rest = at_rest(count, opcodes, operands, &board, messages);
+    write_end(rest, messages, out, filled)
 }

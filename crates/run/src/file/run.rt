@@ -34,10 +34,10 @@ fn steps_ok(steps: &[u8]) -> bool
 }
 
 // 1 to 6 as at start; 8; 20.
-pub fn run_file<'a>(desks: u32, plan: &'a [u8], steps: &'a [u8], out: &'a mut [u8]) -> Outcome
-    ensures { λ r. ⌜ RunFile desks (now (plan .entry)) (now (steps .entry)) (now (out .entry)) (r .answer) (r .filled) (now (out .exit)) ⌝ }
+pub fn run_file<'a>(processors: u32, plan: &'a [u8], steps: &'a [u8], out: &'a mut [u8]) -> Outcome
+    ensures { λ r. ⌜ RunFile processors (now (plan .entry)) (now (steps .entry)) (now (out .entry)) (r .answer) (r .filled) (now (out .exit)) ⌝ }
 {
-    if !base::is_within(1, 6, desks as usize) {
+    if !base::is_within(1, 6, processors as usize) {
         return refused(RunAnswer::Unstarted(Refusal::BadProcessors));
     }
     let read = plan_file::load(plan);
@@ -62,7 +62,7 @@ pub fn run_file<'a>(desks: u32, plan: &'a [u8], steps: &'a [u8], out: &'a mut [u
                 &read.senders,
                 &read.receivers,
                 &read.parents,
-                desks as u8,
+                processors as u8,
                 steps,
                 out,
             );

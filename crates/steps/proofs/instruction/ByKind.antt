@@ -14,7 +14,7 @@ use Rattle.plan.specs.declared.Instruction.{Instruction}
 use Rattle.plan.specs.Kinds.{opCreate, opSync, opFinish, opSend, opReceive, opSet}
 use Rattle.rules.specs.declared.task.Task.{Task}
 use Rattle.rules.specs.Numbers.{taskId}
-use Rattle.rules.specs.Networks.{lettersOf}
+use Rattle.rules.specs.Networks.{messagesOf}
 use Rattle.rules.specs.declared.rule.Posting.the-variants.{Nothing as NoPosting}
 use Rattle.rules.specs.declared.system.Store.{Store}
 use Rattle.rules.specs.Local.{syncRule, setRule, addRule}
@@ -27,8 +27,8 @@ use Rattle.board.specs.Acted.{actOf, plainAct}
 use Rattle.steps.specs.instruction.Locals.{createVerdict, finishVerdict, aloneVerdict}
 
 -- no letters always fit
-none-fit : (n used : ℕ) → used ≤ 256 → leb (used + length (lettersOf n NoPosting)) 256 ≡ true
-unfolding lettersOf
+none-fit : (n used : ℕ) → used ≤ 256 → leb (used + length (messagesOf n NoPosting)) 256 ≡ true
+unfolding messagesOf
 none-fit n used few = le-leb (used + 0) 256 (omega arith)
 
 module _ (f : Facts) (n : ℕ) (ts : List Task) (s : Store) (used : ℕ) (few : used ≤ 256) (t : TaskId) (x : Task) (is : x ≡ taskIn ts t) (i : Instruction) where

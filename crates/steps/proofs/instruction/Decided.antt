@@ -8,7 +8,7 @@ use Rattle.base.specs.Choice.{unless}
 use Rattle.rules.specs.declared.channel.Cell.{Cell}
 use Rattle.rules.specs.declared.rule.Outcome.{Outcome}
 use Rattle.rules.specs.declared.step.StepAnswer.the-variants.{NetworkFull}
-use Rattle.rules.specs.Networks.{lettersOf}
+use Rattle.rules.specs.Networks.{messagesOf}
 use Rattle.rig_parts.specs.declared.sweep.Sweep.the-variants.{Nothing}
 use Rattle.rig_parts.specs.declared.change.Scope.{Scope}
 use Rattle.rig_parts.specs.declared.change.Verdict.the-variants.{Refused, Accepted}
@@ -30,4 +30,4 @@ same k o x false = refl
 pub decided : (n used : ℕ) (k : Scope) (o : Outcome) {x : Cell} {q : Outcome} {r : Act} → withCell o x ≡ q
     → r ≡ actOf (fittingIn n used (change k o Nothing)) → r ≡ actOf (fittingIn n used (change k q Nothing))
 decided n used k o {x} e h =
-    h ∙ same k o x (leb (used + length (lettersOf n (o .posting))) 256) ∙ ap (λ (z : Outcome). actOf (fittingIn n used (change k z Nothing))) e
+    h ∙ same k o x (leb (used + length (messagesOf n (o .posting))) 256) ∙ ap (λ (z : Outcome). actOf (fittingIn n used (change k z Nothing))) e

@@ -19,7 +19,7 @@ use Rattle.rig_parts.specs.Fetches.{cellOf, siteIn}
 use Rattle.rig_parts.specs.Scopes.{runScope, namedIn}
 use Rattle.rig_parts.specs.RunVerdicts.{runRefusal, judgedRun, ranIn, runChange, sendIn}
 use Rattle.rig_parts.proofs.BoundsParts.{count-few, used-few, place-few, sender-few, receiver-few}
-use Rattle.rig_parts.proofs.BoundsReady.{nextAt, place-some, place-last, desk-in, argument-ok}
+use Rattle.rig_parts.proofs.BoundsReady.{nextAt, place-some, place-last, processor-in, argument-ok}
 use Rattle.rig_parts.proofs.BoundsScope.{scope-reached}
 use Rattle.board.specs.Lent.{AtCell}
 use Rattle.steps.specs.instruction.Sends.{CanSend, sendVerdict}
@@ -40,8 +40,8 @@ module _ {f : Facts} {n : ℕ} {ts : List Task} {s : Store} {used : ℕ} (p : Pa
   at-cell named =
       let d = taskIn ts t .processor .0 in
       record {
-        desk-low = within-low 1 6 d (desk-in p t w ready);
-        desk = within-high 1 6 d (desk-in p t w ready);
+        processor-low = within-low 1 6 d (processor-in p t w ready);
+        processor = within-high 1 6 d (processor-in p t w ready);
         channel-low = within-low 1 128 c named;
         channel = within-high 1 128 c named;
       }
@@ -57,7 +57,7 @@ module _ {f : Facts} {n : ℕ} {ts : List Task} {s : Store} {used : ℕ} (p : Pa
     send-can =
         let u = namedIn (f .receivers) c in
         record {
-          letters = used-few p;
+          messages = used-few p;
           sendable =
               record {
                 task-low = within-low 1 (f .tasks) (t .0) w;
@@ -85,7 +85,7 @@ module _ {f : Facts} {n : ℕ} {ts : List Task} {s : Store} {used : ℕ} (p : Pa
     unfolding cellOf
     called-few =
         let high = within-high 1 (f .tasks) (t .0) w in
-        let reached = scope-reached p (receiveScope (f .senders) ts t (channelId c)) (sender-few p c) high (within-high 1 128 c named) (desk-in p t w ready) in
+        let reached = scope-reached p (receiveScope (f .senders) ts t (channelId c)) (sender-few p c) high (within-high 1 128 c named) (processor-in p t w ready) in
         let low = within-low 1 128 c named in
         let few : readChannel (s .channels) (c - 1) .granted ≤ 64 = rw (ne-eqb c 0 (λ z. omega arith)) at (reached .called) in
         omega arith
@@ -95,7 +95,7 @@ module _ {f : Facts} {n : ℕ} {ts : List Task} {s : Store} {used : ℕ} (p : Pa
     receive-can =
         let u = namedIn (f .senders) c in
         record {
-          letters = used-few p;
+          messages = used-few p;
           receivable =
               record {
                 task-low = within-low 1 (f .tasks) (t .0) w;

@@ -79,6 +79,6 @@ module _ (operands numbers senders notes board : List ℕ) (t : TaskId) (c : Cha
         ∙ ap (λ (z : Site). receiveRule z c w) site-kept
 
   -- the receiver stays at its desk
-  pub receive-desk : {o : Outcome} → o ≡ left [] [] [] [] → o .receiver .processor ≡ taskIn ts t .processor
+  pub receive-processor : {o : Outcome} → o ≡ left [] [] [] [] → o .receiver .processor ≡ taskIn ts t .processor
   unfolding siteIn
-  receive-desk e = rw (e, receive-keeps _ c _) refl
+  receive-processor e = rw (e, receive-keeps _ c _) refl

@@ -21,7 +21,7 @@ use Rattle.rig_parts.specs.Facts.{Facts}
 use Rattle.rig_parts.specs.Scopes.{argumentOk}
 use Rattle.rig_parts.specs.RunVerdicts.{judgedRun}
 use Rattle.rig_parts.proofs.BoundsParts.{count-few, used-few, parent-few}
-use Rattle.rig_parts.proofs.BoundsReady.{nextAt, place-last, desk-in, argument-ok, child-few}
+use Rattle.rig_parts.proofs.BoundsReady.{nextAt, place-last, processor-in, argument-ok, child-few}
 use Rattle.board.specs.Acted.{actOf, plainAct}
 use Rattle.steps.specs.instruction.Sends.{CanSend, sendVerdict}
 use Rattle.steps.specs.instruction.Receives.{CanReceive, receiveVerdict}
@@ -55,14 +55,14 @@ module _ {f : Facts} {n : ℕ} {ts : List Task} {s : Store} {used : ℕ} {t : Ta
   create-can e =
       let w = g .counted in
       let ready = g .ready in
-      let desk = desk-in (g .parts) t w ready in
+      let processor = processor-in (g .parts) t w ready in
       record {
         task = task-few;
         child-low = within-low 1 128 (i .operand) (named opCreate e refl);
         child = rw (g .next) (omega (arith, count-few (g .parts), child-few (g .parts) t w ready (eq-eqb (nextAt f ts t .opcode) opCreate (rw (g .next) at e))));
         place = place-few;
-        desk-low = rw (g .task) (within-low 1 6 (taskIn ts t .processor .0) desk);
-        desk = rw (g .task) (within-high 1 6 (taskIn ts t .processor .0) desk);
+        processor-low = rw (g .task) (within-low 1 6 (taskIn ts t .processor .0) processor);
+        processor = rw (g .task) (within-high 1 6 (taskIn ts t .processor .0) processor);
       }
 
   pub create-judged : i .opcode ≡ opCreate → judgedRun f n ts s used t ≡ createVerdict t x (taskId (i .operand))

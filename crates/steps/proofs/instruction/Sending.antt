@@ -85,6 +85,6 @@ module _ (operands numbers receivers hp hm op on board : List ℕ) (t : TaskId) 
     send-hint = rw (e, send-keeps _ c _ .0, ne-eqb (c .0) 0 (λ z. omega arith)) refl
 
     -- the sender stays at its desk
-    pub send-desk : o .sender .processor ≡ taskIn ts t .processor
+    pub send-processor : o .sender .processor ≡ taskIn ts t .processor
     unfolding siteIn
-    send-desk = rw (e, send-keeps _ c _ .1) refl
+    send-processor = rw (e, send-keeps _ c _ .1) refl

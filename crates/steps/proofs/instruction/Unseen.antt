@@ -12,7 +12,7 @@ use Rattle.rules.specs.declared.rule.Site.{Site}
 use Rattle.rules.specs.declared.rule.Outcome.{Outcome}
 use Rattle.rules.specs.Numbers.{sameProcessor, isNone, noProcessor}
 use Rattle.rules.specs.Tasks.{isAt}
-use Rattle.rules.specs.declared.rule.Posting.the-variants.{Nothing, Letter, Adverts}
+use Rattle.rules.specs.declared.rule.Posting.the-variants.{Nothing, Single, Adverts}
 use Rattle.rules.specs.declared.message.Message.the-variants.{Offered}
 use Rattle.rules.specs.Cells.{isUnknown, offer, noOffer, counts, noneCalled, withHint, withHeld, withNoted, withCarried, carrying, holding, granting}
 use Rattle.rules.specs.Send.{sendRule, sendPasses, sendWaits}
@@ -46,7 +46,7 @@ send-unseen n x c w =
     let h = x .cell .entry .hint in
     four (leftCell (λ k. withNoted k n))
     (isAt d (x .receiver) && (x .receiving && not (x .cell .channel .awaiting))) (isAt d (x .receiver)) (isUnknown h) (sameProcessor (h .processor) d)
-    (sendPasses x c w) (sendWaits x (carrying (x .cell) o) Nothing) (sendWaits x (x .cell) (Adverts c d)) (sendWaits x (holding (x .cell) o) Nothing) (sendWaits x (x .cell) (Letter (Offered c o h)))
+    (sendPasses x c w) (sendWaits x (carrying (x .cell) o) Nothing) (sendWaits x (x .cell) (Adverts c d)) (sendWaits x (holding (x .cell) o) Nothing) (sendWaits x (x .cell) (Single (Offered c o h)))
 
 -- a receive: pointer and held offer
 pub receive-unseen : (h : Hint) (o : Offer) (x : Site) (c : ChannelId) (w : ℕ) → receiveRule (atCell (λ k. withHint (withHeld k o) h) x) c w ≡ leftCell (λ k. withHint (withHeld k o) h) (receiveRule x c w)

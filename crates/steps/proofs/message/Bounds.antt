@@ -81,7 +81,7 @@ module _ {opcodes operands numbers users : List ℕ} {n : Size} {l : Lent} (g : 
       let h = reached in
       record {
         whole = g .whole;
-        cell = record { desk-low = within-low 1 6 (d .0) (h .desk); desk = within-high 1 6 (d .0) (h .desk); channel-low = within-low 1 128 (c .0) ck; channel = within-high 1 128 (c .0) ck };
+        cell = record { processor-low = within-low 1 6 (d .0) (h .processor); processor = within-high 1 6 (d .0) (h .processor); channel-low = within-low 1 128 (c .0) ck; channel = within-high 1 128 (c .0) ck };
         sender = omega (arith, sender-few p (c .0), count-few p);
         receiver = omega (arith, receiver-few p (c .0), count-few p);
         sender-place = h .sender-place;
@@ -100,8 +100,8 @@ module _ {operands users : List ℕ} {l : Lent} {m : Message} (o : Opens operand
   unfolding messageOk
   offer-bounded {c} {q} {h} e =
       let n = o .size .processors in
-      let desk = and-right (madeOk n q) (knownOk n h) (and-right (channelNumberOk c) _ (fine e)) in
-      bounded (o .rig) c (h .processor) (and-left (channelNumberOk c) _ (fine e)) (and-left (processorOk n (h .processor)) _ desk)
+      let processor = and-right (madeOk n q) (knownOk n h) (and-right (channelNumberOk c) _ (fine e)) in
+      bounded (o .rig) c (h .processor) (and-left (channelNumberOk c) _ (fine e)) (and-left (processorOk n (h .processor)) _ processor)
 
   pub advert-bounded : {c : ChannelId} {d from : ProcessorId} → m ≡ Advert c d from → Bounded users (l .board) c d
   unfolding messageOk

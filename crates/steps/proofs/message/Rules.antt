@@ -20,12 +20,12 @@ use Rattle.rules.specs.Cells.{counts, noneCalled}
 use Rattle.rules.specs.Offers.{offerRule, advertRule, pointsOn}
 use Rattle.rules.specs.Calls.{callRule, dataRule}
 use Rattle.channel_rules.specs.offers.Offers.{onOffer, onAdvert}
-use Rattle.channel_rules.specs.messages.Letters.{onCall, onData}
+use Rattle.channel_rules.specs.messages.Messages.{onCall, onData}
 use Rattle.rig_parts.specs.declared.change.Scope.{Scope}
 use Rattle.rig_parts.specs.declared.sweep.Sweep.the-variants.{Nothing}
-use Rattle.rig_parts.specs.Scopes.{letterScope, channelScope}
+use Rattle.rig_parts.specs.Scopes.{messageScope, channelScope}
 use Rattle.rig_parts.specs.RunVerdicts.{change}
-use Rattle.rig_parts.specs.Openings.{letterChange}
+use Rattle.rig_parts.specs.Openings.{messageChange}
 use Rattle.steps.specs.message.Seen.{offerSees, advertSees, callSees, wordSees}
 
 -- what a rule says and posts, with these tasks and this cell left
@@ -84,8 +84,8 @@ module _ (x : Site) (c : ChannelId) where
 
 -- the letter m goes to channel c at desk d, where this rule is asked, which sees so much of the site and leaves the rest
 pub record Kind (rule : Site → Message → Outcome) (sees : Site → Site) (leaves : Site → Outcome → Outcome) (m : Message) (c : ChannelId) (d : ProcessorId) : Type 0 where
-  pub at : (senders receivers parents : List ℕ) → letterScope senders receivers parents m ≡ channelScope senders receivers c d
-  pub does : (k : Scope) (x : Site) → letterChange k m x ≡ change k (rule x m) Nothing
+  pub at : (senders receivers parents : List ℕ) → messageScope senders receivers parents m ≡ channelScope senders receivers c d
+  pub does : (k : Scope) (x : Site) → messageChange k m x ≡ change k (rule x m) Nothing
   pub rest : (x : Site) → rule x m ≡ leaves x (rule (sees x) m)
 
 module _ (c : ChannelId) where

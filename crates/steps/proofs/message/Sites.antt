@@ -13,7 +13,7 @@ use Rattle.rules.specs.declared.rule.Outcome.{Outcome}
 use Rattle.rules.specs.Systems.{cellIn, cellStored, taskIn, taskStored}
 use Rattle.rig_parts.specs.declared.sweep.Sweep.the-variants.{Nothing}
 use Rattle.rig_parts.specs.Fetches.{isOnIn, cellOf, cellPut, siteIn}
-use Rattle.rig_parts.specs.Scopes.{letterScope}
+use Rattle.rig_parts.specs.Scopes.{messageScope}
 use Rattle.rig_parts.specs.RunVerdicts.{change}
 use Rattle.rig_parts.specs.Openings.{openedIn}
 use Rattle.plan_index.specs.user_table.Users.{sendersOf, receiversOf, parentsOf}
@@ -39,15 +39,15 @@ module _ {rule : Site → Message → Outcome} {sees : Site → Site} {leaves : 
     (k : Kind rule sees leaves x c d) (e : m ≡ x) (operands users : List ℕ) (l : Lent) where
   -- the letter's site
   abbrev here : Site
-  here = siteIn operands (tasksOf l) (storeOf l) (letterScope (sendersOf users) (receiversOf users) (parentsOf users) x)
+  here = siteIn operands (tasksOf l) (storeOf l) (messageScope (sendersOf users) (receiversOf users) (parentsOf users) x)
 
   -- what opening it does, by what the rule leaves of what it sees
   opens : {o : Outcome} → Found rule sees operands users x l o → (count : ℕ) (opcodes numbers : List ℕ)
       → openedIn (factsIn count opcodes operands numbers users) (tasksOf l) (storeOf l) x
-      ≡ change (letterScope (sendersOf users) (receiversOf users) (parentsOf users) x) (leaves here o) Nothing
+      ≡ change (messageScope (sendersOf users) (receiversOf users) (parentsOf users) x) (leaves here o) Nothing
   unfolding openedIn
   opens f count opcodes numbers =
-      let scope = letterScope (sendersOf users) (receiversOf users) (parentsOf users) x in
+      let scope = messageScope (sendersOf users) (receiversOf users) (parentsOf users) x in
       k .does scope here ∙ ap (λ (z : Outcome). change scope z Nothing) (k .rest here ∙ ap (leaves here) (sym f))
 
   -- it is decided

@@ -17,7 +17,7 @@ use Rattle.rules.specs.Arrivals.{terminatedRule}
 use Rattle.rules.specs.Sound.{messageOk}
 use Rattle.rules.specs.Systems.{taskIn, taskStored}
 use Rattle.rules_laws.proofs.TaskAt.{taskStored-own}
-use Rattle.channel_rules.specs.messages.Letters.{onMigration}
+use Rattle.channel_rules.specs.messages.Messages.{onMigration}
 use Rattle.rig_parts.specs.declared.sweep.Sweep.{Sweep}
 use Rattle.rig_parts.specs.declared.sweep.Sweep.the-variants.{Nothing, Arrival}
 use Rattle.rig_parts.specs.declared.change.Change.{Change}
@@ -27,7 +27,7 @@ use Rattle.rig_parts.specs.Fetches.{cellPut, siteIn}
 use Rattle.rig_parts.specs.Scopes.{alone, namedIn}
 use Rattle.rig_parts.specs.RunVerdicts.{change, tasksOnly}
 use Rattle.rig_parts.specs.Openings.{openedIn}
-use Rattle.rig_parts.proofs.BoundsLetter.{letter-reached, openable}
+use Rattle.rig_parts.proofs.BoundsMessage.{message-reached, openable}
 use Rattle.plan_index.specs.user_table.Users.{sendersOf, receiversOf, parentsOf}
 use Rattle.board.specs.declared.act.Act.{Act}
 use Rattle.board.specs.Lent.{Lent, lent, Whole, tasksOn, channelsOn, tasksOf, storeOf}
@@ -40,13 +40,13 @@ module _ {operands users : List ℕ} {l : Lent} {m : Message} (g : Opens operand
   ended-within e =
       let ok : messageOk (g .size .processors) (g .size .tasks) (Terminated d t) ≡ true = rw e at (g .ok) in
       let child = openable (g .rig .parts) (Terminated d t) ok .child in
-      (within-low 1 64 (t .0) child, within-high 1 64 (t .0) child, letter-reached (g .rig .parts) (Terminated d t) ok .sender)
+      (within-low 1 64 (t .0) child, within-high 1 64 (t .0) child, message-reached (g .rig .parts) (Terminated d t) ok .sender)
 
   pub mover-within : m ≡ Migration d t → (t .0 ≤ 64) × (1 ≤ d .0) × (d .0 ≤ 6)
   mover-within e =
       let ok : messageOk (g .size .processors) (g .size .tasks) (Migration d t) ≡ true = rw e at (g .ok) in
-      let reached = letter-reached (g .rig .parts) (Migration d t) ok in
-      (reached .sender, within-low 1 6 (d .0) (reached .desk), within-high 1 6 (d .0) (reached .desk))
+      let reached = message-reached (g .rig .parts) (Migration d t) ok in
+      (reached .sender, within-low 1 6 (d .0) (reached .processor), within-high 1 6 (d .0) (reached .processor))
 
 -- task u, at desk d, becomes y, and its channels are swept over
 alone-acted : (senders receivers : List ℕ) (before after : Lent) {k : Change} {r : Act} (u : TaskId) (d : ProcessorId) (x : Site) (y : Task) (w : Sweep)

@@ -58,15 +58,15 @@ returns-3 c =
     same-acted (a-move (given s) (s .args .n .processors) (tasksOf (here s)) (storeOf (here s)) (s .args .n .used) (s .args .s) (k .if3 .taken))
     (c .move-task .ensures (s .args .heldprocessors .now) (s .args .heldnumbers .now) (s .args .notes .now))
 
-no-letter-requires : tie.Need-no-letter-requires
-no-letter-requires c κs = search needs
+no-message-requires : tie.Need-no-message-requires
+no-message-requires c κs = search needs
 
 returns-4 : tie.Need-returns-4
 returns-4 c =
     let k = c .before .before .before in
     let s = k .before .before in
     refused-acted (given s .senders) (given s .receivers) (here s) (s .pre .whole) (verdict s) (kindRefusal (s .args .s))
-    (no-run-no-move _ _ _ _ _ _ (k .if1 .left) (c .before .if3 .left)) (c .no-letter .ensures)
+    (no-run-no-move _ _ _ _ _ _ (k .if1 .left) (c .before .if3 .left)) (c .no-message .ensures)
 
 pub other-spec : {M : Type 1} → statement M
 other-spec =
@@ -78,5 +78,5 @@ other-spec =
     returns-2
     move-task-requires
     returns-3
-    no-letter-requires
+    no-message-requires
     returns-4)

@@ -28,13 +28,13 @@ move-decided-requires c κs = count-few (c .before .before .before .before .pre 
 returns-3 : tie.Need-returns-3
 returns-3 c = c .move-decided .ensures ∙ sym (ap actOf (a-move _ _ _ _ _ _ (c .before .if3 .taken)))
 
-no-letter-requires : tie.Need-no-letter-requires
-no-letter-requires c κs = search needs
+no-message-requires : tie.Need-no-message-requires
+no-message-requires c κs = search needs
 
 returns-4 : tie.Need-returns-4
 returns-4 c =
     let e = c .before in
-    c .no-letter .ensures ∙ sym (ap actOf (no-run-no-move _ _ _ _ _ _ (e .before .before .if1 .left) (e .if3 .left)))
+    c .no-message .ensures ∙ sym (ap actOf (no-run-no-move _ _ _ _ _ _ (e .before .before .if1 .left) (e .if3 .left)))
 
 pub step-decided-spec : {M : Type 1} → statement M
 step-decided-spec =
@@ -46,5 +46,5 @@ step-decided-spec =
     returns-2
     move-decided-requires
     returns-3
-    no-letter-requires
+    no-message-requires
     returns-4)

@@ -36,8 +36,8 @@ pub record CanCreate (t : TaskId) (x : Task) (u : TaskId) : Type 0 where
   pub child-low : 1 ≤ u .0
   pub child : u .0 ≤ 64
   pub place : x .pc < 255
-  pub desk-low : 1 ≤ x .processor .0
-  pub desk : x .processor .0 ≤ 6
+  pub processor-low : 1 ≤ x .processor .0
+  pub processor : x .processor .0 ≤ 6
 
 -- a finish: its parent, and the task
 abbrev pub finishChange : List ℕ → List Task → TaskId → Task → Change

@@ -42,5 +42,5 @@ pub record Receivable (senders : List ℕ) (ts : List Task) (k : Channels) (t : 
 
 -- what it supposes
 pub record CanReceive (senders : List ℕ) (used : ℕ) (ts : List Task) (k : Channels) (t : TaskId) (c : ChannelId) : Type 0 where
-  pub letters : used ≤ 256
+  pub messages : used ≤ 256
   pub receivable : Receivable senders ts k t c

@@ -41,5 +41,5 @@ pub record Sendable (receivers : List ℕ) (ts : List Task) (t : TaskId) (c : Ch
 
 -- what it supposes
 pub record CanSend (receivers : List ℕ) (used : ℕ) (ts : List Task) (t : TaskId) (c : ChannelId) : Type 0 where
-  pub letters : used ≤ 256
+  pub messages : used ≤ 256
   pub sendable : Sendable receivers ts t c

@@ -15,7 +15,7 @@ use Rattle.rules.specs.Tasks.{noTask}
 use Rattle.rules.specs.Cells.{unknown, noOffer, withHint, withHeld, withNoted}
 use Rattle.rules.specs.Systems.{taskIn}
 use Rattle.rig_parts.specs.Fetches.{isOnIn, siteIn, noCell}
-use Rattle.rig_parts.specs.Scopes.{namedIn, letterScope}
+use Rattle.rig_parts.specs.Scopes.{namedIn, messageScope}
 use Rattle.plan_index.specs.user_table.Users.{sendersOf, receiversOf, parentsOf}
 use Rattle.board.specs.Lent.{Lent, tasksOn, tasksOf, storeOf}
 
@@ -53,4 +53,4 @@ wordSees x = receiverSite (x .receiver) (x .receiving) (record { entry = noCell 
 -- what the rule of the letter m leaves of what it sees
 abbrev pub Found : (Site → Message → Outcome) → (Site → Site) → (operands users : List ℕ) → Message → Lent → Outcome → Type 0
 Found rule sees operands users m l o =
-    o ≡ rule (sees (siteIn operands (tasksOf l) (storeOf l) (letterScope (sendersOf users) (receiversOf users) (parentsOf users) m))) m
+    o ≡ rule (sees (siteIn operands (tasksOf l) (storeOf l) (messageScope (sendersOf users) (receiversOf users) (parentsOf users) m))) m

@@ -4,7 +4,7 @@ ghost use Prim.Native.Nat.{ℕ};
 ghost use Rattle.channel_rules.specs.offers.Offers.{onAdvert};
 ghost use Rattle.board.specs.Lent.{lent};
 ghost use Rattle.board.specs.Rigs.{Opened, Opening};
-ghost use Rattle.steps.specs.message.ChannelLetters.{AdvertOpens};
+ghost use Rattle.steps.specs.message.ChannelMessages.{AdvertOpens};
 ghost use Rattle.steps.specs.message.Seen.{advertSees, Found};
 use crate::message::site;
 use board::act::Act;

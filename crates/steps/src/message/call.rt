@@ -1,10 +1,10 @@
 // A call sees and changes the sender and the pointer.
 ghost use mathlib.Core.List.{List};
 ghost use Prim.Native.Nat.{ℕ};
-ghost use Rattle.channel_rules.specs.messages.Letters.{onCall};
+ghost use Rattle.channel_rules.specs.messages.Messages.{onCall};
 ghost use Rattle.board.specs.Lent.{lent};
 ghost use Rattle.board.specs.Rigs.{Opened, Opening};
-ghost use Rattle.steps.specs.message.ChannelLetters.{CallOpens};
+ghost use Rattle.steps.specs.message.ChannelMessages.{CallOpens};
 ghost use Rattle.steps.specs.message.Seen.{callSees, Found};
 use crate::message::site;
 use board::act::Act;

@@ -3,7 +3,7 @@ ghost use mathlib.Core.List.{List};
 ghost use Prim.Native.Nat.{ℕ};
 ghost use Rattle.board.specs.Lent.{lent};
 ghost use Rattle.board.specs.Rigs.{Opened};
-ghost use Rattle.steps.specs.message.TaskLetters.{EndedOpens};
+ghost use Rattle.steps.specs.message.TaskMessages.{EndedOpens};
 use board::act::Act;
 use board::act::posted;
 use board::put_task;

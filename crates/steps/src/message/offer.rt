@@ -4,7 +4,7 @@ ghost use Prim.Native.Nat.{ℕ};
 ghost use Rattle.channel_rules.specs.offers.Offers.{onOffer};
 ghost use Rattle.board.specs.Lent.{lent};
 ghost use Rattle.board.specs.Rigs.{Opened, Opening};
-ghost use Rattle.steps.specs.message.ChannelLetters.{OfferOpens};
+ghost use Rattle.steps.specs.message.ChannelMessages.{OfferOpens};
 ghost use Rattle.steps.specs.message.Seen.{offerSees, Found};
 use crate::message::site;
 use board::act::Act;

@@ -1,10 +1,10 @@
 // A word letter sees and changes the receiver and the channel.
 ghost use mathlib.Core.List.{List};
 ghost use Prim.Native.Nat.{ℕ};
-ghost use Rattle.channel_rules.specs.messages.Letters.{onData};
+ghost use Rattle.channel_rules.specs.messages.Messages.{onData};
 ghost use Rattle.board.specs.Lent.{lent};
 ghost use Rattle.board.specs.Rigs.{Opened, Opening};
-ghost use Rattle.steps.specs.message.ChannelLetters.{WordOpens};
+ghost use Rattle.steps.specs.message.ChannelMessages.{WordOpens};
 ghost use Rattle.steps.specs.message.Seen.{wordSees, Found};
 use crate::message::site;
 use board::act::Act;

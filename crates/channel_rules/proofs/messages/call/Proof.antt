@@ -1,7 +1,7 @@
 -- A call is opened, and its rule followed; another letter changes nothing.
 use mathlib.Core.Path.{refl, _∙_}
 use Rattle.channel_rules.proofs.outcomes.Others.{other}
-use Rattle.channel_rules.specs.messages.Letters.{onCall}
+use Rattle.channel_rules.specs.messages.Messages.{onCall}
 use Rattle.channel_rules.specs.outcomes.Outcomes.{untouched}
 use borrow.Author.Needs.{needs}
 use Rattle.channel_rules.proofs.messages.call.Statement.{statement}

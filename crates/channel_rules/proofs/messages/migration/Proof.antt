@@ -1,7 +1,7 @@
 -- A mover letter is opened: a moving task arrives, another stays as it was.
 use mathlib.Core.Path.{sym, _∙_}
 use Rattle.channel_rules.proofs.outcomes.Others.{other}
-use Rattle.channel_rules.specs.messages.Letters.{onMigration}
+use Rattle.channel_rules.specs.messages.Messages.{onMigration}
 use borrow.Author.Needs.{needs}
 use Rattle.channel_rules.proofs.messages.migration.Statement.{statement}
 use Rattle.channel_rules.proofs.messages.migration.Tie as tie

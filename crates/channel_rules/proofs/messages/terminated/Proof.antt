@@ -1,7 +1,7 @@
 -- An ended letter is opened, and its rule followed; another letter changes nothing.
 use mathlib.Core.Path.{refl, _∙_}
 use Rattle.channel_rules.proofs.outcomes.Others.{other}
-use Rattle.channel_rules.specs.messages.Letters.{onTerminated}
+use Rattle.channel_rules.specs.messages.Messages.{onTerminated}
 use borrow.Author.Needs.{needs}
 use Rattle.channel_rules.proofs.messages.terminated.Statement.{statement}
 use Rattle.channel_rules.proofs.messages.terminated.Tie as tie

@@ -10,7 +10,7 @@ use Rattle.rules.specs.Answers.{isAccepted}
 use Rattle.rules.specs.Numbers.{taskId}
 use Rattle.rig_parts.specs.RunVerdicts.{runRefusal}
 use Rattle.board.specs.Lent.{tasksOn}
-use Rattle.rig.proofs.rest.Quiet.{stuckAfter, quiet-mail, quiet-all, quiet-fails, stuck-more}
+use Rattle.rig.proofs.rest.Quiet.{stuckAfter, quiet-network, quiet-all, quiet-fails, stuck-more}
 use Rattle.rig.proofs.rest.at_rest.Statement.{statement}
 use Rattle.rig.proofs.rest.at_rest.Tie as tie
 
@@ -28,7 +28,7 @@ asked : (c : tie.After-is-accepted Inv-loop μ-loop)
 asked c = sym (c .is-accepted .ensures ∙ ap isAccepted (c .before .run-refusal .ensures))
 
 returns : tie.Need-returns Inv-loop μ-loop
-returns c = sym (quiet-mail _ _ _ _ _ (c .if1 .taken))
+returns c = sym (quiet-network _ _ _ _ _ (c .if1 .taken))
 
 loop-holds : tie.Need-loop-holds Inv-loop μ-loop
 loop-holds c = (search needs, below-none _)

@@ -24,8 +24,8 @@ start-tasks-requires c κs = search needs
 no-channels-requires : tie.Need-no-channels-requires
 no-channels-requires c κs = search needs
 
-no-letters-requires : tie.Need-no-letters-requires
-no-letters-requires c κs = search needs
+no-messages-requires : tie.Need-no-messages-requires
+no-messages-requires c κs = search needs
 
 returns : tie.Need-returns
 returns c =
@@ -35,7 +35,7 @@ returns c =
     let built = tables .before in
     let s = built .before .before .before .before .before .before .before .before in
     let q = located .locate .ensures none none none zeros (unborn-none .whole) in
-    rw (c .no-letters .ensures, c .before .no-channels .ensures, tasks .start-tasks .ensures, tables .no-tables .ensures)
+    rw (c .no-messages .ensures, c .before .no-channels .ensures, tasks .start-tasks .ensures, tables .no-tables .ensures)
     (started-located (s .args .processors) (s .args .p) (located .locate .last .1 .0) (located .locate .last .1 .1 .0)
     (rw (tables .no-tables .ensures, built .build .ensures .receivers-of, s .pre .0) at q))
 
@@ -48,5 +48,5 @@ start-spec =
     locate-requires
     start-tasks-requires
     no-channels-requires
-    no-letters-requires
+    no-messages-requires
     returns)

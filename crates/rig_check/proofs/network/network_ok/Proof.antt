@@ -8,7 +8,7 @@ use borrow.Author.Needs.{needs}
 use borrow.Author.Tests.{not-true, not-false}
 use Rattle.base.specs.Range.{below}
 use Rattle.base.proofs.Tests.{below-none, below-more}
-use Rattle.rig_check.proofs.network.Mail.{slotOk, mail-over, mail-stops, mail-ends}
+use Rattle.rig_check.proofs.network.Network.{slotOk, network-over, network-stops, network-ends}
 use Rattle.rig_check.proofs.network.network_ok.Statement.{statement}
 use Rattle.rig_check.proofs.network.network_ok.Tie as tie
 
@@ -19,7 +19,7 @@ abbrev μ-loop : tie.MeasureT-loop
 μ-loop n m x used i₀ i = used - i
 
 returns : tie.Need-returns Inv-loop μ-loop
-returns c = let a = c .before .args in mail-over (a .n) (a .m) (a .t3) (c .if1 .taken)
+returns c = let a = c .before .args in network-over (a .n) (a .m) (a .t3) (c .if1 .taken)
 
 loop-holds : tie.Need-loop-holds Inv-loop μ-loop
 loop-holds c = (omega arith, below-none _)
@@ -39,7 +39,7 @@ returns-2 c =
     let s = l .before .before in
     let a = s .args in
     let h : length (a .t3 .slots) ≡ 256 = simp length-map at (s .good .1 .1 .0 .1 .1 .0 .1 .0 .1) in
-    mail-stops (a .n) (a .m) (a .t3) (l .before .if1 .left) h (l .loop .i) (c .before .before .before .loop-test .taken)
+    network-stops (a .n) (a .m) (a .t3) (l .before .if1 .left) h (l .loop .i) (c .before .before .before .loop-test .taken)
     (sym (c .before .message-ok .ensures) ∙ not-true (c .before .message-ok .result) (c .if2 .taken))
 
 add-i : tie.Need-add-i Inv-loop μ-loop
@@ -62,7 +62,7 @@ returns-3 c =
     let a = s .args in
     let h : length (a .t3 .slots) ≡ 256 = simp length-map at (s .good .1 .1 .0 .1 .1 .0 .1 .0 .1) in
     let e : l .loop .i ≡ a .t3 .used = omega arith in
-    mail-ends (a .n) (a .m) (a .t3) (l .before .if1 .left) h (rw e at (l .loop .inv .1))
+    network-ends (a .n) (a .m) (a .t3) (l .before .if1 .left) h (rw e at (l .loop .inv .1))
 
 pub network-ok-spec : {M : Type 1} → statement M
 network-ok-spec =

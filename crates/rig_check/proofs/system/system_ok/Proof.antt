@@ -8,12 +8,12 @@ use borrow.Author.Needs.{needs}
 use Rattle.rig_check.proofs.system.system_ok.Statement.{statement}
 use Rattle.rig_check.proofs.system.system_ok.Tie as tie
 
-desks-ok-requires : tie.Need-desks-ok-requires
-desks-ok-requires c κs = search needs
+processors-ok-requires : tie.Need-processors-ok-requires
+processors-ok-requires c κs = search needs
 
 returns : tie.Need-returns
 unfolding systemOk
-returns c = rw (← c .before .desks-ok .ensures, not-true (c .before .desks-ok .result) (c .if1 .taken)) refl
+returns c = rw (← c .before .processors-ok .ensures, not-true (c .before .processors-ok .result) (c .if1 .taken)) refl
 
 plan-ok-requires : tie.Need-plan-ok-requires
 plan-ok-requires c κs = search needs
@@ -23,8 +23,8 @@ unfolding systemOk
 returns-2 c =
     let d = c .before .before .before in
     rw (
-      ← d .before .desks-ok .ensures,
-      not-false (d .before .desks-ok .result) (d .if1 .left),
+      ← d .before .processors-ok .ensures,
+      not-false (d .before .processors-ok .result) (d .if1 .left),
       ← c .before .plan-ok .ensures,
       not-true (c .before .plan-ok .result) (c .if2 .taken),
     )
@@ -41,8 +41,8 @@ returns-3 c =
     let e = c .before .before in
     let d = e .before .before .before in
     rw (
-      ← d .before .desks-ok .ensures,
-      not-false (d .before .desks-ok .result) (d .if1 .left),
+      ← d .before .processors-ok .ensures,
+      not-false (d .before .processors-ok .result) (d .if1 .left),
       ← e .before .plan-ok .ensures,
       not-false (e .before .plan-ok .result) (e .if2 .left),
       ← c .before .tasks-ok .ensures,
@@ -72,8 +72,8 @@ returns-4 c =
     let e = f .before .before in
     let d = e .before .before .before in
     rw (
-      ← d .before .desks-ok .ensures,
-      not-false (d .before .desks-ok .result) (d .if1 .left),
+      ← d .before .processors-ok .ensures,
+      not-false (d .before .processors-ok .result) (d .if1 .left),
       ← e .before .plan-ok .ensures,
       not-false (e .before .plan-ok .result) (e .if2 .left),
       ← f .before .tasks-ok .ensures,
@@ -85,7 +85,7 @@ pub system-ok-spec : {M : Type 1} → statement M
 system-ok-spec =
     tie.close
     (tie.spec
-    desks-ok-requires
+    processors-ok-requires
     returns
     plan-ok-requires
     returns-2

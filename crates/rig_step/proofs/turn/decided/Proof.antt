@@ -2,15 +2,15 @@
 use mathlib.Core.Path.{_≡_, sym, ap, _∙_}
 use Prim.Native.Nat.{ℕ, _-_, _≤_}
 use native.Mathlib.Omega.{arith}
-use Rattle.rules.specs.Networks.{letterAt}
+use Rattle.rules.specs.Networks.{messageAt}
 use Rattle.rig_parts.proofs.BoundsParts.{used-few}
-use Rattle.rig_parts.proofs.Bounds.{letter-ok}
+use Rattle.rig_parts.proofs.Bounds.{message-ok}
 use Rattle.network.specs.Positions.{positionOf}
 use Rattle.board.specs.Lent.{lent, tasksOf, storeOf}
 use Rattle.board.specs.Acted.{actOf}
 use Rattle.board.specs.Verdicts.{stepVerdict}
 use Rattle.board.specs.Rigs.{factsIn}
-use Rattle.rig_step.proofs.Reports.{other-says, letter-says, rig-on}
+use Rattle.rig_step.proofs.Reports.{other-says, message-says, rig-on}
 use borrow.Author.Needs.{needs}
 use Rattle.rig_step.proofs.turn.decided.Statement.{statement}
 use Rattle.rig_step.proofs.turn.decided.Tie as tie
@@ -26,10 +26,10 @@ abbrev start : tie.After-position → tie.Start
 start c = c .before
 
 at : (c : tie.After-position) → c .position .result ≡ positionOf (start c .args .t12 .used) (start c .args .s)
-at c = c .position .ensures .0 ∙ ap (λ (u : ℕ). positionOf u (start c .args .s)) (start c .pre .letters)
+at c = c .position .ensures .0 ∙ ap (λ (u : ℕ). positionOf u (start c .args .s)) (start c .pre .messages)
 
 few : (c : tie.After-position) → (c .position .result ≤ start c .args .t12 .used) × (c .position .result ≤ 256)
-few c = omega (arith, c .position .ensures .1, start c .pre .letters, used-few (start c .pre .rig .parts))
+few c = omega (arith, c .position .ensures .1, start c .pre .messages, used-few (start c .pre .rig .parts))
 
 mul-slot : tie.Need-mul-slot
 mul-slot c = omega (arith, few (c .before))
@@ -37,8 +37,8 @@ mul-slot c = omega (arith, few (c .before))
 element-copy-out-slot : tie.Need-element-copy-out-slot
 element-copy-out-slot c = omega (arith, few (c .before), c .if1 .taken)
 
-letter-decided-requires : tie.Need-letter-decided-requires
-letter-decided-requires c κs =
+message-decided-requires : tie.Need-message-decided-requires
+message-decided-requires c κs =
     let t = c .before in
     let a = start (t .before) .args in
     let g = start (t .before) .pre in
@@ -47,20 +47,20 @@ letter-decided-requires c κs =
       numbers = a .numbers .now;
       size = a .n;
       rig = rig-on g;
-      ok = unfold letterAt in letter-ok (g .rig) (t .before .position .result) (omega (arith, t .if1 .taken)) (few (t .before) .0);
+      ok = unfold messageAt in message-ok (g .rig) (t .before .position .result) (omega (arith, t .if1 .taken)) (few (t .before) .0);
     }
 
 returns : tie.Need-returns
-unfolding letterAt
+unfolding messageAt
 returns c =
     let t = c .before .before in
     let a = start (t .before) .args in
     let l = lent (a .hintprocessors .now) (a .hintmoves .now) (a .heldprocessors .now) (a .heldnumbers .now) (a .notes .now) (a .board .now) in
-    letter-says (factsIn (a .n .tasks) (a .opcodes .now) (a .operands .now) (a .numbers .now) (a .users .now)) (a .n .processors) (tasksOf l) (a .t12) (storeOf l) (a .s)
+    message-says (factsIn (a .n .tasks) (a .opcodes .now) (a .operands .now) (a .numbers .now) (a .users .now)) (a .n .processors) (tasksOf l) (a .t12) (storeOf l) (a .s)
     (t .before .position .result)
     (at (t .before))
     (t .if1 .taken)
-    (c .letter-decided .ensures (a .n .tasks) (a .opcodes .now) (a .numbers .now))
+    (c .message-decided .ensures (a .n .tasks) (a .opcodes .now) (a .numbers .now))
 
 step-decided-requires : tie.Need-step-decided-requires
 step-decided-requires c κs = rig-on (start (c .before) .pre)
@@ -73,7 +73,7 @@ returns-2 c =
     let f = factsIn (a .n .tasks) (a .opcodes .now) (a .operands .now) (a .numbers .now) (a .users .now) in
     other-says f (a .n .processors) (tasksOf l) (a .t12) (storeOf l) (a .s)
     (sym (at (t .before)) ∙ t .if1 .left)
-    (c .step-decided .ensures ∙ ap (λ (u : ℕ). actOf (stepVerdict f (a .n .processors) (tasksOf l) (storeOf l) u (a .s))) (start (t .before) .pre .letters))
+    (c .step-decided .ensures ∙ ap (λ (u : ℕ). actOf (stepVerdict f (a .n .processors) (tasksOf l) (storeOf l) u (a .s))) (start (t .before) .pre .messages))
 
 pub decided-spec : {M : Type 1} → statement M
 decided-spec =
@@ -83,7 +83,7 @@ decided-spec =
     sub-slot
     mul-slot
     element-copy-out-slot
-    letter-decided-requires
+    message-decided-requires
     returns
     step-decided-requires
     returns-2)

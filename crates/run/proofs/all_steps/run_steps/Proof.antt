@@ -1,6 +1,6 @@
 -- `run_steps`: after k steps the parts are those that k turns leave, and their lines are written.
 mod Stages
-mod Mails
+mod Networks
 use mathlib.Core.Path.{_≡_, refl, sym, ap, _∙_, subst}
 use mathlib.Core.List.{List}
 use mathlib.Core.Logic.{⊎-elim}
@@ -13,15 +13,15 @@ use lib.Seq.{paste-zero}
 use Rattle.rules.specs.declared.message.Network.{Network}
 use Rattle.rules.specs.declared.message.Slot.{Slot}
 use Rattle.rules.specs.declared.rule.Posting.the-variants.{Nothing}
-use Rattle.rules.specs.Networks.{slot, noSlot, letterAt, dequeued, enqueued}
+use Rattle.rules.specs.Networks.{slot, noSlot, messageAt, dequeued, enqueued}
 use Rattle.rules.specs.StepFiles.{fileSteps}
 use Rattle.rig_parts.specs.declared.change.Verdict.the-variants.{Accepted}
 use Rattle.rig_parts.specs.Openings.{openedIn}
 use Rattle.rig_parts.proofs.BoundsParts.{processors-few}
 use Rattle.rig_parts.specs.Turns.{turned, turnOf}
-use Rattle.rig_parts.proofs.Bounds.{letter-ok}
+use Rattle.rig_parts.proofs.Bounds.{message-ok}
 use Rattle.network.proofs.Shift.{shift-more}
-use Rattle.network.specs.Mailing.{letterOf}
+use Rattle.network.specs.Rounds.{messageOf}
 use Rattle.network.specs.Positions.{positionOf}
 use Rattle.network.proofs.Gaps.{holding}
 use Rattle.network.proofs.Posted.{after, after-none, after-skipped, after-posted, few-rounds, posted-none}
@@ -30,11 +30,11 @@ use Rattle.board.specs.Acted.{plainAct}
 use Rattle.board.specs.Verdicts.{stepVerdict}
 use Rattle.board.specs.Rigs.{RigOn}
 use Rattle.run.proofs.all_steps.Going.{going-start, going-length, going-done, going-more}
-use Rattle.run.proofs.all_steps.Acting.{reportOf, acted-turn, other-turn, letter-turn}
+use Rattle.run.proofs.all_steps.Acting.{reportOf, acted-turn, other-turn, message-turn}
 use Rattle.run.proofs.all_steps.run_steps.Statement.{statement}
 use Rattle.run.proofs.all_steps.run_steps.Tie as tie
-use Rattle.run.proofs.all_steps.run_steps.Proof.Stages.{Inv-loop2, μ-loop2, Inv-loop3, μ-loop3, Inv-loop, μ-loop, opened, tried, chosen, entered, begun, given, here, size-at, parts, rig-on, few, line-asks, with-board, letter-there}
-use Rattle.run.proofs.all_steps.run_steps.Proof.Mails.{joins, other-left, word-kept, other-acted, free-one, free, mail-is, mail-then}
+use Rattle.run.proofs.all_steps.run_steps.Proof.Stages.{Inv-loop2, μ-loop2, Inv-loop3, μ-loop3, Inv-loop, μ-loop, opened, tried, chosen, entered, begun, given, here, size-at, parts, rig-on, few, line-asks, with-board, message-there}
+use Rattle.run.proofs.all_steps.run_steps.Proof.Networks.{joins, other-left, word-kept, other-acted, free-one, free, network-is, network-then}
 
 loop-holds : tie.Need-loop-holds Inv-loop2 μ-loop2 Inv-loop3 μ-loop3 Inv-loop μ-loop
 loop-holds c =
@@ -54,10 +54,10 @@ sub-place : tie.Need-sub-place Inv-loop2 μ-loop2 Inv-loop3 μ-loop3 Inv-loop μ
 sub-place c = search needs
 
 mul-slot : tie.Need-mul-slot Inv-loop2 μ-loop2 Inv-loop3 μ-loop3 Inv-loop μ-loop
-mul-slot c = omega (arith, letter-there c)
+mul-slot c = omega (arith, message-there c)
 
 element-copy-out-slot : tie.Need-element-copy-out-slot Inv-loop2 μ-loop2 Inv-loop3 μ-loop3 Inv-loop μ-loop
-element-copy-out-slot c = omega (arith, letter-there c)
+element-copy-out-slot c = omega (arith, message-there c)
 
 deliver-requires : tie.Need-deliver-requires Inv-loop2 μ-loop2 Inv-loop3 μ-loop3 Inv-loop μ-loop
 deliver-requires c κs =
@@ -73,57 +73,57 @@ deliver-requires c κs =
       numbers = a .numbers .now;
       size = size-at at-loop;
       rig = rig-on in-loop;
-      ok = unfold letterAt in letter-ok (at-loop .loop .inv .2 .rig) (p .result) (letter-there then1 .0) (p .ensures .1);
+      ok = unfold messageAt in message-ok (at-loop .loop .inv .2 .rig) (p .result) (message-there then1 .0) (p .ensures .1);
     }
 
 sub-last : tie.Need-sub-last Inv-loop2 μ-loop2 Inv-loop3 μ-loop3 Inv-loop μ-loop
-sub-last c = omega (arith, letter-there (opened c))
+sub-last c = omega (arith, message-there (opened c))
 
 loop2-holds : tie.Need-loop2-holds Inv-loop2 μ-loop2 Inv-loop3 μ-loop3 Inv-loop μ-loop
 loop2-holds c =
     let then1 = opened c in
     let after-position = then1 .before in
     let at-loop = entered after-position .before in
-    (omega (arith, letter-there then1), ap (holding (at-loop .loop .mail .used)) (paste-zero (at-loop .loop .mail .slots) (after-position .position .result - 1) (drop (after-position .position .result - 1 + 1) (at-loop .loop .mail .slots))))
+    (omega (arith, message-there then1), ap (holding (at-loop .loop .network .used)) (paste-zero (at-loop .loop .network .slots) (after-position .position .result - 1) (drop (after-position .position .result - 1 + 1) (at-loop .loop .network .slots))))
 
 add-loop2 : tie.Need-add-loop2 Inv-loop2 μ-loop2 Inv-loop3 μ-loop3 Inv-loop μ-loop
-add-loop2 c = omega (arith, letter-there (opened (c .before)), c .loop2 .inv .0)
+add-loop2 c = omega (arith, message-there (opened (c .before)), c .loop2 .inv .0)
 
 add-moved : tie.Need-add-moved Inv-loop2 μ-loop2 Inv-loop3 μ-loop3 Inv-loop μ-loop
-add-moved c = omega (arith, c .loop2-test .taken, letter-there (opened (c .before .before)))
+add-moved c = omega (arith, c .loop2-test .taken, message-there (opened (c .before .before)))
 
 add-moved-2 : tie.Need-add-moved-2 Inv-loop2 μ-loop2 Inv-loop3 μ-loop3 Inv-loop μ-loop
-add-moved-2 c = omega (arith, c .loop2-test .taken, letter-there (opened (c .before .before)))
+add-moved-2 c = omega (arith, c .loop2-test .taken, message-there (opened (c .before .before)))
 
 mul-moved : tie.Need-mul-moved Inv-loop2 μ-loop2 Inv-loop3 μ-loop3 Inv-loop μ-loop
-mul-moved c = omega (arith, c .loop2-test .taken, letter-there (opened (c .before .before)))
+mul-moved c = omega (arith, c .loop2-test .taken, message-there (opened (c .before .before)))
 
 element-copy-out-moved : tie.Need-element-copy-out-moved Inv-loop2 μ-loop2 Inv-loop3 μ-loop3 Inv-loop μ-loop
-element-copy-out-moved c = omega (arith, c .loop2-test .taken, letter-there (opened (c .before .before)))
+element-copy-out-moved c = omega (arith, c .loop2-test .taken, message-there (opened (c .before .before)))
 
 add-moved-3 : tie.Need-add-moved-3 Inv-loop2 μ-loop2 Inv-loop3 μ-loop3 Inv-loop μ-loop
 add-moved-3 c =
     let in-loop2 = c .before in
     let then1 = opened (in-loop2 .before .before) in
-    omega (arith, in-loop2 .loop2-test .taken, letter-there then1)
+    omega (arith, in-loop2 .loop2-test .taken, message-there then1)
 
 mul-moved-2 : tie.Need-mul-moved-2 Inv-loop2 μ-loop2 Inv-loop3 μ-loop3 Inv-loop μ-loop
 mul-moved-2 c =
     let in-loop2 = c .before in
     let then1 = opened (in-loop2 .before .before) in
-    omega (arith, in-loop2 .loop2-test .taken, letter-there then1)
+    omega (arith, in-loop2 .loop2-test .taken, message-there then1)
 
 element-set-from-moved : tie.Need-element-set-from-moved Inv-loop2 μ-loop2 Inv-loop3 μ-loop3 Inv-loop μ-loop
 element-set-from-moved c =
     let in-loop2 = c .before in
     let then1 = opened (in-loop2 .before .before) in
-    omega (arith, in-loop2 .loop2-test .taken, letter-there then1)
+    omega (arith, in-loop2 .loop2-test .taken, message-there then1)
 
 add-j : tie.Need-add-j Inv-loop2 μ-loop2 Inv-loop3 μ-loop3 Inv-loop μ-loop
 add-j c =
     let in-loop2 = c .before in
     let then1 = opened (in-loop2 .before .before) in
-    omega (arith, in-loop2 .loop2-test .taken, letter-there then1)
+    omega (arith, in-loop2 .loop2-test .taken, message-there then1)
 
 loop2-less : tie.Need-loop2-less Inv-loop2 μ-loop2 Inv-loop3 μ-loop3 Inv-loop μ-loop
 loop2-less c = search needs
@@ -135,20 +135,20 @@ loop2-again c =
     let then1 = opened (at-loop2 .before) in
     let after-position = then1 .before in
     let at-loop = entered after-position .before in
-    let k = at-loop .loop .mail in
+    let k = at-loop .loop .network in
     let at = after-position .position .result - 1 in
     let j = at-loop2 .loop2 .j in
-    let more = shift-more (k .slots) at noSlot j (omega (arith, in-loop2 .loop2-test .taken, letter-there then1)) in
+    let more = shift-more (k .slots) at noSlot j (omega (arith, in-loop2 .loop2-test .taken, message-there then1)) in
     (omega (arith, in-loop2 .loop2-test .taken), ap (λ (z : Network). holding (z .used) (set (z .slots) (at + j) (getD (z .slots) (at + j + 1) noSlot))) (at-loop2 .loop2 .inv .1) ∙ ap (holding (k .used)) more)
 
-letter-requires : tie.Need-letter-requires Inv-loop2 μ-loop2 Inv-loop3 μ-loop3 Inv-loop μ-loop
-letter-requires c κs = search needs
+message-requires : tie.Need-message-requires Inv-loop2 μ-loop2 Inv-loop3 μ-loop3 Inv-loop μ-loop
+message-requires c κs = search needs
 
 mul-l : tie.Need-mul-l Inv-loop2 μ-loop2 Inv-loop3 μ-loop3 Inv-loop μ-loop
-mul-l c = omega (arith, letter-there (opened (c .before .before .before)))
+mul-l c = omega (arith, message-there (opened (c .before .before .before)))
 
 element-set-from-l : tie.Need-element-set-from-l Inv-loop2 μ-loop2 Inv-loop3 μ-loop3 Inv-loop μ-loop
-element-set-from-l c = omega (arith, letter-there (opened (c .before .before .before)))
+element-set-from-l c = omega (arith, message-there (opened (c .before .before .before)))
 
 rounds-requires : tie.Need-rounds-requires Inv-loop2 μ-loop2 Inv-loop3 μ-loop3 Inv-loop μ-loop
 rounds-requires c κs = search needs
@@ -156,8 +156,8 @@ rounds-requires c κs = search needs
 wide8-requires : tie.Need-wide8-requires Inv-loop2 μ-loop2 Inv-loop3 μ-loop3 Inv-loop μ-loop
 wide8-requires c κs = search needs
 
-add-mail : tie.Need-add-mail Inv-loop2 μ-loop2 Inv-loop3 μ-loop3 Inv-loop μ-loop
-add-mail c =
+add-network : tie.Need-add-network Inv-loop2 μ-loop2 Inv-loop3 μ-loop3 Inv-loop μ-loop
+add-network c =
     let after-rounds = c .before in
     let after-deliver = after-rounds .before .before .before .before in
     let in-loop = entered (opened after-deliver .before) in
@@ -202,8 +202,8 @@ other-requires c κs =
 posts-requires : tie.Need-posts-requires Inv-loop2 μ-loop2 Inv-loop3 μ-loop3 Inv-loop μ-loop
 posts-requires c κs = search needs
 
-letter-requires-2 : tie.Need-letter-requires-2 Inv-loop2 μ-loop2 Inv-loop3 μ-loop3 Inv-loop μ-loop
-letter-requires-2 c κs = search needs
+message-requires-2 : tie.Need-message-requires-2 Inv-loop2 μ-loop2 Inv-loop3 μ-loop3 Inv-loop μ-loop
+message-requires-2 c κs = search needs
 
 mul-l-2 : tie.Need-mul-l-2 Inv-loop2 μ-loop2 Inv-loop3 μ-loop3 Inv-loop μ-loop
 mul-l-2 c = omega (arith, free-one (c .before))
@@ -211,8 +211,8 @@ mul-l-2 c = omega (arith, free-one (c .before))
 element-set-from-l-2 : tie.Need-element-set-from-l-2 Inv-loop2 μ-loop2 Inv-loop3 μ-loop3 Inv-loop μ-loop
 element-set-from-l-2 c = free-one (c .before)
 
-add-mail-2 : tie.Need-add-mail-2 Inv-loop2 μ-loop2 Inv-loop3 μ-loop3 Inv-loop μ-loop
-add-mail-2 c = omega (arith, free-one (c .before))
+add-network-2 : tie.Need-add-network-2 Inv-loop2 μ-loop2 Inv-loop3 μ-loop3 Inv-loop μ-loop
+add-network-2 c = omega (arith, free-one (c .before))
 
 rounds-requires-2 : tie.Need-rounds-requires-2 Inv-loop2 μ-loop2 Inv-loop3 μ-loop3 Inv-loop μ-loop
 rounds-requires-2 c κs = search needs
@@ -221,13 +221,13 @@ loop3-holds : tie.Need-loop3-holds Inv-loop2 μ-loop2 Inv-loop3 μ-loop3 Inv-loo
 loop3-holds c =
     let after-other = c .before .before .before in
     let at-loop = entered (chosen (tried after-other)) .before in
-    (omega arith, sym (after-none (after-other .other .result .posting) (at-loop .loop .mail)))
+    (omega arith, sym (after-none (after-other .other .result .posting) (at-loop .loop .network)))
 
 skips-requires : tie.Need-skips-requires Inv-loop2 μ-loop2 Inv-loop3 μ-loop3 Inv-loop μ-loop
 skips-requires c κs = search needs
 
-letter-requires-3 : tie.Need-letter-requires-3 Inv-loop2 μ-loop2 Inv-loop3 μ-loop3 Inv-loop μ-loop
-letter-requires-3 c κs = search needs
+message-requires-3 : tie.Need-message-requires-3 Inv-loop2 μ-loop2 Inv-loop3 μ-loop3 Inv-loop μ-loop
+message-requires-3 c κs = search needs
 
 mul-l-3 : tie.Need-mul-l-3 Inv-loop2 μ-loop2 Inv-loop3 μ-loop3 Inv-loop μ-loop
 mul-l-3 c = omega (arith, free (c .before))
@@ -235,8 +235,8 @@ mul-l-3 c = omega (arith, free (c .before))
 element-set-from-l-3 : tie.Need-element-set-from-l-3 Inv-loop2 μ-loop2 Inv-loop3 μ-loop3 Inv-loop μ-loop
 element-set-from-l-3 c = free (c .before)
 
-add-mail-3 : tie.Need-add-mail-3 Inv-loop2 μ-loop2 Inv-loop3 μ-loop3 Inv-loop μ-loop
-add-mail-3 c = omega (arith, free (c .before))
+add-network-3 : tie.Need-add-network-3 Inv-loop2 μ-loop2 Inv-loop3 μ-loop3 Inv-loop μ-loop
+add-network-3 c = omega (arith, free (c .before))
 
 add-e : tie.Need-add-e Inv-loop2 μ-loop2 Inv-loop3 μ-loop3 Inv-loop μ-loop
 add-e c =
@@ -259,16 +259,16 @@ loop3-again c =
     let at-loop = entered (chosen (tried after-other)) .before in
     let x = after-other .other .result .posting in
     let e = at-loop3 .loop3 .e in
-    let start = at-loop .loop .mail in
-    let now = at-loop3 .loop3 .mail in
+    let start = at-loop .loop .network in
+    let now = at-loop3 .loop3 .network in
     let so-far = at-loop3 .loop3 .inv .1 in
-    let next : c .if4 .mail ≡ after x start (e + 1) =
+    let next : c .if4 .network ≡ after x start (e + 1) =
     ⊎-elim
     (λ w.
     w .2
     ∙ ap (λ (l : Slot). holding (now .used + 1) (set (now .slots) (now .used) l)) (ap slot (w .1 .ensures))
-    ∙ joins now (letterOf x e)
-    ∙ ap (λ (k : Network). enqueued k (letterOf x e)) so-far
+    ∙ joins now (messageOf x e)
+    ∙ ap (λ (k : Network). enqueued k (messageOf x e)) so-far
     ∙ sym (after-posted x start e (sym (after-skips .skips .ensures) ∙ not-true (after-skips .skips .result) (w .0 .taken))))
     (λ w. w .1 ∙ so-far ∙ sym (after-skipped x start e (sym (after-skips .skips .ensures) ∙ not-false (after-skips .skips .result) (w .0 .left))))
     (c .if4 .came) in
@@ -281,7 +281,7 @@ loop-less : tie.Need-loop-less Inv-loop2 μ-loop2 Inv-loop3 μ-loop3 Inv-loop μ
 loop-less c = search needs
 
 loop-again : tie.Need-loop-again Inv-loop2 μ-loop2 Inv-loop3 μ-loop3 Inv-loop μ-loop
-unfolding letterAt
+unfolding messageAt
 loop-again c =
     let after-emit-next = c .before .before in
     let after-wide8 = after-emit-next .before .before .before in
@@ -302,10 +302,10 @@ loop-again c =
     let d = after-deliver .deliver .ensures (f .tasks) (f .opcodes) (f .numbers) in
     let last = after-deliver .deliver .last .1 .1 in
     let then = lent (last .0) (last .1 .0) (last .1 .1 .0) (last .1 .1 .1 .0) (last .1 .1 .1 .1 .0) (last .1 .1 .1 .1 .1 .0) in
-    let turn = ap (λ (k : Network). turned (reportOf r) (tasksOf then) k (storeOf then)) (mail-is after-wide8)
-    ∙ acted-turn (f .senders) (f .receivers) n (dequeued (b .mail) p) here then r (Accepted (openedIn f (tasksOf here) (storeOf here) (getD (b .mail .slots) (p - 1) noSlot .message))) d
-    ∙ letter-turn f n (tasksOf here) (b .mail) (storeOf here) x p (after-position .position .ensures .0) (then1 .if1 .taken)
-    ∙ ap (turnOf f n (tasksOf here) (b .mail) (storeOf here)) (after-step-at .step-at .ensures) in
+    let turn = ap (λ (k : Network). turned (reportOf r) (tasksOf then) k (storeOf then)) (network-is after-wide8)
+    ∙ acted-turn (f .senders) (f .receivers) n (dequeued (b .network) p) here then r (Accepted (openedIn f (tasksOf here) (storeOf here) (getD (b .network .slots) (p - 1) noSlot .message))) d
+    ∙ message-turn f n (tasksOf here) (b .network) (storeOf here) x p (after-position .position .ensures .0) (then1 .if1 .taken)
+    ∙ ap (turnOf f n (tasksOf here) (b .network) (storeOf here)) (after-step-at .step-at .ensures) in
     (omega (arith, in-loop .loop-test .taken), d .whole, going-more _ _ _ _ _ _ (b .inv .2) turn (after-emit-next .emit-next .ensures))
 
 loop-less-2 : tie.Need-loop-less-2 Inv-loop2 μ-loop2 Inv-loop3 μ-loop3 Inv-loop μ-loop
@@ -329,11 +329,11 @@ loop-again-2 c =
     let x = after-step-at .step-at .result in
     let d = after-word-run .word-run .ensures .1 (then2 .if2 .taken) (f .numbers) (start .args .users .now) (b .hintprocessors) (b .hintmoves) (b .heldprocessors) (b .heldnumbers) (b .notes) in
     let then = with-board at-loop (after-word-run .word-run .last .1 .1 .0) in
-    let none : positionOf (b .mail .used) x ≡ 0 = sym (after-position .position .ensures .0) ∙ else1 .if1 .left in
-    let turn = ap (λ (k : Network). turned (reportOf plainAct) (tasksOf then) k (storeOf then)) (sym (posted-none n (b .mail) Nothing tt refl))
-    ∙ acted-turn (f .senders) (f .receivers) n (b .mail) here then plainAct (stepVerdict f n (tasksOf here) (storeOf here) (b .mail .used) x) d
-    ∙ other-turn f n (tasksOf here) (b .mail) (storeOf here) x none
-    ∙ ap (turnOf f n (tasksOf here) (b .mail) (storeOf here)) (after-step-at .step-at .ensures) in
+    let none : positionOf (b .network .used) x ≡ 0 = sym (after-position .position .ensures .0) ∙ else1 .if1 .left in
+    let turn = ap (λ (k : Network). turned (reportOf plainAct) (tasksOf then) k (storeOf then)) (sym (posted-none n (b .network) Nothing tt refl))
+    ∙ acted-turn (f .senders) (f .receivers) n (b .network) here then plainAct (stepVerdict f n (tasksOf here) (storeOf here) (b .network .used) x) d
+    ∙ other-turn f n (tasksOf here) (b .network) (storeOf here) x none
+    ∙ ap (turnOf f n (tasksOf here) (b .network) (storeOf here)) (after-step-at .step-at .ensures) in
     (omega (arith, in-loop .loop-test .taken), d .whole, going-more _ _ _ _ _ _ (b .inv .2) turn (after-emit-next2 .emit-next2 .ensures))
 
 loop-less-3 : tie.Need-loop-less-3 Inv-loop2 μ-loop2 Inv-loop3 μ-loop3 Inv-loop μ-loop
@@ -358,11 +358,11 @@ loop-again-3 c =
     let x = after-step-at .step-at .result in
     let d = other-acted after-other in
     let then = other-left after-other in
-    let none : positionOf (b .mail .used) x ≡ 0 = sym (after-position .position .ensures .0) ∙ else1 .if1 .left in
-    let turn = ap (λ (k : Network). turned (reportOf r) (tasksOf then) k (storeOf then)) (mail-then joined3)
-    ∙ acted-turn (f .senders) (f .receivers) n (b .mail) here then r (stepVerdict f n (tasksOf here) (storeOf here) (b .mail .used) x) d
-    ∙ other-turn f n (tasksOf here) (b .mail) (storeOf here) x none
-    ∙ ap (turnOf f n (tasksOf here) (b .mail) (storeOf here)) (after-step-at .step-at .ensures) in
+    let none : positionOf (b .network .used) x ≡ 0 = sym (after-position .position .ensures .0) ∙ else1 .if1 .left in
+    let turn = ap (λ (k : Network). turned (reportOf r) (tasksOf then) k (storeOf then)) (network-then joined3)
+    ∙ acted-turn (f .senders) (f .receivers) n (b .network) here then r (stepVerdict f n (tasksOf here) (storeOf here) (b .network .used) x) d
+    ∙ other-turn f n (tasksOf here) (b .network) (storeOf here) x none
+    ∙ ap (turnOf f n (tasksOf here) (b .network) (storeOf here)) (after-step-at .step-at .ensures) in
     (omega (arith, in-loop .loop-test .taken), d .whole, going-more _ _ _ _ _ _ (b .inv .2) turn (after-emit-next3 .emit-next3 .ensures))
 
 same-length : tie.Need-same-length Inv-loop2 μ-loop2 Inv-loop3 μ-loop3 Inv-loop μ-loop
@@ -408,28 +408,28 @@ run-steps-spec =
     add-j
     loop2-less
     loop2-again
-    letter-requires
+    message-requires
     mul-l
     element-set-from-l
     rounds-requires
     wide8-requires
-    add-mail
+    add-network
     emit-next-requires
     word-run-requires
     emit-next-requires-2
     other-requires
     posts-requires
-    letter-requires-2
+    message-requires-2
     mul-l-2
     element-set-from-l-2
-    add-mail-2
+    add-network-2
     rounds-requires-2
     loop3-holds
     skips-requires
-    letter-requires-3
+    message-requires-3
     mul-l-3
     element-set-from-l-3
-    add-mail-3
+    add-network-3
     add-e
     loop3-less
     loop3-again

@@ -27,7 +27,7 @@ advert-requires : tie.Need-advert-requires
 advert-requires c κs =
     let told = c .before .before in
     let x = told .enum-told3 .given in
-    (record { channel = x .0 .0; desk = x .0 .1 .0; from = x .0 .1 .1 .0; is = x .1 }, by-notes (told .before .before .pre))
+    (record { channel = x .0 .0; processor = x .0 .1 .0; from = x .0 .1 .1 .0; is = x .1 }, by-notes (told .before .before .pre))
 
 enum-told-4 : tie.Need-enum-told-4
 enum-told-4 c = search needs
@@ -36,7 +36,7 @@ call-requires : tie.Need-call-requires
 call-requires c κs =
     let told = c .before .before .before in
     let x = told .enum-told4 .given in
-    (record { channel = x .0 .0; desk = x .0 .1 .0; pointer = x .0 .1 .1 .0; is = x .1 }, by-hints (told .before .before .pre))
+    (record { channel = x .0 .0; processor = x .0 .1 .0; pointer = x .0 .1 .1 .0; is = x .1 }, by-hints (told .before .before .pre))
 
 enum-told-5 : tie.Need-enum-told-5
 enum-told-5 c = search needs
@@ -45,7 +45,7 @@ word-requires : tie.Need-word-requires
 word-requires c κs =
     let told = c .before in
     let x = told .enum-told5 .given in
-    (record { channel = x .0 .0; desk = x .0 .1 .0; word = x .0 .1 .1 .0; is = x .1 }, by-board (told .before .before .pre))
+    (record { channel = x .0 .0; processor = x .0 .1 .0; word = x .0 .1 .1 .0; is = x .1 }, by-board (told .before .before .pre))
 
 enum-told-6 : tie.Need-enum-told-6
 enum-told-6 c = search needs
@@ -55,7 +55,7 @@ ended-requires c κs =
     let told = c .before in
     let s = told .before .before in
     let x = told .enum-told6 .given in
-    (record { desk = x .0 .0; child = x .0 .1 .0; is = x .1 }, record { list = s .args .operands .now; holds = by-board (s .pre) })
+    (record { processor = x .0 .0; child = x .0 .1 .0; is = x .1 }, record { list = s .args .operands .now; holds = by-board (s .pre) })
 
 enum-told-7 : tie.Need-enum-told-7
 enum-told-7 c = search needs
@@ -65,7 +65,7 @@ mover-requires c κs =
     let told = c .before .before .before .before .before in
     let s = told .before .before in
     let x = told .enum-told7 .given in
-    (record { desk = x .0 .0; task = x .0 .1 .0; is = x .1 }, record { list = s .args .operands .now; holds = but-notes (s .pre) })
+    (record { processor = x .0 .0; task = x .0 .1 .0; is = x .1 }, record { list = s .args .operands .now; holds = but-notes (s .pre) })
 
 returns : tie.Need-returns
 returns c =

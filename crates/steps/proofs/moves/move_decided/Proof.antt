@@ -42,7 +42,7 @@ returns c =
     c .refused .ensures ∙ ap refusedAct (n .before .move-refusal .ensures) ∙ move-refused _ _ _ _ _ _ (asked n ∙ not-true _ (c .before .if1 .taken))
 
 cast-t9 : tie.Need-cast-t9
-cast-t9 c = record { fits = lt-of-le-of-lt (within-high 1 _ _ (move-passed _ _ _ _ _ _ (accepted c) .desk)) (search needs) }
+cast-t9 c = record { fits = lt-of-le-of-lt (within-high 1 _ _ (move-passed _ _ _ _ _ _ (accepted c) .processor)) (search needs) }
 
 posted-requires : tie.Need-posted-requires
 posted-requires c κs = search needs

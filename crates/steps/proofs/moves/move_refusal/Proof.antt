@@ -72,8 +72,8 @@ moves-are c = ap (λ (x : Task). x .moves) (c .before .before .before .before .b
 in-count : (c : tie.Else1) → within 1 (first (c .before) .args .n .tasks) (first (c .before) .args .t .0) ≡ true
 in-count c = sym (numbered (c .before)) ∙ not-false _ (c .if1 .left)
 
-to-desk : (c : tie.Else2) → within 1 (from2 c .args .n .processors) (from2 c .args .to) ≡ true
-to-desk c = sym (placed (c .before)) ∙ not-false _ (c .if2 .left)
+to-processor : (c : tie.Else2) → within 1 (from2 c .args .n .processors) (from2 c .args .to) ≡ true
+to-processor c = sym (placed (c .before)) ∙ not-false _ (c .if2 .left)
 
 ready : (c : tie.Else3) → isIn Ready (found (from3 c)) ≡ true
 ready c = sym (readied (c .before)) ∙ not-false _ (c .if3 .left)
@@ -117,7 +117,7 @@ task-at-requires : tie.Need-task-at-requires
 task-at-requires c κs = omega (arith, from2 c .pre, within-high 1 (from2 c .args .n .tasks) (from2 c .args .t .0) (in-count (second (c .before))))
 
 cast-t11 : tie.Need-cast-t11
-cast-t11 c = record { fits = lt-of-le-of-lt (within-high 1 _ _ (to-desk (c .before))) (search needs) }
+cast-t11 c = record { fits = lt-of-le-of-lt (within-high 1 _ _ (to-processor (c .before))) (search needs) }
 
 is-in-requires : tie.Need-is-in-requires
 is-in-requires c κs = search needs
@@ -126,7 +126,7 @@ returns-3 : tie.Need-returns-3
 unfolding moveRefusal
 returns-3 c =
     let s = fetched (c .before) in
-    rw (in-count (second (s .before)), to-desk s, sym (readied (c .before)) ∙ not-true _ (c .if3 .taken)) refl
+    rw (in-count (second (s .before)), to-processor s, sym (readied (c .before)) ∙ not-true _ (c .if3 .taken)) refl
 
 is-at-requires : tie.Need-is-at-requires
 is-at-requires c κs = search needs
@@ -136,7 +136,7 @@ unfolding moveRefusal
 returns-4 c =
     let r = c .before .before in
     let s = fetched (r .before) in
-    rw (in-count (second (s .before)), to-desk s, ready r, sym (there (c .before)) ∙ c .if4 .taken) refl
+    rw (in-count (second (s .before)), to-processor s, ready r, sym (there (c .before)) ∙ c .if4 .taken) refl
 
 is-childless-requires : tie.Need-is-childless-requires
 is-childless-requires c κs = search needs
@@ -147,7 +147,7 @@ returns-5 c =
     let w = c .before .before in
     let r = w .before .before in
     let s = fetched (r .before) in
-    rw (in-count (second (s .before)), to-desk s, ready r, elsewhere w, sym (freed (c .before)) ∙ not-true _ (c .if5 .taken)) refl
+    rw (in-count (second (s .before)), to-processor s, ready r, elsewhere w, sym (freed (c .before)) ∙ not-true _ (c .if5 .taken)) refl
 
 returns-6 : tie.Need-returns-6
 unfolding moveRefusal
@@ -156,7 +156,7 @@ returns-6 c =
     let w = f .before .before in
     let r = w .before .before in
     let s = fetched (r .before) in
-    rw (in-count (second (s .before)), to-desk s, ready r, elsewhere w, childless f, ap (λ k. eqb k 9999) (sym (moves-are f)) ∙ eq-eqb _ _ (c .if6 .taken)) refl
+    rw (in-count (second (s .before)), to-processor s, ready r, elsewhere w, childless f, ap (λ k. eqb k 9999) (sym (moves-are f)) ∙ eq-eqb _ _ (c .if6 .taken)) refl
 
 returns-7 : tie.Need-returns-7
 unfolding moveRefusal
@@ -166,7 +166,7 @@ returns-7 c =
     let w = f .before .before in
     let r = w .before .before in
     let s = fetched (r .before) in
-    rw (in-count (second (s .before)), to-desk s, ready r, elsewhere w, childless f, unspent u, one-over _ _ _ (c .if7 .taken)) refl
+    rw (in-count (second (s .before)), to-processor s, ready r, elsewhere w, childless f, unspent u, one-over _ _ _ (c .if7 .taken)) refl
 
 returns-8 : tie.Need-returns-8
 unfolding moveRefusal
@@ -176,7 +176,7 @@ returns-8 c =
     let w = f .before .before in
     let r = w .before .before in
     let s = fetched (r .before) in
-    rw (in-count (second (s .before)), to-desk s, ready r, elsewhere w, childless f, unspent u, one-fits _ (from6 u .args .n .used) _ (omega (arith, c .if7 .left))) refl
+    rw (in-count (second (s .before)), to-processor s, ready r, elsewhere w, childless f, unspent u, one-fits _ (from6 u .args .n .used) _ (omega (arith, c .if7 .left))) refl
 
 pub move-refusal-spec : {M : Type 1} → statement M
 move-refusal-spec =

@@ -51,8 +51,8 @@ passed c = move-passed _ _ _ _ _ _ (accepted c)
 few : (c : tie.Else1) → from (c .before) .args .t .0 ≤ 64
 few c = let s = from (c .before) in omega (arith, s .pre .few, within-high 1 (s .args .n .tasks) (s .args .t .0) (passed c .task))
 
-at-desk : (c : tie.Else1) → within 1 6 (found (from (c .before)) .processor .0) ≡ true
-at-desk c = let p = passed c in from (c .before) .pre .desk (p .task) (p .ready)
+at-processor : (c : tie.Else1) → within 1 6 (found (from (c .before)) .processor .0) ≡ true
+at-processor c = let p = passed c in from (c .before) .pre .processor (p .task) (p .ready)
 
 low : (c : tie.Else1) → found (from (c .before)) .moves < 9999
 low c = let p = passed c in omega (arith, from (c .before) .pre .counts (p .task) (p .ready), p .unspent)
@@ -74,15 +74,15 @@ task-at-requires : tie.Need-task-at-requires
 task-at-requires c κs = few (c .before)
 
 cast-t18 : tie.Need-cast-t18
-cast-t18 c = record { fits = lt-of-le-of-lt (within-high 1 _ _ (passed (c .before .before .before) .desk)) (search needs) }
+cast-t18 c = record { fits = lt-of-le-of-lt (within-high 1 _ _ (passed (c .before .before .before) .processor)) (search needs) }
 
 -- the task that was fetched
 module _ (c : tie.After-task-at) where
   fetched-low : c .task-at .result .moves < 9999
   fetched-low = rw (c .task-at .ensures) (low (c .before .before))
 
-  fetched-desk : within 1 6 (c .task-at .result .processor .0) ≡ true
-  fetched-desk = rw (c .task-at .ensures) (at-desk (c .before .before))
+  fetched-processor : within 1 6 (c .task-at .result .processor .0) ≡ true
+  fetched-processor = rw (c .task-at .ensures) (at-processor (c .before .before))
 
 add-t19 : tie.Need-add-t19
 add-t19 c = let h = fetched-low (c .before .before) in omega (arith, h)
@@ -101,7 +101,7 @@ locate-requires : tie.Need-locate-requires
 locate-requires c κs =
     let f = fetch (c .before .before .before) in
     let s = f .before .before in
-    let w = fetched-desk f in
+    let w = fetched-processor f in
     (few s, within-low 1 6 _ w, within-high 1 6 _ w, from (s .before) .pre .indexed)
 
 depart-requires : tie.Need-depart-requires
@@ -109,7 +109,7 @@ depart-requires c κs =
     let p = c .before .before .before .before .before .before in
     let f = fetch (p .before) in
     let s = f .before .before in
-    let w = fetched-desk f in
+    let w = fetched-processor f in
     (few s, within-low 1 6 _ w, within-high 1 6 _ w, from (s .before) .pre .indexed, p .put-task .ensures .0)
 
 returns-2 : tie.Need-returns-2

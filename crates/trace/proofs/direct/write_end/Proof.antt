@@ -26,10 +26,10 @@ start c = c .before .before .before
 returns : tie.Need-returns
 returns c =
     let a = c .before .before .before .args in
-    fits-not (omega (arith, c .before .digits .ensures, end-length (a .quiet) (a .letters))) refl refl
+    fits-not (omega (arith, c .before .digits .ensures, end-length (a .quiet) (a .messages))) refl refl
 
 -- the line fits
-room : (c : tie.Else1) → let a = start c .args in length (decimal (a .letters)) + 7 ≤ length (a .rest .now)
+room : (c : tie.Else1) → let a = start c .args in length (decimal (a .messages)) + 7 ≤ length (a .rest .now)
 room c = omega (arith, c .before .digits .ensures)
 
 -- where the word and the first number end
@@ -50,11 +50,11 @@ abbrev field : tie.After-put-field2 → tie.After-put-field
 field c = c .before .before .before .before
 
 written : (c : tie.After-put-field2) → let a = start (else1 (word (field c .before))) .args in
-    PutTo (a .rest .now) 0 ((endWord ++ (32 ∷ decimal (field c .before .flag .result))) ++ (32 ∷ decimal (a .letters))) (c .put-field2 .result) (c .put-field2 .last .0)
+    PutTo (a .rest .now) 0 ((endWord ++ (32 ∷ decimal (field c .before .flag .result))) ++ (32 ∷ decimal (a .messages))) (c .put-field2 .result) (c .put-field2 .last .0)
 written c = put-to-more (head (field c)) (c .put-field2 .ensures)
 
 ends : (c : tie.After-put-field2) → let a = start (else1 (word (field c .before))) .args in
-    (c .put-field2 .result ≡ length (decimal (a .letters)) + 6) × (c .put-field2 .result < length (a .rest .now))
+    (c .put-field2 .result ≡ length (decimal (a .messages)) + 6) × (c .put-field2 .result < length (a .rest .now))
 ends c =
     let f = field c in
     let e = else1 (word (f .before)) in
@@ -91,7 +91,7 @@ returns-2 c =
     let w = c .before .before in
     let f = field w .before in
     let a = start (else1 (word f)) .args in
-    line-end (written w) _ _ (end-text (a .quiet) (a .letters) (f .flag .ensures .0)) (ends w .1) (omega (arith, ends w .0, end-length (a .quiet) (a .letters)))
+    line-end (written w) _ _ (end-text (a .quiet) (a .messages) (f .flag .ensures .0)) (ends w .1) (omega (arith, ends w .0, end-length (a .quiet) (a .messages)))
 
 pub write-end-spec : {M : Type 1} → statement M
 write-end-spec =

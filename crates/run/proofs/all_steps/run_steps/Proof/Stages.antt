@@ -19,29 +19,29 @@ use Rattle.run.proofs.all_steps.run_steps.Tie as tie
 
 -- j letters behind the delivered one have moved down
 abbrev pub Inv-loop2 : tie.InvT-loop2
-Inv-loop2 opcodes operands numbers users hintprocessors hintmoves heldprocessors heldnumbers notes board size steps out progress n mail₀ k next used p place r last j₀ mail j =
-    (place + j ≤ last) × (mail ≡ holding (mail₀ .used) (shifted (mail₀ .slots) place j))
+Inv-loop2 opcodes operands numbers users hintprocessors hintmoves heldprocessors heldnumbers notes board size steps out progress n network₀ k next used p place r last j₀ network j =
+    (place + j ≤ last) × (network ≡ holding (network₀ .used) (shifted (network₀ .slots) place j))
 
 abbrev pub μ-loop2 : tie.MeasureT-loop2
-μ-loop2 opcodes operands numbers users hintprocessors hintmoves heldprocessors heldnumbers notes board size steps out progress n mail₀ k next used p place r last j₀ mail j =
+μ-loop2 opcodes operands numbers users hintprocessors hintmoves heldprocessors heldnumbers notes board size steps out progress n network₀ k next used p place r last j₀ network j =
     last - j
 
 -- e rounds have posted their letters
 abbrev pub Inv-loop3 : tie.InvT-loop3
-Inv-loop3 opcodes operands numbers users hintprocessors hintmoves heldprocessors heldnumbers notes board size steps out progress n mail₀ k next used p r posting rounds e₀ mail e =
-    (e ≤ rounds) × (mail ≡ after posting mail₀ e)
+Inv-loop3 opcodes operands numbers users hintprocessors hintmoves heldprocessors heldnumbers notes board size steps out progress n network₀ k next used p r posting rounds e₀ network e =
+    (e ≤ rounds) × (network ≡ after posting network₀ e)
 
 abbrev pub μ-loop3 : tie.MeasureT-loop3
-μ-loop3 opcodes operands numbers users hintprocessors hintmoves heldprocessors heldnumbers notes board size steps out progress n mail₀ k next used p r posting rounds e₀ mail e =
+μ-loop3 opcodes operands numbers users hintprocessors hintmoves heldprocessors heldnumbers notes board size steps out progress n network₀ k next used p r posting rounds e₀ network e =
     rounds - e
 
 -- k steps are carried out, and their lines written
 abbrev pub Inv-loop : tie.InvT-loop
-Inv-loop opcodes operands numbers users hintprocessors₀ hintmoves₀ heldprocessors₀ heldnumbers₀ notes₀ board₀ size steps out₀ progress₀ n mail₀ k₀ hintprocessors hintmoves heldprocessors heldnumbers notes board out progress mail k =
-    (k ≤ n) × Whole board × Going (factsIn (size .tasks) opcodes operands numbers users) (size .processors) (tasksOf (lent hintprocessors₀ hintmoves₀ heldprocessors₀ heldnumbers₀ notes₀ board₀)) mail₀ (storeOf (lent hintprocessors₀ hintmoves₀ heldprocessors₀ heldnumbers₀ notes₀ board₀)) (stepAt steps) out₀ k (tasksOf (lent hintprocessors hintmoves heldprocessors heldnumbers notes board)) mail (storeOf (lent hintprocessors hintmoves heldprocessors heldnumbers notes board)) progress out
+Inv-loop opcodes operands numbers users hintprocessors₀ hintmoves₀ heldprocessors₀ heldnumbers₀ notes₀ board₀ size steps out₀ progress₀ n network₀ k₀ hintprocessors hintmoves heldprocessors heldnumbers notes board out progress network k =
+    (k ≤ n) × Whole board × Going (factsIn (size .tasks) opcodes operands numbers users) (size .processors) (tasksOf (lent hintprocessors₀ hintmoves₀ heldprocessors₀ heldnumbers₀ notes₀ board₀)) network₀ (storeOf (lent hintprocessors₀ hintmoves₀ heldprocessors₀ heldnumbers₀ notes₀ board₀)) (stepAt steps) out₀ k (tasksOf (lent hintprocessors hintmoves heldprocessors heldnumbers notes board)) network (storeOf (lent hintprocessors hintmoves heldprocessors heldnumbers notes board)) progress out
 
 abbrev pub μ-loop : tie.MeasureT-loop
-μ-loop opcodes operands numbers users hintprocessors₀ hintmoves₀ heldprocessors₀ heldnumbers₀ notes₀ board₀ size steps out₀ progress₀ n mail₀ k₀ hintprocessors hintmoves heldprocessors heldnumbers notes board out progress mail k =
+μ-loop opcodes operands numbers users hintprocessors₀ hintmoves₀ heldprocessors₀ heldnumbers₀ notes₀ board₀ size steps out₀ progress₀ n network₀ k₀ hintprocessors hintmoves heldprocessors heldnumbers notes board out progress network k =
     n - k
 
 -- the stages of a step: where its letter was found, where a word's run was tried, where its way was chosen, where it began; and where the run did
@@ -71,11 +71,11 @@ here c = let b = c .loop in lent (b .hintprocessors) (b .hintmoves) (b .heldproc
 abbrev pub size-at : tie.At-loop Inv-loop2 μ-loop2 Inv-loop3 μ-loop3 Inv-loop μ-loop → Size
 size-at c =
     let start = begun c in
-    record { tasks = start .args .size .tasks; processors = start .args .size .processors; used = c .loop .mail .used }
+    record { tasks = start .args .size .tasks; processors = start .args .size .processors; used = c .loop .network .used }
 
 -- the parts of a rig
 pub parts : (c : tie.In-loop Inv-loop2 μ-loop2 Inv-loop3 μ-loop3 Inv-loop μ-loop)
-    → PartsOf (given (begun (c .before))) (begun (c .before) .args .size .processors) (tasksOf (here (c .before))) (storeOf (here (c .before))) (c .before .loop .mail .used)
+    → PartsOf (given (begun (c .before))) (begun (c .before) .args .size .processors) (tasksOf (here (c .before))) (storeOf (here (c .before))) (c .before .loop .network .used)
 parts c = c .before .loop .inv .2 .rig .parts
 
 -- with the index of its plan
@@ -87,11 +87,11 @@ rig-on c =
     record { whole = at-loop .loop .inv .1; parts = parts c; indexed = start .pre .indexed }
 
 -- 256 letters at most
-pub few : (c : tie.In-loop Inv-loop2 μ-loop2 Inv-loop3 μ-loop3 Inv-loop μ-loop) → c .before .loop .mail .used ≤ 256
+pub few : (c : tie.In-loop Inv-loop2 μ-loop2 Inv-loop3 μ-loop3 Inv-loop μ-loop) → c .before .loop .network .used ≤ 256
 few c = used-few (parts c)
 
 -- 256 slots
-pub slots-full : (c : tie.In-loop Inv-loop2 μ-loop2 Inv-loop3 μ-loop3 Inv-loop μ-loop) → length (c .before .loop .mail .slots) ≡ 256
+pub slots-full : (c : tie.In-loop Inv-loop2 μ-loop2 Inv-loop3 μ-loop3 Inv-loop μ-loop) → length (c .before .loop .network .slots) ≡ 256
 slots-full c = let g = c .before .loop .inv .2 .rig in ap (λ (k : Network). length (k .slots)) (g .network) ∙ g .parts .shaped .slots
 
 -- a line of a step more
@@ -108,11 +108,11 @@ abbrev pub with-board : tie.At-loop Inv-loop2 μ-loop2 Inv-loop3 μ-loop3 Inv-lo
 with-board c z = let b = c .loop in lent (b .hintprocessors) (b .hintmoves) (b .heldprocessors) (b .heldnumbers) (b .notes) z
 
 -- a letter that is delivered is in the mail, and the mail has 256 slots
-pub letter-there : (c : tie.Then1 Inv-loop2 μ-loop2 Inv-loop3 μ-loop3 Inv-loop μ-loop)
+pub message-there : (c : tie.Then1 Inv-loop2 μ-loop2 Inv-loop3 μ-loop3 Inv-loop μ-loop)
     → let p = c .before .position .result in
-    let k = entered (c .before) .before .loop .mail in
+    let k = entered (c .before) .before .loop .network in
     (1 ≤ p) × (p ≤ k .used) × (k .used ≤ 256) × (length (k .slots) ≡ 256)
-letter-there c =
+message-there c =
     let after-position = c .before in
     let in-loop = entered after-position in
     (omega (arith, c .if1 .taken), after-position .position .ensures .1, few in-loop, slots-full in-loop)

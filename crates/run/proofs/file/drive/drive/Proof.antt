@@ -10,7 +10,7 @@ use Rattle.board.specs.Lent.{Lent, lent, tasksOf, storeOf}
 use Rattle.board.specs.Rigs.{factsIn}
 use Rattle.run.specs.file.Begins.{Begins}
 use Rattle.run.proofs.file.Beginning.{few-users, begun}
-use Rattle.run.proofs.file.Traces.{rig-letters, driven-short, ran-rig, ran-room, driven-end}
+use Rattle.run.proofs.file.Traces.{rig-messages, driven-short, ran-rig, ran-room, driven-end}
 use Rattle.run.proofs.file.drive.drive.Statement.{statement}
 use Rattle.run.proofs.file.drive.drive.Tie as tie
 
@@ -21,11 +21,11 @@ begin c = c .before .before .before .before
 abbrev tabled : tie.After-start-board → tie.After-no-tables
 tabled c = c .before .before .before .before .before .before .before
 
-abbrev boarded : tie.After-no-letters → tie.After-start-board
+abbrev boarded : tie.After-no-messages → tie.After-start-board
 boarded c = c .before .before .before .before .before
 
-abbrev mailed : tie.After-run-steps → tie.After-no-letters
-mailed c = c .before .before .before .before .before .before .before .before .before .before
+abbrev with-no-messages : tie.After-run-steps → tie.After-no-messages
+with-no-messages c = c .before .before .before .before .before .before .before .before .before .before
 
 -- what is derived of the plan, as it is passed, and with who uses what in one table
 abbrev derived : tie.Start → Facts
@@ -43,13 +43,13 @@ begins-on c =
     lent (c .locate .last .1 .0) (c .locate .last .1 .1 .0) (z .heldprocessors) (z .heldnumbers) (z .notes) (after-start-board .start-board .last .0)
 
 -- it is a rig
-abbrev RigAt : tie.After-no-letters → Type 0
+abbrev RigAt : tie.After-no-messages → Type 0
 RigAt c =
     let l = begins-on (c .before) in
-    Rig (given (tabled (boarded c) .before)) (begin (tabled (boarded c) .before) .args .processors) (tasksOf l) (c .no-letters .result) (storeOf l)
+    Rig (given (tabled (boarded c) .before)) (begin (tabled (boarded c) .before) .args .processors) (tasksOf l) (c .no-messages .result) (storeOf l)
 
 -- that of any plan of which this is derived
-abbrev rig : (c : tie.After-no-letters) {p : Plan} → Begins (begin (tabled (boarded c) .before) .args .processors) p (derived (begin (tabled (boarded c) .before))) → RigAt c
+abbrev rig : (c : tie.After-no-messages) {p : Plan} → Begins (begin (tabled (boarded c) .before) .args .processors) p (derived (begin (tabled (boarded c) .before))) → RigAt c
 rig c b =
     let after-locate = c .before in
     let after-start-board = after-locate .before .before .before .before in
@@ -59,11 +59,11 @@ rig c b =
     let a = start .args in
     let z = after-no-tables .no-tables in
     let on = after-start-board .start-board in
-    begun (a .count) (a .opcodes .now) (a .operands .now) (a .numbers .now) (after-build .build .ensures) b (c .no-letters .ensures) (z .ensures) (on .ensures)
+    begun (a .count) (a .opcodes .now) (a .operands .now) (a .numbers .now) (after-build .build .ensures) b (c .no-messages .ensures) (z .ensures) (on .ensures)
     (after-locate .locate .ensures (z .result .heldprocessors) (z .result .heldnumbers) (z .result .notes) (on .last .0) (on .ensures .whole))
 
 -- that of the plan that is known
-abbrev known : (c : tie.After-no-letters) → RigAt c
+abbrev known : (c : tie.After-no-messages) → RigAt c
 known c = rig c (begin (tabled (boarded c) .before) .pre .0 .begins)
 
 build-requires : tie.Need-build-requires
@@ -78,17 +78,17 @@ start-board-requires c κs = search needs
 locate-requires : tie.Need-locate-requires
 locate-requires c κs = search needs
 
-no-letters-requires : tie.Need-no-letters-requires
-no-letters-requires c κs = search needs
+no-messages-requires : tie.Need-no-messages-requires
+no-messages-requires c κs = search needs
 
 run-steps-requires : tie.Need-run-steps-requires
 run-steps-requires c κs =
-    let after-no-letters = c .before .before .before .before .before .before .before .before .before in
-    let after-start-board = boarded after-no-letters in
+    let after-no-messages = c .before .before .before .before .before .before .before .before .before in
+    let after-start-board = boarded after-no-messages in
     let after-build = tabled after-start-board .before in
     let start = begin after-build in
     record {
-      rig = known after-no-letters;
+      rig = known after-no-messages;
       whole = after-start-board .start-board .ensures .whole;
       indexed = after-build .build .ensures .indexed;
       few = start .pre .1;
@@ -107,23 +107,23 @@ same-length c = search needs
 returns : tie.Need-returns
 returns c p b =
     let after-run-steps = c .before .before .before in
-    let after-no-letters = mailed after-run-steps in
-    driven-short (rig after-no-letters b) _ (after-run-steps .run-steps .ensures) (c .if1 .taken)
+    let after-no-messages = with-no-messages after-run-steps in
+    driven-short (rig after-no-messages b) _ (after-run-steps .run-steps .ensures) (c .if1 .taken)
 
 at-rest-requires : tie.Need-at-rest-requires
 at-rest-requires c κs =
     let after-run-steps = c .before .before .before .before in
-    let after-no-letters = mailed after-run-steps in
-    placed (ran-rig (known after-no-letters) _ (after-run-steps .run-steps .ensures) .parts)
+    let after-no-messages = with-no-messages after-run-steps in
+    placed (ran-rig (known after-no-messages) _ (after-run-steps .run-steps .ensures) .parts)
 
 write-end-requires : tie.Need-write-end-requires
 write-end-requires c κs =
     let else1 = c .before .before .before in
     let after-run-steps = else1 .before .before .before in
-    let after-no-letters = mailed after-run-steps in
-    let g = known after-no-letters in
+    let after-no-messages = with-no-messages after-run-steps in
+    let g = known after-no-messages in
     let ran = after-run-steps .run-steps .ensures in
-    (rig-letters (ran-rig g _ ran), ran-room g _ ran (else1 .if1 .left))
+    (rig-messages (ran-rig g _ ran), ran-room g _ ran (else1 .if1 .left))
 
 same-length-2 : tie.Need-same-length-2
 same-length-2 c = search needs
@@ -134,8 +134,8 @@ returns-2 c p b =
     let after-at-rest = after-write-end .before .before in
     let else1 = after-at-rest .before .before in
     let after-run-steps = else1 .before .before .before in
-    let after-no-letters = mailed after-run-steps in
-    let g = rig after-no-letters b in
+    let after-no-messages = with-no-messages after-run-steps in
+    let g = rig after-no-messages b in
     let ran = after-run-steps .run-steps .ensures in
     driven-end g _ ran (else1 .if1 .left) _ (after-at-rest .at-rest .ensures ∙ sym (rest-quiet (ran-rig g _ ran .parts))) (after-write-end .write-end .ensures)
 
@@ -147,7 +147,7 @@ drive-spec =
     no-tables-requires
     start-board-requires
     locate-requires
-    no-letters-requires
+    no-messages-requires
     run-steps-requires
     array-read-filled
     array-read-if1

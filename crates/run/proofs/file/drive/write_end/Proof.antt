@@ -17,7 +17,7 @@ returns : tie.Need-returns
 returns c =
     let m = c .before .before .before in
     let a = m .before .before .before .args in
-    ended-short (m .emit-end .ensures) (omega (arith, end-length (a .rest) (a .letters))) (c .if1 .taken)
+    ended-short (m .emit-end .ensures) (omega (arith, end-length (a .rest) (a .messages))) (c .if1 .taken)
 
 add-t9 : tie.Need-add-t9
 add-t9 c =

@@ -14,13 +14,13 @@ use Rattle.rules.specs.StepFiles.{stepsOk}
 use Rattle.plan_index.specs.ends.Derived.{endsOf}
 use Rattle.rig_parts.specs.Facts.{facts}
 use Rattle.run.specs.file.Begins.{Begins}
-use Rattle.run.proofs.file.Outcomes.{read-answer, read-plan-is, plan-ok, start-is, begins, steps-few, desks-refused, file-refused, steps-refused, traced, traced-short}
+use Rattle.run.proofs.file.Outcomes.{read-answer, read-plan-is, plan-ok, start-is, begins, steps-few, processors-refused, file-refused, steps-refused, traced, traced-short}
 use Rattle.run.proofs.file.run.run_file.Statement.{statement}
 use Rattle.run.proofs.file.run.run_file.Tie as tie
 
 -- what has passed: the desks, the plan file, the step file
-desks : (c : tie.Else1) → within 1 6 (c .before .before .before .before .before .args .desks) ≡ true
-desks c = let i = c .before .is-within in sym (i .ensures) ∙ not-false (i .result) (c .if1 .left)
+processors : (c : tie.Else1) → within 1 6 (c .before .before .before .before .before .args .processors) ≡ true
+processors c = let i = c .before .is-within in sym (i .ensures) ∙ not-false (i .result) (c .if1 .left)
 
 file : (c : tie.After-enum-told) → fileAnswer (c .before .before .before .before .before .before .before .before .args .plan .now) ≡ Accepted
 file c = let k = c .before .before in sym (read-answer (k .before .before .before .before .before .before .args .plan .now) (k .load .ensures .read)) ∙ c .enum-told .given .1
@@ -46,13 +46,13 @@ passed c = c .before .before .before .before
 began : (c : tie.After-send-numbers)
     → let p = passed (c .before) in
     let r = p .before .before .before .before .load .result in
-    Begins (p .before .before .before .before .before .before .before .before .before .before .args .desks) (r .plan)
+    Begins (p .before .before .before .before .before .before .before .before .before .before .args .processors) (r .plan)
     (facts (r .plan .tasks) (r .plan .opcodes) (r .plan .operands) (c .send-numbers .result) (r .senders) (r .receivers) (r .parents))
 unfolding endsOf
 began c =
     let p = passed (c .before) in
     let users = p .before .before .before .before .load .ensures .firsts (p .before .before .enum-told .given .1) in
-    begins _ (desks (p .before .before .before .before .before)) _ (plan-passes p) (c .send-numbers .ensures) (users .senders) (users .receivers) (users .parents)
+    begins _ (processors (p .before .before .before .before .before)) _ (plan-passes p) (c .send-numbers .ensures) (users .senders) (users .receivers) (users .parents)
 
 is-within-requires : tie.Need-is-within-requires
 is-within-requires c κs = search needs
@@ -63,7 +63,7 @@ refused-requires c κs = search needs
 returns : tie.Need-returns
 returns c =
     let i = c .before .before .is-within in
-    rw (c .refused .ensures) (desks-refused _ _ _ _ (sym (i .ensures) ∙ not-true (i .result) (c .before .if1 .taken)))
+    rw (c .refused .ensures) (processors-refused _ _ _ _ (sym (i .ensures) ∙ not-true (i .result) (c .before .if1 .taken)))
 
 load-requires : tie.Need-load-requires
 load-requires c κs = search needs
@@ -87,7 +87,7 @@ returns-2 : tie.Need-returns-2
 returns-2 c =
     let i = c .before .before .steps-ok in
     rw (c .refused3 .ensures)
-    (steps-refused _ _ _ _ (desks (c .before .before .before .before .before .before)) (file (c .before .before .before)) (sym (i .ensures) ∙ not-true (i .result) (c .before .if2 .taken)))
+    (steps-refused _ _ _ _ (processors (c .before .before .before .before .before .before)) (file (c .before .before .before)) (sym (i .ensures) ∙ not-true (i .result) (c .before .if2 .taken)))
 
 send-numbers-requires : tie.Need-send-numbers-requires
 send-numbers-requires c κs = plan-passes (passed c)
@@ -95,7 +95,7 @@ send-numbers-requires c κs = plan-passes (passed c)
 cast-drive : tie.Need-cast-drive
 cast-drive c =
     let e = passed (numbered c .before) .before .before .before .before .before in
-    omega (arith, within-high 1 6 (e .before .before .before .before .before .args .desks) (desks e))
+    omega (arith, within-high 1 6 (e .before .before .before .before .before .args .processors) (processors e))
 
 drive-requires : tie.Need-drive-requires
 drive-requires c κs = let n = numbered (c .before) in (record { plan = _; begins = began n }, steps-few _ (steps (passed (n .before))))
@@ -108,14 +108,14 @@ returns-3 c =
     let d = c .before .before .before in
     let n = numbered (d .before .before) in
     let p = passed (n .before) in
-    traced _ _ _ _ (desks (p .before .before .before .before .before)) (file (p .before .before)) (steps p)
+    traced _ _ _ _ (processors (p .before .before .before .before .before)) (file (p .before .before)) (steps p)
     (start-is _ _ _ (plan-is p)) (d .drive .ensures _ (began n)) (c .if3 .taken)
 
 returns-4 : tie.Need-returns-4
 returns-4 c =
     let k = c .before .before .before .before in
     rw (c .refused2 .ensures)
-    (file-refused _ _ _ _ (desks (k .before)) _ (sym (read-answer (k .before .before .before .before .before .before .args .plan .now) (k .load .ensures .read)) ∙ c .before .before .answer .given .1))
+    (file-refused _ _ _ _ (processors (k .before)) _ (sym (read-answer (k .before .before .before .before .before .before .args .plan .now) (k .load .ensures .read)) ∙ c .before .before .answer .given .1))
 
 same-length-2 : tie.Need-same-length-2
 same-length-2 c = search needs
@@ -125,7 +125,7 @@ returns-5 c =
     let d = c .before .before .before in
     let n = numbered (d .before .before) in
     let p = passed (n .before) in
-    traced-short _ _ _ _ (desks (p .before .before .before .before .before)) (file (p .before .before)) (steps p)
+    traced-short _ _ _ _ (processors (p .before .before .before .before .before)) (file (p .before .before)) (steps p)
     (start-is _ _ _ (plan-is p)) (d .drive .ensures _ (began n)) (c .if3 .left)
 
 pub run-file-spec : {M : Type 1} → statement M

@@ -7,7 +7,7 @@ use borrow.Author.Needs.{needs}
 use borrow.Author.Tests.{not-true, not-false}
 use Rattle.rules.specs.declared.rule.Finished.{Finished}
 use Rattle.rules.specs.Local.{finishRule}
-use Rattle.rules.specs.Networks.{lettersOf}
+use Rattle.rules.specs.Networks.{messagesOf}
 use Rattle.rules.specs.Systems.{taskIn}
 use Rattle.rig_parts.specs.declared.sweep.Sweep.the-variants.{Nothing}
 use Rattle.rig_parts.specs.declared.change.Change.{Change}
@@ -29,7 +29,7 @@ left c = let a = c .args in finishRule (a .t) (a .x) (taskIn (tasksOn (a .board 
 abbrev changed : tie.Start → Change
 changed c = let a = c .args in finishChange (parentsOf (a .users .now)) (tasksOn (a .board .now)) (a .t) (a .x)
 
-fits-is : (c : tie.After-fits2) → c .fits2 .result ≡ leb (c .before .before .before .args .n .used + length (lettersOf (c .before .before .before .args .n .processors) (left (c .before .before .before) .posting))) 256
+fits-is : (c : tie.After-fits2) → c .fits2 .result ≡ leb (c .before .before .before .args .n .used + length (messagesOf (c .before .before .before .args .n .processors) (left (c .before .before .before) .posting))) 256
 fits-is c = rw (c .before .finished .ensures) at (c .fits2 .ensures)
 
 finished-requires : tie.Need-finished-requires

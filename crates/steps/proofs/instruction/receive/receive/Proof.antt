@@ -5,7 +5,7 @@ use Rattle.plan_index.specs.user_table.Users.{sendersOf}
 use Rattle.board.specs.Lent.{lent, tasksOn}
 use Rattle.board.proofs.Acts.{none-fits, all-stored}
 use Rattle.steps.specs.instruction.Receives.{receiveScope}
-use Rattle.steps.proofs.instruction.Receiving.{receive-kept, receive-desk}
+use Rattle.steps.proofs.instruction.Receiving.{receive-kept, receive-processor}
 use Rattle.steps.proofs.instruction.Stored.{both-stored, note-stored}
 use borrow.Author.Needs.{needs}
 use Rattle.steps.proofs.instruction.receive.receive.Statement.{statement}
@@ -25,10 +25,10 @@ abbrev ruled : tie.After-sender2 → tie.After-receive-outcome
 ruled c = fit c .before .before
 
 -- the receiver is where it was
-desk : (c : tie.After-receive-outcome) → let s = start c .args in c .receive-outcome .result .receiver .processor ≡ taskIn (tasksOn (s .board .now)) (s .t) .processor
-desk c =
+processor : (c : tie.After-receive-outcome) → let s = start c .args in c .receive-outcome .result .receiver .processor ≡ taskIn (tasksOn (s .board .now)) (s .t) .processor
+processor c =
     let s = start c .args in
-    receive-desk (s .operands .now) (s .numbers .now) (sendersOf (s .users .now)) (s .notes .now) (s .board .now) (s .t) (s .c) (start c .pre .1 .receivable .at .channel-low) (c .receive-outcome .ensures)
+    receive-processor (s .operands .now) (s .numbers .now) (sendersOf (s .users .now)) (s .notes .now) (s .board .now) (s .t) (s .c) (start c .pre .1 .receivable .at .channel-low) (c .receive-outcome .ensures)
 
 receive-outcome-requires : tie.Need-receive-outcome-requires
 receive-outcome-requires c κs = search needs
@@ -62,7 +62,7 @@ put-task-requires-2 : tie.Need-put-task-requires-2
 put-task-requires-2 c κs = search needs
 
 put-note-requires : tie.Need-put-note-requires
-put-note-requires c κs = let x = ruled (c .before .before .before .before .before) in rw (desk x) (start x .pre .1 .receivable .at)
+put-note-requires c κs = let x = ruled (c .before .before .before .before .before) in rw (processor x) (start x .pre .1 .receivable .at)
 
 put-channel-requires : tie.Need-put-channel-requires
 put-channel-requires c κs =
@@ -87,7 +87,7 @@ returns-2 c =
     let one = first .put-task .ensures in
     let two = second .put-task2 in
     let own = c .before .put-channel in
-    let note = rw (desk x) at (noted .put-note .ensures) in
+    let note = rw (processor x) at (noted .put-note .ensures) in
     λ receivers hp hm op on.
     let before = lent hp hm op on (s .notes .now) (s .board .now) in
     let after = lent hp hm op on (noted .put-note .last .0) (own .last .0) in

@@ -6,7 +6,7 @@ use Rattle.board.specs.Lent.{lent, tasksOn}
 use Rattle.board.proofs.Stores.{held-stored}
 use Rattle.board.proofs.Acts.{none-fits, all-stored}
 use Rattle.steps.specs.instruction.Sends.{sendScope}
-use Rattle.steps.proofs.instruction.Sending.{send-noted, send-hint, send-desk}
+use Rattle.steps.proofs.instruction.Sending.{send-noted, send-hint, send-processor}
 use Rattle.steps.proofs.instruction.Stored.{both-stored}
 use borrow.Author.Needs.{needs}
 use Rattle.steps.proofs.instruction.send.send.Statement.{statement}
@@ -26,10 +26,10 @@ abbrev ruled : tie.After-receiver2 → tie.After-send-outcome
 ruled c = fit c .before .before
 
 -- the sender is where it was
-desk : (c : tie.After-send-outcome) → let s = start c .args in c .send-outcome .result .sender .processor ≡ taskIn (tasksOn (s .board .now)) (s .t) .processor
-desk c =
+processor : (c : tie.After-send-outcome) → let s = start c .args in c .send-outcome .result .sender .processor ≡ taskIn (tasksOn (s .board .now)) (s .t) .processor
+processor c =
     let s = start c .args in
-    send-desk (s .operands .now) (s .numbers .now) (receiversOf (s .users .now)) (s .hintprocessors .now) (s .hintmoves .now) (s .heldprocessors .now) (s .heldnumbers .now) (s .board .now) (s .t) (s .c) (start c .pre .1 .sendable .at .channel-low) (c .send-outcome .ensures)
+    send-processor (s .operands .now) (s .numbers .now) (receiversOf (s .users .now)) (s .hintprocessors .now) (s .hintmoves .now) (s .heldprocessors .now) (s .heldnumbers .now) (s .board .now) (s .t) (s .c) (start c .pre .1 .sendable .at .channel-low) (c .send-outcome .ensures)
 
 send-outcome-requires : tie.Need-send-outcome-requires
 send-outcome-requires c κs = search needs
@@ -63,7 +63,7 @@ put-task-requires-2 : tie.Need-put-task-requires-2
 put-task-requires-2 c κs = let u = c .before .before .before in (rw (u .receiver2 .ensures) (start (ruled u) .pre .1 .sendable .receiver), c .before .put-task .ensures .0)
 
 put-held-requires : tie.Need-put-held-requires
-put-held-requires c κs = let x = ruled (c .before .before .before .before .before .before) in rw (desk x) (start x .pre .1 .sendable .at)
+put-held-requires c κs = let x = ruled (c .before .before .before .before .before .before) in rw (processor x) (start x .pre .1 .sendable .at)
 
 put-channel-requires : tie.Need-put-channel-requires
 put-channel-requires c κs =
@@ -88,7 +88,7 @@ returns-2 c =
     let one = first .put-task .ensures in
     let two = second .put-task2 in
     let own = c .before .put-channel in
-    let offer = rw (desk x) at (held .put-held .ensures) in
+    let offer = rw (processor x) at (held .put-held .ensures) in
     λ senders notes.
     let before = lent (s .hintprocessors .now) (s .hintmoves .now) (s .heldprocessors .now) (s .heldnumbers .now) notes (s .board .now) in
     let after = lent (s .hintprocessors .now) (s .hintmoves .now) (held .put-held .last .0) (held .put-held .last .1 .0) notes (own .last .0) in

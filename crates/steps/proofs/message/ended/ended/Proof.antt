@@ -52,9 +52,9 @@ returns-2 c =
     let ended = put .before .before in
     let seen = ended .before in
     let parent = seen .before .before in
-    let letter = parent .before .before in
-    let s = letter .before .before .args in
-    let x = letter .m .given in
+    let message = parent .before .before in
+    let s = message .before .before .args in
+    let x = message .m .given in
     λ operands hintprocessors hintmoves heldprocessors heldnumbers notes.
     ended-opened operands (s .users .now) hintprocessors hintmoves heldprocessors heldnumbers notes (s .board .now) (c .posted2 .ensures) (x .0 .0) (x .0 .1 .0) (put .put-task .last .0)
     (x .1) (parent .parent .ensures) (seen .task-at .ensures) (ended .terminated .ensures) (put .put-task .ensures)

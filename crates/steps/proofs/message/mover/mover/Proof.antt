@@ -12,8 +12,8 @@ use Rattle.steps.proofs.message.mover.mover.Tie as tie
 numbers : (c : tie.After-m) → let x = c .m .given .0 in (x .1 .0 .0 ≤ 64) × (1 ≤ x .0 .0) × (x .0 .0 ≤ 6)
 numbers c = let x = c .m .given in mover-within (c .before .before .pre .1 .holds .holds) (x .0 .0) (x .0 .1 .0) (x .1)
 
-abbrev letter : tie.After-task-at → tie.After-m
-letter c = c .before .before .before
+abbrev message : tie.After-task-at → tie.After-m
+message c = c .before .before .before
 
 enum-known-m : tie.Need-enum-known-m
 enum-known-m c = search needs
@@ -37,9 +37,9 @@ returns-2 : tie.Need-returns-2
 returns-2 c =
     let told = c .before .before in
     let seen = told .before in
-    let start = letter seen .before .before in
+    let start = message seen .before .before in
     let s = start .args in
-    let x = letter seen .m .given in
+    let x = message seen .m .given in
     λ operands notes.
     stayed-opened operands (s .users .now) (s .hintprocessors .now) (s .hintmoves .now) (s .heldprocessors .now) (s .heldnumbers .now) notes (s .board .now) (c .posted2 .ensures)
     (x .0 .0) (x .0 .1 .0) (x .1) (seen .task-at .ensures) (sym (told .is-in .ensures) ∙ not-true (told .is-in .result) (c .before .if1 .taken)) (start .pre .1 .holds .holds .rig .whole)
@@ -49,13 +49,13 @@ migration-requires c κs = search needs
 
 put-task-requires : tie.Need-put-task-requires
 put-task-requires c κs =
-    let from = letter (c .before .before .before .before) in
+    let from = message (c .before .before .before .before) in
     (numbers from .0, from .before .before .pre .1 .holds .holds .rig .whole)
 
 arrive-requires : tie.Need-arrive-requires
 arrive-requires c κs =
     let put = c .before .before .before .before .before in
-    let from = letter (put .before .before .before .before .before) in
+    let from = message (put .before .before .before .before .before) in
     let n = numbers from in
     (n .0, n .1, n .2, from .before .before .pre .1 .holds .holds .rig .indexed, put .put-task .ensures .0)
 
@@ -68,8 +68,8 @@ returns-3 c =
     let left = put .before .before in
     let told = left .before .before in
     let seen = told .before in
-    let s = letter seen .before .before .args in
-    let x = letter seen .m .given in
+    let s = message seen .before .before .args in
+    let x = message seen .m .given in
     λ operands notes.
     moved-opened operands (s .users .now) (s .hintprocessors .now) (s .hintmoves .now) (s .heldprocessors .now) (s .heldnumbers .now) notes (s .board .now) (c .posted3 .ensures)
     (x .0 .0) (x .0 .1 .0) (put .put-task .last .0) (x .1) (seen .task-at .ensures) (sym (told .is-in .ensures) ∙ not-false (told .is-in .result) (left .before .if1 .left)) (left .migration .ensures)
