@@ -3,7 +3,8 @@ mod calls;
 
 ghost use mathlib.Core.Path.{_≡_};
 ghost use Prim.Native.Nat.{_≤_};
-ghost use Rattle.channel_rules.specs.messages.Messages.{onCall, onData, childOf, onTerminated, onMigration};
+ghost use Rattle.channel_rules.specs.messages.Messages.{onCall, onData, onTerminated, onMigration};
+ghost use Rattle.rules_laws.specs.Children.{childOf};
 use rules::message::Message;
 use rules::rule::Outcome;
 use rules::rule::Site;

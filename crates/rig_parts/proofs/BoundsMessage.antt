@@ -18,7 +18,7 @@ use Rattle.rules.specs.declared.message.Message.the-variants.{Empty, Offered, A
 use Rattle.rules.specs.declared.system.Store.{Store}
 use Rattle.rules.specs.Numbers.{channelNumberOk, processorOk, taskNumberOk}
 use Rattle.rules.specs.Sound.{knownOk, madeOk, messageOk}
-use Rattle.channel_rules.specs.messages.Messages.{childOf}
+use Rattle.rules_laws.specs.Children.{childOf}
 use Rattle.rig_parts.specs.Facts.{Facts, PartsOf}
 use Rattle.rig_parts.specs.Fetches.{siteIn}
 use Rattle.rig_parts.specs.Scopes.{channelScope, messageScope, namesOk}

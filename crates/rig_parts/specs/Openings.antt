@@ -14,7 +14,7 @@ use Rattle.rules.specs.Tasks.{isIn, arrived}
 use Rattle.rules.specs.Offers.{offerRule, advertRule}
 use Rattle.rules.specs.Calls.{callRule, dataRule}
 use Rattle.rules.specs.Arrivals.{terminatedRule}
-use Rattle.channel_rules.specs.messages.Messages.{childOf}
+use Rattle.rules_laws.specs.Children.{childOf}
 use Rattle.rig_parts.specs.declared.sweep.Sweep.the-variants.{Nothing, Arrival}
 use Rattle.rig_parts.specs.declared.change.Scope.{Scope}
 use Rattle.rig_parts.specs.declared.change.Change.{Change}

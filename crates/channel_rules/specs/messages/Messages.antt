@@ -1,5 +1,4 @@
 -- What each letter does, by cases on the letter; one that it isn't about changes nothing.
-use Prim.Native.Nat.{ℕ}
 use Rattle.base.specs.Choice.{pick}
 use Rattle.rules.specs.declared.task.Task.{Task}
 use Rattle.rules.specs.declared.task.TaskState.the-variants.{Moving}
@@ -41,16 +40,6 @@ onTerminated parent (ReadyToReceive c d h) = parent
 onTerminated parent (Data c d w) = parent
 onTerminated parent (Terminated d t) = terminatedRule parent d t
 onTerminated parent (Migration d t) = parent
-
--- the child's number that an ended letter names, 1 of another letter: what a task number's limits are asked of
-abbrev pub childOf : Message → ℕ
-childOf Empty = 1
-childOf (Offered c o h) = 1
-childOf (Advert c d from) = 1
-childOf (ReadyToReceive c d h) = 1
-childOf (Data c d w) = 1
-childOf (Terminated d t) = t .0
-childOf (Migration d t) = 1
 
 -- a mover letter: the record of its task
 abbrev pub onMigration : Task → Message → Task

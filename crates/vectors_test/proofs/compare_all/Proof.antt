@@ -23,35 +23,35 @@ returns c = search needs
 byte-at-requires : tie.Need-byte-at-requires Inv-loop μ-loop
 byte-at-requires c κs = search needs
 
-sub-agrees : tie.Need-sub-agrees Inv-loop μ-loop
-sub-agrees c = search needs
+sub-compare : tie.Need-sub-compare Inv-loop μ-loop
+sub-compare c = search needs
 
-part-agrees-start : tie.Need-part-agrees-start Inv-loop μ-loop
-part-agrees-start c = search needs
+part-compare-start : tie.Need-part-compare-start Inv-loop μ-loop
+part-compare-start c = search needs
 
-part-agrees-end : tie.Need-part-agrees-end Inv-loop μ-loop
-part-agrees-end c = search needs
+part-compare-end : tie.Need-part-compare-end Inv-loop μ-loop
+part-compare-end c = search needs
 
-sub-agrees-2 : tie.Need-sub-agrees-2 Inv-loop μ-loop
-sub-agrees-2 c = search needs
+sub-compare-2 : tie.Need-sub-compare-2 Inv-loop μ-loop
+sub-compare-2 c = search needs
 
-part-agrees-start-2 : tie.Need-part-agrees-start-2 Inv-loop μ-loop
-part-agrees-start-2 c = search needs
+part-compare-start-2 : tie.Need-part-compare-start-2 Inv-loop μ-loop
+part-compare-start-2 c = search needs
 
-part-agrees-end-2 : tie.Need-part-agrees-end-2 Inv-loop μ-loop
-part-agrees-end-2 c = search needs
+part-compare-end-2 : tie.Need-part-compare-end-2 Inv-loop μ-loop
+part-compare-end-2 c = search needs
 
-sub-agrees-3 : tie.Need-sub-agrees-3 Inv-loop μ-loop
-sub-agrees-3 c = search needs
+sub-compare-3 : tie.Need-sub-compare-3 Inv-loop μ-loop
+sub-compare-3 c = search needs
 
-part-agrees-start-3 : tie.Need-part-agrees-start-3 Inv-loop μ-loop
-part-agrees-start-3 c = search needs
+part-compare-start-3 : tie.Need-part-compare-start-3 Inv-loop μ-loop
+part-compare-start-3 c = search needs
 
-part-agrees-end-3 : tie.Need-part-agrees-end-3 Inv-loop μ-loop
-part-agrees-end-3 c = search needs
+part-compare-end-3 : tie.Need-part-compare-end-3 Inv-loop μ-loop
+part-compare-end-3 c = search needs
 
-agrees-requires : tie.Need-agrees-requires Inv-loop μ-loop
-agrees-requires c κs = search needs
+compare-requires : tie.Need-compare-requires Inv-loop μ-loop
+compare-requires c κs = search needs
 
 with-requires : tie.Need-with-requires Inv-loop μ-loop
 with-requires c κs = search needs
@@ -75,16 +75,16 @@ compare-all-spec =
     parts-at-requires
     returns
     byte-at-requires
-    sub-agrees
-    part-agrees-start
-    part-agrees-end
-    sub-agrees-2
-    part-agrees-start-2
-    part-agrees-end-2
-    sub-agrees-3
-    part-agrees-start-3
-    part-agrees-end-3
-    agrees-requires
+    sub-compare
+    part-compare-start
+    part-compare-end
+    sub-compare-2
+    part-compare-start-2
+    part-compare-end-2
+    sub-compare-3
+    part-compare-start-3
+    part-compare-end-3
+    compare-requires
     with-requires
     loop-less
     loop-again

@@ -2,8 +2,8 @@
 use native.Mathlib.Omega.{arith}
 use borrow.Author.Needs.{needs}
 use lib.ListN.{length-take}
-use Rattle.vectors_test.proofs.traced.Statement.{statement}
-use Rattle.vectors_test.proofs.traced.Tie as tie
+use Rattle.vectors_test.proofs.runs.traced.Statement.{statement}
+use Rattle.vectors_test.proofs.runs.traced.Tie as tie
 
 returns : tie.Need-returns
 returns c = search needs

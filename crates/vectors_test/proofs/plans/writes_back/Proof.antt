@@ -2,8 +2,8 @@
 use native.Mathlib.Omega.{arith}
 use borrow.Author.Needs.{needs}
 use lib.ListN.{length-take}
-use Rattle.plan_test.proofs.writes_back.Statement.{statement}
-use Rattle.plan_test.proofs.writes_back.Tie as tie
+use Rattle.vectors_test.proofs.plans.writes_back.Statement.{statement}
+use Rattle.vectors_test.proofs.plans.writes_back.Tie as tie
 
 rewrite-requires : tie.Need-rewrite-requires
 rewrite-requires c κs = search needs
