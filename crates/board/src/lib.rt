@@ -1,9 +1,14 @@
-// What a run lends, five tables and a board: what is read of it and stored; what a step says.
-// What a step finds where it may look.
+// What a run lends, five tables and a board: what is read of it and stored.
+
+// What a step says: its answer, what it received and what it posts.
 pub mod act;
+// What is kept for a channel at a desk, put together of what was read.
 pub mod cell;
+// Instructions and numbers of sends looked up.
 pub mod fetch;
+// A channel's own entry and a task as numbers of 64 bits, and back.
 pub mod packing;
+// A rule for each channel of a task that is born, leaves or arrives.
 pub mod sweeps;
 
 ghost use mathlib.Core.Path.{_≡_};

@@ -1,9 +1,9 @@
--- What demand 3 says of two runs, that its test of letters tells rigs apart, and what is said of moves.
-pub mod Example
-pub mod Bound
-pub mod Suppositions
-pub mod Moves
 -- Each input has its outcome.
 pub mod Edges
 -- Each run has its trace.
 pub mod Scenes
+-- What demand 3 says of two runs, that its test of letters tells rigs apart, and what is said of moves.
+pub mod Demand3
+pub mod Bound
+pub mod Suppositions
+pub mod Moves

@@ -18,7 +18,7 @@ use Rattle.rules.specs.Steps.{isMove, stepAnswer}
 use Rattle.rules.proofs.Evaluated.{evaluated}
 use Rattle.rules_laws.proofs.Shapes.{started-processors}
 use Rattle.claim.specs.Statement.{acceptedOf, from}
-use Rattle.examples.specs.Example.{examplePlan, exampleAll}
+use Rattle.examples.specs.Demand3.{examplePlan, exampleAll}
 use Rattle.claim.proofs.Moves.{no-move-on-one-processor, moves-few}
 
 abbrev firstMove : Step

@@ -9,7 +9,7 @@ use Rattle.rules.specs.Cells.{hint}
 use Rattle.rules.specs.Starts.{started}
 use Rattle.rules.proofs.Evaluated.{evaluated}
 use Rattle.claim.specs.Statement.{findsIts}
-use Rattle.examples.specs.Example.{examplePlan, exampleChannel}
+use Rattle.examples.specs.Demand3.{examplePlan, exampleChannel}
 
 abbrev start : System
 start = started 3 examplePlan

@@ -1,7 +1,7 @@
--- A plan and its steps.
-pub mod Example
--- Inputs and outcomes.
+-- The paper's starred edges of a rig, and whole rigs on both sides of 9: inputs and outcomes.
 pub mod Edges
 pub mod SystemEdges
 -- Runs of the rig with their traces.
 pub mod Scenes
+-- A plan and its steps, for demand 3.
+pub mod Demand3

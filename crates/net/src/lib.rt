@@ -1,2 +1,1 @@
-// Theory only: see specs/ and proofs/.
-// What a plan means with no desks, as definitions and theorems: see specs/ and proofs/.
+// Machines whose labels commute, and a plan with no desks as such a machine: see specs/ and proofs/.

@@ -1,11 +1,17 @@
-// The parts of a plan file: its header and its instructions, each read from a slice at a place.
-// Plan files checked and read. Either way a reader is put at the file's front; the header is read where it
-// stands, and then what follows of it and of the instructions behind it.
+// Plan files checked and read. A reader is put at the file's front; the header is read where it stands, and
+// then the instructions behind it.
+
+// The instructions of a file, at a place.
 pub mod code;
+// A byte and a 16-bit number at a place of a file.
 pub mod fields;
+// The header of a file, at a place.
 pub mod header;
+// The reader: it holds the file's bytes and a place.
 mod reader;
+// 3 to 6 of a file in one pass over its instructions.
 pub mod scan;
+// What the reader does at a place, on slices.
 mod stages;
 
 ghost use mathlib.Core.Path.{_≡_};

@@ -1,0 +1,1 @@
+// The laws of files and plans, as definitions and theorems: see specs/ and proofs/.

@@ -1,8 +1,14 @@
 // Whether a plan is refused, 3 to 6, in one pass over its instructions; of a plan value, 2 to 6.
+
+// 3: the test of one instruction, by the edition of the plan file.
 pub mod instruction;
+// What one instruction more says of a create, or of an end of a channel.
 mod marks;
+// The pass, one instruction after the other, and what it answers.
 pub mod pass;
+// 2 of a plan value.
 mod sizes;
+// The pass over the slots of a plan value.
 pub mod slots;
 
 ghost use mathlib.Core.Path.{_≡_};

@@ -1,6 +1,10 @@
 // Plan files written.
+
+// The header of a plan's file.
 mod header;
+// Bytes put at a place of a lent output; the instructions of a plan.
 pub mod output;
+// Reader and writer called one after the other, with what then holds as their contracts.
 pub mod round_trip;
 
 // A plan value written as a file.

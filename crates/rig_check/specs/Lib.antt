@@ -1,3 +1,4 @@
+-- What the tests of refusal 9 look at.
 pub mod limits
 pub mod system
 pub mod tasks

@@ -1,10 +1,3 @@
--- What a step makes of the parts of a rig is what it makes of the rig.
-pub mod Carrying
-pub mod Turning
-pub mod Whole
-pub mod Rigs
-pub mod Bounds
-pub mod Feasible
 -- What is computed on the parts of a rig is what the rules say of the rig.
 pub mod Sweeping
 pub mod Sweeps
@@ -21,6 +14,7 @@ pub mod Moves
 pub mod Openings
 pub mod Deliveries
 pub mod AtRest
+-- The numbers that a step on the parts meets are within their bounds.
 pub mod BoundsParts
 pub mod BoundsScope
 pub mod BoundsReady
@@ -28,3 +22,10 @@ pub mod BoundsRun
 pub mod BoundsVerdicts
 pub mod BoundsMessage
 pub mod BoundsOpening
+-- What a step makes of the parts of a rig is what it makes of the rig.
+pub mod Carrying
+pub mod Turning
+pub mod Whole
+pub mod Rigs
+pub mod Bounds
+pub mod Feasible

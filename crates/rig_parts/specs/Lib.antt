@@ -1,5 +1,3 @@
--- One step carried out on the parts of a rig, and what the driver keeps of them.
-pub mod Turns
 -- What a step would do, said of the parts of a rig: what its functions compute, one by one.
 pub mod Sweeps
 pub mod Facts
@@ -12,3 +10,5 @@ pub mod Openings
 pub mod Feasible
 pub mod Rests
 pub mod Effects
+-- One step carried out on the parts of a rig.
+pub mod Turns

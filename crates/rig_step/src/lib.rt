@@ -1,5 +1,8 @@
-// One step of any rig.
+// One step of any rig: 9 is tested, the rig is packed, the step is decided and carried out as a run of one step.
+
+// A rig put on a board, and back.
 mod pack;
+// The run of one step.
 mod turn;
 
 ghost use mathlib.Core.Path.{_≡_};

@@ -1,7 +1,14 @@
 // The types of the rig: what the definitions in specs/ speak of and the code computes with.
+
+// What is kept for a channel: pointers, offers, what the channel keeps itself.
 pub mod channel;
+// A letter, and the mail.
 pub mod message;
+// What a rule about one channel sees, leaves and posts.
 pub mod rule;
+// A step, its answer and its report.
 pub mod step;
+// The rig.
 pub mod system;
+// A task's record.
 pub mod task;

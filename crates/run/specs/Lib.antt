@@ -1,2 +1,3 @@
-pub mod file
+-- What a loop over steps leaves, and a run over a step file.
 pub mod all_steps
+pub mod file

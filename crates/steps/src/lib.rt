@@ -1,7 +1,12 @@
-// A step that delivers no letter: a run, a move, or a refusal.
+// A step on what a run lends: decided, or decided and carried out. Any step that delivers no letter is answered here.
+
+// A run: an instruction of each kind; refusals 10 to 13.
 pub mod instruction;
+// A delivery: a letter of each kind.
 pub mod message;
+// A move.
 pub mod moves;
+// A run that changes a word only.
 pub mod word;
 
 ghost use mathlib.Core.Path.{_≡_};

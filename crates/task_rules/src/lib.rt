@@ -1,6 +1,12 @@
-// One task's record: its state and desk, its place and word, its living children.
+// One task's record, and the rules that use no channel.
+
+// A record with its place gone on, a word taken, or its state changed.
 pub mod change;
+// Its living children.
 pub mod children;
+// Create, sync, finish, set and add; what an ended letter does to a parent.
 pub mod instructions;
+// Sets of tasks in the bits of a number.
 mod set;
+// Its state and desk.
 pub mod state;

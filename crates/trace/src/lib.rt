@@ -1,5 +1,6 @@
-// The lines of the trace: those of steps, and the last one.
-// The bound of a trace, and what stays of it when steps are added or refused ones left out, as definitions and theorems: see specs/ and proofs/.
+// The lines of the trace, those of steps and the last one; that a trace has at most 34,010 bytes.
+
+// Lines put into the lent rest of the output.
 pub mod direct;
 
 ghost use mathlib.Core.Path.{_≡_};

@@ -23,7 +23,7 @@ use Rattle.rules_laws.proofs.Shapes.{started-shaped}
 use Rattle.rules_sound.proofs.Kept.{ruled-steps}
 use Rattle.rules_sound.proofs.Starts.{started-ok}
 use Rattle.claim.specs.Statement.{from, Rests, Demand3}
-use Rattle.examples.specs.Example.{examplePlan, exampleBefore, exampleAll, exampleChannel}
+use Rattle.examples.specs.Demand3.{examplePlan, exampleBefore, exampleAll, exampleChannel}
 use Rattle.claim.proofs.Demand3.{demand-3}
 
 accepted : planAnswer (programs examplePlan) ≡ Accepted
