@@ -24,7 +24,7 @@ use Rattle.plan.specs.Users.{firstOf, users}
 use Rattle.plan.specs.Refusals.{sizesOk, instructionOk, instructionsOk, finishOk, finishesOk, createOk, createsOk, channelsOk, structureAnswer}
 use Rattle.plan_laws.proofs.Answers.{sized}
 use Rattle.plan_value.specs.declared.pass.Pass.{Pass}
-use Rattle.plan_value.specs.Editions.{presentEdition}
+use Rattle.plan_value.specs.Editions.{presentEdition, secondOk, allowed}
 use Rattle.plan_value.specs.Marks.{sameTest}
 use Rattle.plan_value.specs.Firsts.{firstUsers, Firsts, hasParent, allCreated}
 use Rattle.plan_value.specs.Pass.{seen, entryOk, finishFits, usesOf, firstsOf, createFine, endsFit, endsFine, Passed, entries, PassOf, passAnswer, zerosIn}
@@ -32,7 +32,7 @@ use Rattle.plan_value.proofs.Changes.{below-both, every-below}
 use Rattle.plan_value.proofs.Marked.{create-whole}
 use Rattle.plan_value.proofs.Uses.{uses-some}
 use Rattle.plan_value.proofs.Entries.{every-entries, uses-entries}
-use Rattle.plan_value.proofs.Present.{allowed-present}
+use Rattle.plan_value.proofs.Present.{second-present, allowed-present}
 
 -- one task more behind the others is in order where none of them is a finish and it is one
 finish-last : (g : Program) (x : Instruction) → finishOk (g ++ (x ∷ [])) ≡ every (λ i. not (isFinish i)) g && isFinish x
@@ -66,6 +66,10 @@ finish-of g h =
     let e : length g - 1 + 1 ≡ length g = omega arith in
     ap finishOk (sym (as-table g noInstruction)) ∙ rw e at (finish-more (length g - 1) (instructionAt g))
 
+both-present : (n : ℕ) (x : Instruction) (z : ℕ) → secondOk presentEdition (x .opcode) z && allowed presentEdition n x ≡ eqb z 0 && instructionOk n x
+both-present n x z =
+    ap (λ (b : Bool). b && allowed presentEdition n x) (second-present (x .opcode) z) ∙ ap (λ (b : Bool). eqb z 0 && b) (allowed-present n x)
+
 module _ (m : Programs) (second : ℕ → ℕ → ℕ) where
   pub instructions-are : every (entryOk presentEdition (length m)) (entries m second) ≡ zerosIn m second && instructionsOk m
   unfolding instructionsOk
@@ -76,7 +80,7 @@ module _ (m : Programs) (second : ℕ → ℕ → ℕ) where
       every-entries m second (entryOk presentEdition n)
       ∙ fold-same _&&_ true n _ (λ k. below (countOf m k) (zero k) && below (countOf m k) (fine k))
       (λ k h.
-      fold-same _&&_ true (countOf m k) _ (λ i. zero k i && fine k i) (λ i q. allowed-present n (instructionAt (programAt m k) i) (second k i))
+      fold-same _&&_ true (countOf m k) _ (λ i. zero k i && fine k i) (λ i q. both-present n (instructionAt (programAt m k) i) (second k i))
       ∙ below-both (countOf m k) (zero k) (fine k))
       ∙ below-both n (λ k. below (countOf m k) (zero k)) (λ k. below (countOf m k) (fine k))
       ∙ ap (λ (b : Bool). zerosIn m second && b)

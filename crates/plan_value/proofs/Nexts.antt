@@ -6,6 +6,7 @@ use mathlib.Core.Logic.{_≢_}
 use Prim.Native.Nat.{ℕ, _≤_, _<_}
 use native.Mathlib.Omega.{arith}
 use lib.ListN.{getD}
+use lib.Dec.{leb}
 use borrow.Author.Tests.{ne-eqb}
 use Rattle.base.proofs.Tests.{and-true, and-right, within-high}
 use Rattle.plan.specs.Kinds.{opCreate, opSend, opReceive}
@@ -14,7 +15,7 @@ use Rattle.plan.specs.Refusals.{instructionOk}
 use Rattle.plan_value.specs.declared.instruction.Edition.{Edition}
 use Rattle.plan_value.specs.declared.pass.Entry.{Entry}
 use Rattle.plan_value.specs.declared.pass.Pass.{Pass}
-use Rattle.plan_value.specs.Editions.{known}
+use Rattle.plan_value.specs.Editions.{secondOk, allowed}
 use Rattle.plan_value.specs.Marks.{createMark, endMark, Entered}
 use Rattle.plan_value.specs.Pass.{Seen, seen, startPass, entryOk, finishFits, nextTable, nextCreate, nextEnd, nextSeen}
 
@@ -27,7 +28,8 @@ argumentOf x = x .instruction .operand
 -- an instruction that is not refused: its argument is an entry of the tables
 module _ (e : Edition) (n : ℕ) (x : Entry) (fine : entryOk e n x ≡ true) where
   pub argument-fine : instructionOk n (x .instruction) ≡ true
-  argument-fine = and-right (known e (kindOf x) (x .second)) (instructionOk n (x .instruction)) fine
+  argument-fine =
+      and-right (leb (kindOf x) (e .kinds)) (instructionOk n (x .instruction)) (and-right (secondOk e (kindOf x) (x .second)) (allowed e n (x .instruction)) fine)
 
   module _ (few : n ≤ 64) where
     pub create-fits : kindOf x ≡ opCreate → argumentOf x < 129

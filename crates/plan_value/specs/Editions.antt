@@ -16,10 +16,10 @@ presentEdition = record { kinds = 7; levels = 0 }
 abbrev pub highestSecond : Edition → ℕ → ℕ
 highestSecond e k = pick (eqb k opSet) (e .levels) (pick (eqb k opAdd) (e .levels) 0)
 
--- "3, kind unknown, second byte not zero": neither, of an instruction of kind k
-abbrev pub known : Edition → ℕ → ℕ → Bool
-known e k second = leb k (e .kinds) && leb second (highestSecond e k)
+-- "3, .. second byte not zero": the second byte of an instruction of kind k
+abbrev pub secondOk : Edition → ℕ → ℕ → Bool
+secondOk e k second = leb second (highestSecond e k)
 
--- "3, .. or argument out of range": nor this, in a plan of n tasks
-abbrev pub allowed : Edition → ℕ → Instruction → ℕ → Bool
-allowed e n x second = known e (x .opcode) second && instructionOk n x
+-- "3, kind unknown .. or argument out of range", in a plan of n tasks
+abbrev pub allowed : Edition → ℕ → Instruction → Bool
+allowed e n x = leb (x .opcode) (e .kinds) && instructionOk n x

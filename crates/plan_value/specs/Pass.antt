@@ -18,7 +18,7 @@ use Rattle.plan.specs.Users.{firstOf, oneTask, share}
 use Rattle.plan_value.specs.declared.instruction.Edition.{Edition}
 use Rattle.plan_value.specs.declared.pass.Entry.{Entry}
 use Rattle.plan_value.specs.declared.pass.Pass.{Pass}
-use Rattle.plan_value.specs.Editions.{allowed}
+use Rattle.plan_value.specs.Editions.{secondOk, allowed}
 use Rattle.plan_value.specs.Marks.{keptOf, createMark, endMark, sameTest}
 use Rattle.plan_value.specs.Firsts.{allCreated}
 
@@ -36,7 +36,7 @@ abbrev pub startPass : ℕ → Bool → Pass
 startPass n b = record { tasks = n; instructions = b; finishes = b; creates = b; channels = b }
 
 abbrev pub entryOk : Edition → ℕ → Entry → Bool
-entryOk e n x = allowed e n (x .instruction) (x .second)
+entryOk e n x = secondOk e (x .instruction .opcode) (x .second) && allowed e n (x .instruction)
 
 -- it is a finish exactly where it is the last
 abbrev pub finishFits : Entry → Bool

@@ -1,13 +1,11 @@
-// 3: the test of one instruction, by the edition of the plan file that it stands in: kind and second byte, and
-// then the argument.
+// 3: the test of one instruction, by the edition of the plan file that it stands in: its second byte, and its
+// kind and argument.
 ghost use mathlib.Core.Path.{_≡_};
 ghost use Rattle.plan.specs.Refusals.{instructionOk};
-ghost use Rattle.plan_value.specs.Editions.{presentEdition, highestSecond, known};
+ghost use Rattle.plan_value.specs.Editions.{presentEdition, highestSecond, secondOk, allowed};
 use plan::ADD;
 use plan::CREATE;
-use plan::FINISH;
 use plan::Instruction;
-use plan::RECEIVE;
 use plan::SEND;
 use plan::SET;
 use plan::SYNC;
@@ -28,19 +26,29 @@ pub fn present() -> Edition
     }
 }
 
-// The argument is in range, in a plan of `tasks` tasks.
-pub fn instruction_ok(tasks: u8, x: Instruction) -> bool
+// Its kind is known and its argument in range, in a plan of `tasks` tasks.
+fn instruction_ok(tasks: u8, x: Instruction) -> bool
     ensures { λ r. ⌜ r ≡ instructionOk tasks x ⌝ }
 {
     let opcode = x.opcode;
     let operand = base::wide16(x.operand);
-    match opcode {
-        CREATE => base::is_within(2, base::wide8(tasks), operand),
-        SYNC | FINISH => operand == 0,
-        SEND | RECEIVE => base::is_within(1, 128, operand),
-        SET | ADD => base::is_within(0, 65535, operand),
-        _ => false,
+    if opcode > ADD {
+        return false;
     }
+    // set and add, send and receive, sync and finish, create
+    if opcode >= SET {
+        return base::is_within(0, 65535, operand);
+    }
+    if opcode >= SEND {
+        return base::is_within(1, 128, operand);
+    }
+    if opcode >= SYNC {
+        return operand == 0;
+    }
+    if opcode >= CREATE {
+        return base::is_within(2, base::wide8(tasks), operand);
+    }
+    false
 }
 
 // The highest second byte of an instruction of this kind.
@@ -56,12 +64,20 @@ fn highest_second(e: Edition, opcode: u8) -> u8
     0
 }
 
-// The kind is one of the edition's, and the second byte one of that kind's.
-pub fn is_known(e: Edition, opcode: u8, second: u8) -> bool
-    ensures { λ r. ⌜ r ≡ known e opcode second ⌝ }
+// The second byte of an instruction of this kind, in an edition.
+pub fn second_ok(e: Edition, opcode: u8, second: u8) -> bool
+    ensures { λ r. ⌜ r ≡ secondOk e opcode second ⌝ }
 {
+    second <= highest_second(e, opcode)
+}
+
+// The kind is one of the edition's, and the argument is in range.
+pub fn is_allowed(e: Edition, tasks: u8, x: Instruction) -> bool
+    ensures { λ r. ⌜ r ≡ allowed e tasks x ⌝ }
+{
+    let opcode = x.opcode;
     if opcode > e.kinds {
         return false;
     }
-    second <= highest_second(e, opcode)
+    instruction_ok(tasks, x)
 }

@@ -6,8 +6,8 @@ ghost use Rattle.plan_value.specs.Firsts.{allCreated};
 ghost use Rattle.plan_value.specs.Marks.{createMark, endMark, Entered};
 ghost use Rattle.plan_value.specs.Pass.{seen, startPass, nextSeen, passAnswer};
 use crate::instruction::Edition;
-use crate::instruction::instruction_ok;
-use crate::instruction::is_known;
+use crate::instruction::is_allowed;
+use crate::instruction::second_ok;
 use crate::marks::create_fits;
 use crate::marks::end_fits;
 use crate::marks::kept;
@@ -60,8 +60,9 @@ fn enter_create<'a>(t: u8, a: usize, parents: &'a mut [u8; 129]) -> bool
     ensures { λ r. ⌜ Entered a t (createMark (getD (now (parents .entry)) a 0) t a) (now (parents .entry)) r (now (parents .exit)) ⌝ }
 {
     let old = parents[a];
+    let fits = create_fits(old, t, a);
     parents[a] = kept(old, t);
-    create_fits(old, t, a)
+    fits
 }
 
 // Task t at an end of channel a: the first task at this end stays; whether this is in order.
@@ -70,8 +71,9 @@ fn enter_end<'a>(t: u8, a: usize, ends: &'a mut [u8; 129], others: &'a [u8; 129]
     ensures { λ r. ⌜ Entered a t (endMark (getD (now (ends .entry)) a 0) (getD (now (others .entry)) a 0) t) (now (ends .entry)) r (now (ends .exit)) ⌝ }
 {
     let old = ends[a];
+    let fits = end_fits(old, others[a], t);
     ends[a] = kept(old, t);
-    end_fits(old, others[a], t)
+    fits
 }
 
 // One instruction more. The tables take, by argument, the first task that creates, sends and receives. Its
@@ -91,7 +93,7 @@ pub fn next<'a>(
 {
     let i = x.instruction;
     let opcode = i.opcode;
-    if !is_known(e, opcode, x.second) {
+    if !second_ok(e, opcode, x.second) {
         return Pass::new(p.tasks, false);
     }
     let a = base::wide16(i.operand);
@@ -99,7 +101,7 @@ pub fn next<'a>(
     let finish = opcode == FINISH;
     let finishes = base::both(p.finishes, same(finish, x.last));
     if opcode == CREATE {
-        if !instruction_ok(p.tasks, i) {
+        if !is_allowed(e, p.tasks, i) {
             return Pass::new(p.tasks, false);
         }
         let creates = base::both(p.creates, enter_create(t, a, parents));
@@ -112,7 +114,7 @@ pub fn next<'a>(
         };
     }
     if opcode == SEND {
-        if !instruction_ok(p.tasks, i) {
+        if !is_allowed(e, p.tasks, i) {
             return Pass::new(p.tasks, false);
         }
         let channels = base::both(p.channels, enter_end(t, a, senders, receivers));
@@ -125,7 +127,7 @@ pub fn next<'a>(
         };
     }
     if opcode == RECEIVE {
-        if !instruction_ok(p.tasks, i) {
+        if !is_allowed(e, p.tasks, i) {
             return Pass::new(p.tasks, false);
         }
         let channels = base::both(p.channels, enter_end(t, a, receivers, senders));
@@ -137,7 +139,7 @@ pub fn next<'a>(
             channels: channels,
         };
     }
-    if !instruction_ok(p.tasks, i) {
+    if !is_allowed(e, p.tasks, i) {
         return Pass::new(p.tasks, false);
     }
     Pass {

@@ -2,12 +2,11 @@
 use mathlib.Core.Path.{_≡_, sym, _∙_, ap}
 use mathlib.Core.Bool.{Bool, true, false, not, _&&_}
 use Rattle.base.proofs.Tests.{and-both, and-false}
-use Rattle.plan.specs.Refusals.{instructionOk}
 use borrow.Author.Needs.{needs}
 use borrow.Author.Tests.{not-true, not-false}
 use Rattle.plan_value.specs.declared.instruction.Edition.{Edition}
 use Rattle.plan_value.specs.declared.pass.Entry.{Entry}
-use Rattle.plan_value.specs.Editions.{known}
+use Rattle.plan_value.specs.Editions.{secondOk, allowed}
 use Rattle.plan_value.specs.Pass.{Seen, seen, entryOk, finishFits}
 use Rattle.plan_value.proofs.Nexts.{next-refused, create-fits, send-fits, receive-fits, next-create, next-send, next-receive, next-other}
 use Rattle.plan_value.proofs.pass.next.Statement.{statement}
@@ -33,20 +32,20 @@ module _ (c : tie.After-both) where
   finish : c .both .result ≡ before .pass .finishes && finishFits x
   finish = c .both .ensures ∙ ap (λ (b : Bool). before .pass .finishes && b) (c .before .same .ensures)
 
-  is-one : known e (x .instruction .opcode) (x .second) ≡ true
-  is-one = let l = c .before .before .before in sym (l .before .is-known .ensures) ∙ not-false (l .before .is-known .result) (l .if1 .left)
+  is-one : secondOk e (x .instruction .opcode) (x .second) ≡ true
+  is-one = let l = c .before .before .before in sym (l .before .second-ok .ensures) ∙ not-false (l .before .second-ok .result) (l .if1 .left)
 
   -- r says whether the argument is in range
-  module _ {r : Bool} (test : r ≡ instructionOk (before .pass .tasks) (x .instruction)) where
+  module _ {r : Bool} (test : r ≡ allowed e (before .pass .tasks) (x .instruction)) where
     fine : not r ≡ false → entryOk e (before .pass .tasks) x ≡ true
-    fine h = and-both (known e (x .instruction .opcode) (x .second)) (instructionOk (before .pass .tasks) (x .instruction)) is-one (sym test ∙ not-false r h)
+    fine h = and-both (secondOk e (x .instruction .opcode) (x .second)) (allowed e (before .pass .tasks) (x .instruction)) is-one (sym test ∙ not-false r h)
 
     refused : not r ≡ true → entryOk e (before .pass .tasks) x ≡ false
     refused h =
-        ap (λ (b : Bool). known e (x .instruction .opcode) (x .second) && b) (sym test ∙ not-true r h) ∙ and-false (known e (x .instruction .opcode) (x .second))
+        ap (λ (b : Bool). secondOk e (x .instruction .opcode) (x .second) && b) (sym test ∙ not-true r h) ∙ and-false (secondOk e (x .instruction .opcode) (x .second))
 
-is-known-requires : tie.Need-is-known-requires
-is-known-requires c κs = search needs
+second-ok-requires : tie.Need-second-ok-requires
+second-ok-requires c κs = search needs
 
 new-requires : tie.Need-new-requires
 new-requires c κs = search needs
@@ -56,8 +55,8 @@ returns c =
     let l = c .before .before in
     let a = l .before .before .args in
     let s = seen (a .p) (a .parents .now) (a .senders .now) (a .receivers .now) in
-    let no = sym (l .is-known .ensures) ∙ not-true (l .is-known .result) (c .before .if1 .taken) in
-    next-refused (a .e) (a .x) s (ap (λ (b : Bool). b && instructionOk (a .p .tasks) (a .x .instruction)) no) (c .new .ensures)
+    let no = sym (l .second-ok .ensures) ∙ not-true (l .second-ok .result) (c .before .if1 .taken) in
+    next-refused (a .e) (a .x) s (ap (λ (b : Bool). b && allowed (a .e) (a .p .tasks) (a .x .instruction)) no) (c .new .ensures)
 
 wide16-requires : tie.Need-wide16-requires
 wide16-requires c κs = search needs
@@ -68,8 +67,8 @@ same-requires c κs = search needs
 both-requires : tie.Need-both-requires
 both-requires c κs = search needs
 
-instruction-ok-requires : tie.Need-instruction-ok-requires
-instruction-ok-requires c κs = search needs
+is-allowed-requires : tie.Need-is-allowed-requires
+is-allowed-requires c κs = search needs
 
 new-requires-2 : tie.Need-new-requires-2
 new-requires-2 c κs = search needs
@@ -78,13 +77,13 @@ returns-2 : tie.Need-returns-2
 returns-2 c =
     let l = c .before .before in
     let b = l .before .before in
-    next-refused (e b) (x b) (before b) (refused b (l .instruction-ok .ensures) (c .before .if3 .taken)) (c .new2 .ensures)
+    next-refused (e b) (x b) (before b) (refused b (l .is-allowed .ensures) (c .before .if3 .taken)) (c .new2 .ensures)
 
 enter-create-requires : tie.Need-enter-create-requires
 enter-create-requires c κs =
     let l = c .before .before in
     let b = l .before .before in
-    rw (on b) (create-fits (e b) (before b .pass .tasks) (x b) (fine b (l .instruction-ok .ensures) (c .before .if3 .left)) (start b .pre) (l .before .if2 .taken))
+    rw (on b) (create-fits (e b) (before b .pass .tasks) (x b) (fine b (l .is-allowed .ensures) (c .before .if3 .left)) (start b .pre) (l .before .if2 .taken))
 
 both-requires-2 : tie.Need-both-requires-2
 both-requires-2 c κs = search needs
@@ -94,10 +93,10 @@ returns-3 c =
     let n = c .before in
     let l = n .before .before .before in
     let b = l .before .before in
-    next-create (e b) (x b) (before b) (fine b (l .instruction-ok .ensures) (n .before .before .if3 .left)) (finish b) (on b) (l .before .if2 .taken) (c .both2 .ensures) (n .enter-create .ensures)
+    next-create (e b) (x b) (before b) (fine b (l .is-allowed .ensures) (n .before .before .if3 .left)) (finish b) (on b) (l .before .if2 .taken) (c .both2 .ensures) (n .enter-create .ensures)
 
-instruction-ok-requires-2 : tie.Need-instruction-ok-requires-2
-instruction-ok-requires-2 c κs = search needs
+is-allowed-requires-2 : tie.Need-is-allowed-requires-2
+is-allowed-requires-2 c κs = search needs
 
 new-requires-3 : tie.Need-new-requires-3
 new-requires-3 c κs = search needs
@@ -106,14 +105,14 @@ returns-4 : tie.Need-returns-4
 returns-4 c =
     let l = c .before .before in
     let b = l .before .before .before in
-    next-refused (e b) (x b) (before b) (refused b (l .instruction-ok2 .ensures) (c .before .if5 .taken)) (c .new3 .ensures)
+    next-refused (e b) (x b) (before b) (refused b (l .is-allowed2 .ensures) (c .before .if5 .taken)) (c .new3 .ensures)
 
 enter-end-requires : tie.Need-enter-end-requires
 enter-end-requires c κs =
     let f = c .before .before in
     let l = f .before in
     let b = l .before .before .before in
-    rw (on b) (send-fits (e b) (before b .pass .tasks) (x b) (fine b (l .instruction-ok2 .ensures) (f .if5 .left)) (start b .pre) (l .before .if4 .taken))
+    rw (on b) (send-fits (e b) (before b .pass .tasks) (x b) (fine b (l .is-allowed2 .ensures) (f .if5 .left)) (start b .pre) (l .before .if4 .taken))
 
 both-requires-3 : tie.Need-both-requires-3
 both-requires-3 c κs = search needs
@@ -124,10 +123,10 @@ returns-5 c =
     let f = n .before .before .before in
     let l = f .before in
     let b = l .before .before .before in
-    next-send (e b) (x b) (before b) (fine b (l .instruction-ok2 .ensures) (f .if5 .left)) (finish b) (on b) (l .before .if4 .taken) (c .both3 .ensures) (n .enter-end .ensures)
+    next-send (e b) (x b) (before b) (fine b (l .is-allowed2 .ensures) (f .if5 .left)) (finish b) (on b) (l .before .if4 .taken) (c .both3 .ensures) (n .enter-end .ensures)
 
-instruction-ok-requires-3 : tie.Need-instruction-ok-requires-3
-instruction-ok-requires-3 c κs = search needs
+is-allowed-requires-3 : tie.Need-is-allowed-requires-3
+is-allowed-requires-3 c κs = search needs
 
 new-requires-4 : tie.Need-new-requires-4
 new-requires-4 c κs = search needs
@@ -136,14 +135,14 @@ returns-6 : tie.Need-returns-6
 returns-6 c =
     let l = c .before .before in
     let b = l .before .before .before .before in
-    next-refused (e b) (x b) (before b) (refused b (l .instruction-ok3 .ensures) (c .before .if7 .taken)) (c .new4 .ensures)
+    next-refused (e b) (x b) (before b) (refused b (l .is-allowed3 .ensures) (c .before .if7 .taken)) (c .new4 .ensures)
 
 enter-end-requires-2 : tie.Need-enter-end-requires-2
 enter-end-requires-2 c κs =
     let f = c .before .before in
     let l = f .before in
     let b = l .before .before .before .before in
-    rw (on b) (receive-fits (e b) (before b .pass .tasks) (x b) (fine b (l .instruction-ok3 .ensures) (f .if7 .left)) (start b .pre) (l .before .if6 .taken))
+    rw (on b) (receive-fits (e b) (before b .pass .tasks) (x b) (fine b (l .is-allowed3 .ensures) (f .if7 .left)) (start b .pre) (l .before .if6 .taken))
 
 both-requires-4 : tie.Need-both-requires-4
 both-requires-4 c κs = search needs
@@ -154,10 +153,10 @@ returns-7 c =
     let f = n .before .before .before in
     let l = f .before in
     let b = l .before .before .before .before in
-    next-receive (e b) (x b) (before b) (fine b (l .instruction-ok3 .ensures) (f .if7 .left)) (finish b) (on b) (l .before .if6 .taken) (c .both4 .ensures) (n .enter-end2 .ensures)
+    next-receive (e b) (x b) (before b) (fine b (l .is-allowed3 .ensures) (f .if7 .left)) (finish b) (on b) (l .before .if6 .taken) (c .both4 .ensures) (n .enter-end2 .ensures)
 
-instruction-ok-requires-4 : tie.Need-instruction-ok-requires-4
-instruction-ok-requires-4 c κs = search needs
+is-allowed-requires-4 : tie.Need-is-allowed-requires-4
+is-allowed-requires-4 c κs = search needs
 
 new-requires-5 : tie.Need-new-requires-5
 new-requires-5 c κs = search needs
@@ -166,44 +165,44 @@ returns-8 : tie.Need-returns-8
 returns-8 c =
     let l = c .before .before in
     let b = l .before .before .before .before in
-    next-refused (e b) (x b) (before b) (refused b (l .instruction-ok4 .ensures) (c .before .if8 .taken)) (c .new5 .ensures)
+    next-refused (e b) (x b) (before b) (refused b (l .is-allowed4 .ensures) (c .before .if8 .taken)) (c .new5 .ensures)
 
 returns-9 : tie.Need-returns-9
 returns-9 c =
     let l = c .before in
     let d = l .before in
     let b = d .before .before .before in
-    next-other (e b) (x b) (before b) (fine b (l .instruction-ok4 .ensures) (c .if8 .left)) (finish b) (d .before .before .if2 .left) (d .before .if4 .left) (d .if6 .left)
+    next-other (e b) (x b) (before b) (fine b (l .is-allowed4 .ensures) (c .if8 .left)) (finish b) (d .before .before .if2 .left) (d .before .if4 .left) (d .if6 .left)
 
 pub next-spec : {M : Type 1} → statement M
 next-spec =
     tie.close
     (tie.spec
-    is-known-requires
+    second-ok-requires
     new-requires
     returns
     wide16-requires
     same-requires
     both-requires
-    instruction-ok-requires
+    is-allowed-requires
     new-requires-2
     returns-2
     enter-create-requires
     both-requires-2
     returns-3
-    instruction-ok-requires-2
+    is-allowed-requires-2
     new-requires-3
     returns-4
     enter-end-requires
     both-requires-3
     returns-5
-    instruction-ok-requires-3
+    is-allowed-requires-3
     new-requires-4
     returns-6
     enter-end-requires-2
     both-requires-4
     returns-7
-    instruction-ok-requires-4
+    is-allowed-requires-4
     new-requires-5
     returns-8
     returns-9)
