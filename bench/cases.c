@@ -89,6 +89,16 @@ static uint32_t lively_letter(struct random *r, const struct sim_rig *rig)
     return 0;
 }
 
+/* Task 1 moves between desks 1 and 2: it leaves, then it arrives. */
+static void propose_to_and_fro(struct random *r, const struct sim_rig *rig, uint8_t *step)
+{
+    (void)r;
+    if (rig->letters > 0)
+        mortarsedge_put_step(step, 2, 0, 1);
+    else
+        mortarsedge_put_step(step, 3, 1, 3u - rig->task[1].desk);
+}
+
 /* Task 1 creates all others first. Then letters are posted and taken by turns,
  * the oldest now and then. */
 static void propose_mail(struct random *r, const struct sim_rig *rig, uint8_t *step)
@@ -220,12 +230,36 @@ static void make_mail(struct bench_case *c)
     lead(c, MAX_STEPS, propose_mail);
 }
 
+/* Task 1 receives on the first channels and sends on the others; task 2 has the
+ * other ends. Task 1 moves before it runs, so it is ready and childless. */
+static void make_to_and_fro(struct bench_case *c)
+{
+    static struct draft d;
+    draft_clear(&d, 2);
+    draft_add(&d, 1, CREATE, 2);
+    for (uint32_t channel = 1; channel <= c->in + c->out; channel++) {
+        draft_add(&d, 1, channel <= c->in ? RECEIVE : SEND, channel);
+        draft_add(&d, 2, channel <= c->in ? SEND : RECEIVE, channel);
+    }
+    draft_add(&d, 1, SYNC, 0);
+    draft_add(&d, 1, FINISH, 0);
+    draft_add(&d, 2, FINISH, 0);
+    c->desks = 2;
+    c->plan_length = draft_write(&d, c->plan);
+    lead(c, MAX_STEPS, propose_to_and_fro);
+}
+
 static struct bench_case cases[CASES] = {
     {.name = "check-small", .about = "plan check, 2 tasks", .make = small_plan, .check_only = true},
     {.name = "check-large", .about = "plan check, 64 tasks of 64 instructions", .make = large_plan, .check_only = true},
     {.name = "moving", .about = "run, moves and deliveries", .make = make_moving},
     {.name = "local", .about = "run, set and add", .make = make_local},
     {.name = "mail", .about = "run, mail nearly full", .make = make_mail},
+    {.name = "move-1", .about = "run, to and fro, 1 channel in", .make = make_to_and_fro, .in = 1},
+    {.name = "move-20", .about = "run, to and fro, 10 in and 10 out", .make = make_to_and_fro, .in = 10, .out = 10},
+    {.name = "move-60", .about = "run, to and fro, 30 in and 30 out", .make = make_to_and_fro, .in = 30, .out = 30},
+    {.name = "move-60-in", .about = "run, to and fro, 60 in", .make = make_to_and_fro, .in = 60},
+    {.name = "move-60-out", .about = "run, to and fro, 60 out", .make = make_to_and_fro, .out = 60},
     {.name = "one-step", .about = "run of one step, 2 tasks", .make = make_one_step},
     {.name = "one-step-large", .about = "run of one step, 64 tasks of 64", .make = make_one_step_large},
 };

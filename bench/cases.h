@@ -11,6 +11,7 @@ struct bench_case {
     const char *about;
     void (*make)(struct bench_case *c);
     bool check_only; /* plan check, not run */
+    uint32_t in, out; /* channels of the task that moves to and fro */
     uint32_t desks;
     size_t plan_length;
     size_t steps_length;
@@ -21,7 +22,7 @@ struct bench_case {
     uint32_t mail; /* letters in the mail, on average */
 };
 
-enum { CASES = 7 };
+enum { CASES = 12 };
 
 /* The i-th case, made; NULL behind the last. */
 struct bench_case *case_at(unsigned i);
