@@ -4,7 +4,7 @@ use mathlib.Core.Bool.{Bool, true, false}
 use mathlib.Core.List.{List}
 use Prim.Native.Nat.{ℕ, _+_, _*_, _/_, _%_, _-_, _<_, _≤_}
 use native.Mathlib.Omega.{arith}
-use lib.ListN.{getD, set, length}
+use lib.ListN.{getD, set, length, length-set}
 use lib.Seq.{set-getD}
 use Rattle.plan.specs.declared.ProcessorId.{ProcessorId}
 use Rattle.plan.specs.declared.ChannelId.{ChannelId}
@@ -19,7 +19,7 @@ use Rattle.rules.specs.Cells.{withNoted}
 use Rattle.rules.specs.Tasks.{noTask}
 use Rattle.rules.specs.Systems.{entryIndex, readChannel, writeChannel, store, cellStored}
 use Rattle.board.specs.packing.Packed.{taskOf, taskWord, stateOf, stateNumber, channelOf, channelWord, low16, byte2, byte3, byte4, byte5, mark6, bit}
-use Rattle.board.specs.Lent.{lent, channelColumn, channelsOn, tasksOn, storeOf, hintIn, heldIn, noteIn}
+use Rattle.board.specs.Lent.{lent, channelColumn, channelsOn, tasksOn, storeOf, hintIn, heldIn, noteIn, ChannelPut}
 use Rattle.board.proofs.Laws.{getD-channel, set-channel, keep-channel-above, getD-task, set-task, keep-tasks}
 
 pub task-read : (board : List ℕ) (n : ℕ) {m : ℕ} → m ≡ n → 1 ≤ n → n ≤ 64 → taskOf (getD board (126 + 2 * m) 0) (getD board (126 + 2 * m + 1) 0) ≡ getD (tasksOn board) (n - 1) noTask
@@ -107,11 +107,11 @@ module _ (board : List ℕ) (n : ℕ) (x : Task) {m w : ℕ} (e : m ≡ n) (one 
   unfolding channelsOn
   channels-kept = rw (kept byte5, kept mark6, kept byte3, kept byte4, kept byte2, kept low16) refl
 
-pub channel-read : (board : List ℕ) (c : ℕ) {m : ℕ} → m ≡ c → 1 ≤ c → c ≤ 128 → channelOf (getD board (m - 1) 0) ≡ readChannel (channelsOn board) (c - 1)
+pub channel-read : (board : List ℕ) (k : ℕ) → k < 128 → channelOf (getD board k 0) ≡ readChannel (channelsOn board) k
 unfolding channelsOn channelOf
-channel-read board c {m} e one most =
+channel-read board k h =
     rw
-    (e, getD-channel byte5 board (c - 1) 0 (omega arith), getD-channel mark6 board (c - 1) false (omega arith), getD-channel byte3 board (c - 1) 0 (omega arith), getD-channel byte4 board (c - 1) 0 (omega arith), getD-channel byte2 board (c - 1) 0 (omega arith), getD-channel low16 board (c - 1) 0 (omega arith))
+    (getD-channel byte5 board k 0 h, getD-channel mark6 board k false h, getD-channel byte3 board k 0 h, getD-channel byte4 board k 0 h, getD-channel byte2 board k 0 h, getD-channel low16 board k 0 h)
     refl
 
 abbrev pub NarrowChannel : Channel → Type 0
@@ -121,25 +121,23 @@ mark-of : (a : ℕ) (b : Bool) → a < 281474976710656 → mark6 (a + 2814749767
 mark-of a true h = let e : (a + 281474976710656 * 1) / 281474976710656 % 2 ≡ 1 = omega arith in rw e refl
 mark-of a false h = let e : (a + 281474976710656 * 0) / 281474976710656 % 2 ≡ 0 = omega arith in rw e refl
 
-module _ (board : List ℕ) (c : ℕ) (y : Channel) {m w : ℕ} (e : m ≡ c) (one : 1 ≤ c) (most : c ≤ 128) (long : length board ≡ 256) (we : w ≡ channelWord y) (small : NarrowChannel y) where
-  column : {A : Type 0} (f : ℕ → A) (v def : A) → f (channelWord y) ≡ v → channelColumn f (set board (m - 1) w) ≡ set (channelColumn f board) (c - 1) v
-  column f v def q =
-      let a : m - 1 ≡ c - 1 = omega arith in
-      ap (λ (i : ℕ). channelColumn f (set board i w)) a ∙ set-channel f board (c - 1) w v def (omega arith) (omega arith) (ap f we ∙ q)
+module _ (board : List ℕ) (k : ℕ) (y : Channel) {w : ℕ} (most : k < 128) (long : length board ≡ 256) (we : w ≡ channelWord y) (small : NarrowChannel y) where
+  column : {A : Type 0} (f : ℕ → A) (v def : A) → f (channelWord y) ≡ v → channelColumn f (set board k w) ≡ set (channelColumn f board) k v
+  column f v def q = set-channel f board k w v def most (omega arith) (ap f we ∙ q)
 
   granted-of : (b : Bool) → byte5 (y .travelling .moves + 65536 * (y .travelling .processor .0) + 16777216 * (y .carried .processor .0) + 4294967296 * (y .carried .number) + 1099511627776 * (y .granted) + 281474976710656 * bit b) ≡ y .granted
   granted-of true = omega arith
   granted-of false = omega arith
 
-  pub channel-written : channelsOn (set board (m - 1) w) ≡ writeChannel (channelsOn board) (c - 1) y
+  channel-written : channelsOn (set board k w) ≡ writeChannel (channelsOn board) k y
   unfolding channelsOn
   channel-written =
       rw
       (column byte5 (y .granted) 0 (granted-of (y .awaiting)), column mark6 (y .awaiting) false (mark-of _ (y .awaiting) (omega arith)), column byte3 (y .carried .processor .0) 0 (omega arith), column byte4 (y .carried .number) 0 (omega arith), column byte2 (y .travelling .processor .0) 0 (omega arith), column low16 (y .travelling .moves) 0 (omega arith))
       refl
 
-  pub tasks-kept : tasksOn (set board (m - 1) w) ≡ tasksOn board
-  tasks-kept = keep-tasks board (m - 1) w (omega arith)
+  pub channel-put : ChannelPut k y board (set board k w)
+  channel-put = (simp (length-set, long), channel-written, keep-tasks board k w most)
 
 -- a cell is stored where each column has what it leaves there: a column that it leaves as it was need not be written (`set-getD`)
 module _ (hp hm op on notes : List ℕ) (k : Channels) (d : ProcessorId) (c : ChannelId) (x : Cell) {hp' hm' op' on' notes' : List ℕ} {k' : Channels} where

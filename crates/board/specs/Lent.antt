@@ -3,10 +3,11 @@
 use mathlib.Core.List.{List}
 use mathlib.Core.Path.{_≡_}
 use Prim.Native.Nat.{ℕ, _+_, _*_, _≤_}
-use lib.ListN.{getD, length}
+use lib.ListN.{getD, set, length}
 use Rattle.base.specs.Lists.{table}
 use Rattle.plan.specs.declared.ProcessorId.{ProcessorId}
 use Rattle.plan.specs.declared.ChannelId.{ChannelId}
+use Rattle.rules.specs.declared.channel.Channel.{Channel}
 use Rattle.rules.specs.declared.channel.Hint.{Hint}
 use Rattle.rules.specs.declared.channel.Offer.{Offer}
 use Rattle.rules.specs.declared.task.Task.{Task}
@@ -14,7 +15,7 @@ use Rattle.rules.specs.declared.system.Channels.{Channels}
 use Rattle.rules.specs.declared.system.Store.{Store}
 use Rattle.rules.specs.Numbers.{processorId}
 use Rattle.rules.specs.Cells.{hint, offer}
-use Rattle.rules.specs.Systems.{entryIndex, store}
+use Rattle.rules.specs.Systems.{entryIndex, writeChannel, store}
 use Rattle.board.specs.packing.Packed.{low16, byte2, byte3, byte4, byte5, mark6, taskOf}
 
 -- all that is lent to be written, in the order of the parameters
@@ -65,12 +66,29 @@ pub record AtCell (d : ProcessorId) (c : ChannelId) : Type 0 where
   pub channel-low : 1 ≤ c .0
   pub channel : c .0 ≤ 128
 
+-- what is at i
+abbrev pub hintEntry : List ℕ → List ℕ → ℕ → Hint
+hintEntry hintprocessors hintmoves i = hint (processorId (getD hintprocessors i 0)) (getD hintmoves i 0)
+
+abbrev pub heldEntry : List ℕ → List ℕ → ℕ → Offer
+heldEntry heldprocessors heldnumbers i = offer (processorId (getD heldprocessors i 0)) (getD heldnumbers i 0)
+
 -- what desk d keeps for channel c
 abbrev pub hintIn : List ℕ → List ℕ → ProcessorId → ChannelId → Hint
-hintIn hintprocessors hintmoves d c = hint (processorId (getD hintprocessors (entryIndex d c) 0)) (getD hintmoves (entryIndex d c) 0)
+hintIn hintprocessors hintmoves d c = hintEntry hintprocessors hintmoves (entryIndex d c)
 
 abbrev pub heldIn : List ℕ → List ℕ → ProcessorId → ChannelId → Offer
-heldIn heldprocessors heldnumbers d c = offer (processorId (getD heldprocessors (entryIndex d c) 0)) (getD heldnumbers (entryIndex d c) 0)
+heldIn heldprocessors heldnumbers d c = heldEntry heldprocessors heldnumbers (entryIndex d c)
 
 abbrev pub noteIn : List ℕ → ProcessorId → ChannelId → ProcessorId
 noteIn notes d c = processorId (getD notes (entryIndex d c) 0)
+
+-- at i a pointer was stored, a held offer, and on the board a channel's own entry
+abbrev pub HintPut : ℕ → Hint → List ℕ → List ℕ → List ℕ → List ℕ → Type 0
+HintPut i h hintprocessors hintmoves hintprocessors' hintmoves' = (hintprocessors' ≡ set hintprocessors i (h .processor .0)) × (hintmoves' ≡ set hintmoves i (h .moves))
+
+abbrev pub HeldPut : ℕ → Offer → List ℕ → List ℕ → List ℕ → List ℕ → Type 0
+HeldPut i o heldprocessors heldnumbers heldprocessors' heldnumbers' = (heldprocessors' ≡ set heldprocessors i (o .processor .0)) × (heldnumbers' ≡ set heldnumbers i (o .number))
+
+abbrev pub ChannelPut : ℕ → Channel → List ℕ → List ℕ → Type 0
+ChannelPut i y board board' = (Whole board') × (channelsOn board' ≡ writeChannel (channelsOn board) i y) × (tasksOn board' ≡ tasksOn board)

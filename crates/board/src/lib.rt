@@ -12,10 +12,10 @@ pub mod packing;
 pub mod sweeps;
 
 ghost use mathlib.Core.Path.{_≡_};
-ghost use Prim.Native.Nat.{_≤_, _<_, _-_};
+ghost use Prim.Native.Nat.{_≤_, _<_, _-_, _+_, _*_};
 ghost use lib.ListN.{set};
 ghost use Rattle.rules.specs.Systems.{entryIndex, readChannel, writeChannel, taskIn, taskStored};
-ghost use Rattle.board.specs.Lent.{Whole, AtCell, tasksOn, channelsOn, hintIn, heldIn, noteIn};
+ghost use Rattle.board.specs.Lent.{Whole, AtCell, tasksOn, channelsOn, hintEntry, heldEntry, hintIn, heldIn, noteIn, HintPut, HeldPut, ChannelPut};
 use plan::ChannelId;
 use plan::ProcessorId;
 use plan::TaskId;
@@ -24,12 +24,28 @@ use rules::channel::Hint;
 use rules::channel::Offer;
 use rules::task::Task;
 
+// Where channel c's own entry is.
+fn channel_index(c: ChannelId) -> usize
+    requires { ⌜ (1 ≤ c .0) × (c .0 ≤ 128) ⌝ }
+    ensures { λ r. ⌜ (r ≡ c .0 - 1) × (r < 128) ⌝ }
+{
+    base::wide8(c.0) - 1
+}
+
+// Where the entry of desk d is for the channel whose own entry is at k.
+fn entry_beside(d: ProcessorId, k: usize) -> usize
+    requires { ⌜ (1 ≤ d .0) × (d .0 ≤ 6) × (k < 128) ⌝ }
+    ensures { λ r. ⌜ (r ≡ 128 * (d .0 - 1) + k) × (r < 768) ⌝ }
+{
+    128 * (base::wide8(d.0) - 1) + k
+}
+
 // Where the entry of desk d and channel c is.
 fn entry_index(d: ProcessorId, c: ChannelId) -> usize
     requires { ⌜ AtCell d c ⌝ }
     ensures { λ r. ⌜ (r ≡ entryIndex d c) × (r < 768) ⌝ }
 {
-    128 * (base::wide8(d.0) - 1) + (base::wide8(c.0) - 1)
+    entry_beside(d, channel_index(c))
 }
 
 // Task t; 0 is none.
@@ -56,13 +72,28 @@ pub fn put_task(board: &mut [u64; 256], t: TaskId, x: Task)
     }
 }
 
+// The own entry of a channel, at k.
+fn channel_entry(board: &[u64; 256], k: usize) -> Channel
+    requires { ⌜ k < 128 ⌝ }
+    ensures { λ r. ⌜ r ≡ readChannel (channelsOn (now (board .entry))) k ⌝ }
+{
+    crate::packing::channel_of(board[k])
+}
+
+// The own entry of a channel, at k, becomes y.
+fn put_channel_entry(board: &mut [u64; 256], k: usize, y: Channel)
+    requires { ⌜ (k < 128) × Whole (now board) ⌝ }
+    ensures { λ r. ⌜ ChannelPut k y (now (board .entry)) (now (board .exit)) ⌝ }
+{
+    board[k] = crate::packing::channel_word(y);
+}
+
 // Channel c's own entry.
 pub fn channel_at(board: &[u64; 256], c: ChannelId) -> Channel
     requires { ⌜ (1 ≤ c .0) × (c .0 ≤ 128) ⌝ }
     ensures { λ r. ⌜ r ≡ readChannel (channelsOn (now (board .entry))) (c .0 - 1) ⌝ }
 {
-    let k = base::wide8(c.0) - 1;
-    crate::packing::channel_of(board[k])
+    channel_entry(board, channel_index(c))
 }
 
 // Channel c's own entry becomes y.
@@ -70,8 +101,61 @@ pub fn put_channel(board: &mut [u64; 256], c: ChannelId, y: Channel)
     requires { ⌜ (1 ≤ c .0) × (c .0 ≤ 128) × Whole (now board) ⌝ }
     ensures { λ r. ⌜ (Whole (now (board .exit))) × (channelsOn (now (board .exit)) ≡ writeChannel (channelsOn (now (board .entry))) (c .0 - 1) y) × (tasksOn (now (board .exit)) ≡ tasksOn (now (board .entry))) ⌝ }
 {
-    let k = base::wide8(c.0) - 1;
-    board[k] = crate::packing::channel_word(y);
+    put_channel_entry(board, channel_index(c), y);
+}
+
+// The pointer at i.
+fn hint_entry<'a>(hintprocessors: &'a [u8; 768], hintmoves: &'a [u16; 768], i: usize) -> Hint
+    requires { ⌜ i < 768 ⌝ }
+    ensures { λ r. ⌜ r ≡ hintEntry (now (hintprocessors .entry)) (now (hintmoves .entry)) i ⌝ }
+{
+    let near = ProcessorId(hintprocessors[i]);
+    Hint {
+        processor: near,
+        moves: hintmoves[i],
+    }
+}
+
+// The pointer at i becomes h.
+fn put_hint_entry<'a>(
+    hintprocessors: &'a mut [u8; 768],
+    hintmoves: &'a mut [u16; 768],
+    i: usize,
+    h: Hint,
+)
+    requires { ⌜ i < 768 ⌝ }
+    ensures { λ r. ⌜ HintPut i h (now (hintprocessors .entry)) (now (hintmoves .entry)) (now (hintprocessors .exit)) (now (hintmoves .exit)) ⌝ }
+{
+    let near = h.processor;
+    hintprocessors[i] = near.0;
+    hintmoves[i] = h.moves;
+}
+
+// The held offer at i.
+fn held_entry<'a>(heldprocessors: &'a [u8; 768], heldnumbers: &'a [u8; 768], i: usize) -> Offer
+    requires { ⌜ i < 768 ⌝ }
+    ensures { λ r. ⌜ r ≡ heldEntry (now (heldprocessors .entry)) (now (heldnumbers .entry)) i ⌝ }
+{
+    let from = ProcessorId(heldprocessors[i]);
+    Offer {
+        processor: from,
+        number: heldnumbers[i],
+    }
+}
+
+// The held offer at i becomes o.
+fn put_held_entry<'a>(
+    heldprocessors: &'a mut [u8; 768],
+    heldnumbers: &'a mut [u8; 768],
+    i: usize,
+    o: Offer,
+)
+    requires { ⌜ i < 768 ⌝ }
+    ensures { λ r. ⌜ HeldPut i o (now (heldprocessors .entry)) (now (heldnumbers .entry)) (now (heldprocessors .exit)) (now (heldnumbers .exit)) ⌝ }
+{
+    let from = o.processor;
+    heldprocessors[i] = from.0;
+    heldnumbers[i] = o.number;
 }
 
 // The pointer of desk d for channel c.
@@ -84,12 +168,7 @@ pub fn hint_at<'a>(
     requires { ⌜ AtCell d c ⌝ }
     ensures { λ r. ⌜ r ≡ hintIn (now (hintprocessors .entry)) (now (hintmoves .entry)) d c ⌝ }
 {
-    let i = entry_index(d, c);
-    let near = ProcessorId(hintprocessors[i]);
-    Hint {
-        processor: near,
-        moves: hintmoves[i],
-    }
+    hint_entry(hintprocessors, hintmoves, entry_index(d, c))
 }
 
 // The pointer of desk d for channel c becomes h.
@@ -103,10 +182,7 @@ pub fn put_hint<'a>(
     requires { ⌜ AtCell d c ⌝ }
     ensures { λ r. ⌜ (now (hintprocessors .exit) ≡ set (now (hintprocessors .entry)) (entryIndex d c) (h .processor .0)) × (now (hintmoves .exit) ≡ set (now (hintmoves .entry)) (entryIndex d c) (h .moves)) ⌝ }
 {
-    let i = entry_index(d, c);
-    let near = h.processor;
-    hintprocessors[i] = near.0;
-    hintmoves[i] = h.moves;
+    put_hint_entry(hintprocessors, hintmoves, entry_index(d, c), h);
 }
 
 // The held offer of desk d for channel c.
@@ -119,12 +195,7 @@ pub fn held_at<'a>(
     requires { ⌜ AtCell d c ⌝ }
     ensures { λ r. ⌜ r ≡ heldIn (now (heldprocessors .entry)) (now (heldnumbers .entry)) d c ⌝ }
 {
-    let i = entry_index(d, c);
-    let from = ProcessorId(heldprocessors[i]);
-    Offer {
-        processor: from,
-        number: heldnumbers[i],
-    }
+    held_entry(heldprocessors, heldnumbers, entry_index(d, c))
 }
 
 // The held offer of desk d for channel c becomes o.
@@ -138,10 +209,7 @@ pub fn put_held<'a>(
     requires { ⌜ AtCell d c ⌝ }
     ensures { λ r. ⌜ (now (heldprocessors .exit) ≡ set (now (heldprocessors .entry)) (entryIndex d c) (o .processor .0)) × (now (heldnumbers .exit) ≡ set (now (heldnumbers .entry)) (entryIndex d c) (o .number)) ⌝ }
 {
-    let i = entry_index(d, c);
-    let from = o.processor;
-    heldprocessors[i] = from.0;
-    heldnumbers[i] = o.number;
+    put_held_entry(heldprocessors, heldnumbers, entry_index(d, c), o);
 }
 
 // The noted advert of desk d for channel c.

@@ -6,12 +6,15 @@ ghost use Rattle.rig_parts.specs.Sweeps.{ruledAt, forEnds, swept};
 ghost use Rattle.plan_index.specs.user_table.Users.{Indexed, sendersOf, receiversOf};
 ghost use Rattle.board.specs.Lent.{Whole, AtCell};
 ghost use Rattle.board.specs.sweeps.Sweeps.{HintsBy, PointersBy, OffersBy};
-use crate::channel_at;
-use crate::held_at;
-use crate::hint_at;
-use crate::put_channel;
-use crate::put_held;
+use crate::channel_entry;
+use crate::channel_index;
+use crate::entry_beside;
+use crate::held_entry;
+use crate::hint_entry;
+use crate::put_channel_entry;
+use crate::put_held_entry;
 use crate::put_hint;
+use crate::put_hint_entry;
 use plan::ChannelId;
 use plan::ProcessorId;
 use plan::TaskId;
@@ -35,10 +38,12 @@ fn depart_at<'a>(
         (now (hintprocessors .entry)) (now (hintmoves .entry)) (now (board .entry))
         (now (hintprocessors .entry)) (now (hintmoves .entry)) (now (board .exit)) ⌝ }
 {
-    let h = hint_at(hintprocessors, hintmoves, d, c);
-    let mut y = channel_at(board, c);
+    let k = channel_index(c);
+    let i = entry_beside(d, k);
+    let h = hint_entry(hintprocessors, hintmoves, i);
+    let mut y = channel_entry(board, k);
     y.travelling = h;
-    put_channel(board, c, y);
+    put_channel_entry(board, k, y);
 }
 
 // The receiver of channel c is here: the pointer becomes h, which names this desk, and the held offer is carried if it counts and is larger.
@@ -57,16 +62,17 @@ fn arrive_receiving_at<'a>(
         (now (hintprocessors .entry)) (now (hintmoves .entry)) (now (heldprocessors .entry)) (now (heldnumbers .entry)) (now (board .entry))
         (now (hintprocessors .exit)) (now (hintmoves .exit)) (now (heldprocessors .exit)) (now (heldnumbers .exit)) (now (board .exit)) ⌝ }
 {
-    let d = h.processor;
-    let o = held_at(heldprocessors, heldnumbers, d, c);
-    put_hint(hintprocessors, hintmoves, d, c, h);
+    let k = channel_index(c);
+    let i = entry_beside(h.processor, k);
+    let o = held_entry(heldprocessors, heldnumbers, i);
+    put_hint_entry(hintprocessors, hintmoves, i, h);
     let none = cell_rules::order::no_offer();
-    put_held(heldprocessors, heldnumbers, d, c, none);
-    let mut y = channel_at(board, c);
+    put_held_entry(heldprocessors, heldnumbers, i, none);
+    let mut y = channel_entry(board, k);
     if y.granted < o.number {
         if y.carried.number < o.number {
             y.carried = o;
-            put_channel(board, c, y);
+            put_channel_entry(board, k, y);
         }
     }
 }
@@ -85,14 +91,16 @@ fn arrive_sending_at<'a>(
         (now (hintprocessors .entry)) (now (hintmoves .entry)) (now (board .entry))
         (now (hintprocessors .exit)) (now (hintmoves .exit)) (now (board .exit)) ⌝ }
 {
-    let mut y = channel_at(board, c);
+    let k = channel_index(c);
+    let i = entry_beside(d, k);
+    let mut y = channel_entry(board, k);
     let h = y.travelling;
     let none = cell_rules::order::unknown();
     y.travelling = none;
-    put_channel(board, c, y);
-    let own = hint_at(hintprocessors, hintmoves, d, c);
+    put_channel_entry(board, k, y);
+    let own = hint_entry(hintprocessors, hintmoves, i);
     if own.moves < h.moves {
-        put_hint(hintprocessors, hintmoves, d, c, h);
+        put_hint_entry(hintprocessors, hintmoves, i, h);
     }
 }
 

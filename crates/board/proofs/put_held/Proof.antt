@@ -1,5 +1,4 @@
 -- `put_held`: the held offer of desk d for channel c becomes o.
-use mathlib.Core.Path.{refl}
 use borrow.Author.Needs.{needs}
 use Rattle.board.proofs.put_held.Statement.{statement}
 use Rattle.board.proofs.put_held.Tie as tie
@@ -7,16 +6,11 @@ use Rattle.board.proofs.put_held.Tie as tie
 entry-index-requires : tie.Need-entry-index-requires
 entry-index-requires c κs = search needs
 
-element-write-heldprocessors : tie.Need-element-write-heldprocessors
-element-write-heldprocessors c = search needs
-
-element-write-heldnumbers : tie.Need-element-write-heldnumbers
-element-write-heldnumbers c = search needs
+put-held-entry-requires : tie.Need-put-held-entry-requires
+put-held-entry-requires c κs = search needs
 
 returns : tie.Need-returns
-returns c = rw (c .before .entry-index .ensures .0) (refl, refl)
+returns c = rw (c .before .entry-index .ensures .0) at (c .put-held-entry .ensures)
 
 pub put-held-spec : {M : Type 1} → statement M
-put-held-spec =
-    tie.close
-    (tie.spec entry-index-requires element-write-heldprocessors element-write-heldnumbers returns)
+put-held-spec = tie.close (tie.spec entry-index-requires put-held-entry-requires returns)

@@ -4,47 +4,59 @@ use Rattle.board.proofs.sweeps.Rules.{newer-stored, older-stored}
 use Rattle.board.proofs.sweeps.arrive_sending_at.Statement.{statement}
 use Rattle.board.proofs.sweeps.arrive_sending_at.Tie as tie
 
-channel-at-requires : tie.Need-channel-at-requires
-channel-at-requires c κs = search needs
+channel-index-requires : tie.Need-channel-index-requires
+channel-index-requires c κs = search needs
+
+entry-beside-requires : tie.Need-entry-beside-requires
+entry-beside-requires c κs = search needs
+
+channel-entry-requires : tie.Need-channel-entry-requires
+channel-entry-requires c κs = search needs
 
 unknown-requires : tie.Need-unknown-requires
 unknown-requires c κs = search needs
 
-put-channel-requires : tie.Need-put-channel-requires
-put-channel-requires c κs = search needs
+put-channel-entry-requires : tie.Need-put-channel-entry-requires
+put-channel-entry-requires c κs = search needs
 
-hint-at-requires : tie.Need-hint-at-requires
-hint-at-requires c κs = search needs
+hint-entry-requires : tie.Need-hint-entry-requires
+hint-entry-requires c κs = search needs
 
-put-hint-requires : tie.Need-put-hint-requires
-put-hint-requires c κs = search needs
+put-hint-entry-requires : tie.Need-put-hint-entry-requires
+put-hint-entry-requires c κs = search needs
 
 returns : tie.Need-returns
 returns c =
-    let k = c .before .before .before .before .before .before in
-    let u = k .before .before .before .before .before in
+    let o = c .before .before .before .before .before .before in
+    let u = o .before .before .before .before .before in
     let y = u .before .before in
-    let a = y .before .before .args in
+    let i = y .before .before in
+    let k = i .before in
+    let a = k .before .args in
     λ heldprocessors heldnumbers notes.
-    newer-stored (a .hintprocessors .now) (a .hintmoves .now) heldprocessors heldnumbers notes (a .board .now) (a .d) (a .c) (y .channel-at .ensures) _ (u .unknown .ensures) (k .hint-at .ensures) (k .before .before .before .put-channel .ensures) (c .before .before .before .if1 .taken) (c .put-hint .ensures)
+    newer-stored (a .hintprocessors .now) (a .hintmoves .now) heldprocessors heldnumbers notes (a .board .now) (a .d) (a .c) (k .channel-index .ensures .0) (i .entry-beside .ensures .0) (y .channel-entry .ensures) _ (u .unknown .ensures) (o .hint-entry .ensures) (o .before .before .before .put-channel-entry .ensures) (c .before .before .before .if1 .taken) (c .put-hint-entry .ensures)
 
 returns-2 : tie.Need-returns-2
 returns-2 c =
-    let k = c .before .before .before in
-    let u = k .before .before .before .before .before in
+    let o = c .before .before .before in
+    let u = o .before .before .before .before .before in
     let y = u .before .before in
-    let a = y .before .before .args in
+    let i = y .before .before in
+    let k = i .before in
+    let a = k .before .args in
     λ heldprocessors heldnumbers notes.
-    older-stored (a .hintprocessors .now) (a .hintmoves .now) heldprocessors heldnumbers notes (a .board .now) (a .d) (a .c) (y .channel-at .ensures) _ (u .unknown .ensures) (k .hint-at .ensures) (k .before .before .before .put-channel .ensures) (c .if1 .left)
+    older-stored (a .hintprocessors .now) (a .hintmoves .now) heldprocessors heldnumbers notes (a .board .now) (a .d) (a .c) (k .channel-index .ensures .0) (i .entry-beside .ensures .0) (y .channel-entry .ensures) _ (u .unknown .ensures) (o .hint-entry .ensures) (o .before .before .before .put-channel-entry .ensures) (c .if1 .left)
 
 pub arrive-sending-at-spec : {M : Type 1} → statement M
 arrive-sending-at-spec =
     tie.close
     (tie.spec
-    channel-at-requires
+    channel-index-requires
+    entry-beside-requires
+    channel-entry-requires
     unknown-requires
-    put-channel-requires
-    hint-at-requires
-    put-hint-requires
+    put-channel-entry-requires
+    hint-entry-requires
+    put-hint-entry-requires
     returns
     returns-2)

@@ -4,21 +4,36 @@ use Rattle.board.proofs.sweeps.Rules.{departure-stored}
 use Rattle.board.proofs.sweeps.depart_at.Statement.{statement}
 use Rattle.board.proofs.sweeps.depart_at.Tie as tie
 
-hint-at-requires : tie.Need-hint-at-requires
-hint-at-requires c κs = search needs
+channel-index-requires : tie.Need-channel-index-requires
+channel-index-requires c κs = search needs
 
-channel-at-requires : tie.Need-channel-at-requires
-channel-at-requires c κs = search needs
+entry-beside-requires : tie.Need-entry-beside-requires
+entry-beside-requires c κs = search needs
 
-put-channel-requires : tie.Need-put-channel-requires
-put-channel-requires c κs = search needs
+hint-entry-requires : tie.Need-hint-entry-requires
+hint-entry-requires c κs = search needs
+
+channel-entry-requires : tie.Need-channel-entry-requires
+channel-entry-requires c κs = search needs
+
+put-channel-entry-requires : tie.Need-put-channel-entry-requires
+put-channel-entry-requires c κs = search needs
 
 returns : tie.Need-returns
 returns c =
-    let a = c .before .before .before .before .before .args in
+    let i = c .before .before .before .before .before in
+    let k = i .before in
+    let a = k .before .args in
     λ heldprocessors heldnumbers notes.
-    departure-stored (a .hintprocessors .now) (a .hintmoves .now) heldprocessors heldnumbers notes (a .board .now) (a .d) (a .c) (c .before .before .channel-at .ensures) _ (c .before .before .before .before .hint-at .ensures) (c .put-channel .ensures)
+    departure-stored (a .hintprocessors .now) (a .hintmoves .now) heldprocessors heldnumbers notes (a .board .now) (a .d) (a .c) (k .channel-index .ensures .0) (i .entry-beside .ensures .0) (c .before .before .channel-entry .ensures) _ (c .before .before .before .before .hint-entry .ensures) (c .put-channel-entry .ensures)
 
 pub depart-at-spec : {M : Type 1} → statement M
 depart-at-spec =
-    tie.close (tie.spec hint-at-requires channel-at-requires put-channel-requires returns)
+    tie.close
+    (tie.spec
+    channel-index-requires
+    entry-beside-requires
+    hint-entry-requires
+    channel-entry-requires
+    put-channel-entry-requires
+    returns)
