@@ -1,8 +1,8 @@
 -- `arrive_receiving_at` is the rule for one channel.
 use borrow.Author.Needs.{needs}
 use Rattle.board.proofs.sweeps.Rules.{larger-stored, smaller-stored, dropped-stored}
-use Rattle.board.proofs.sweeps.arrive_receiving_at.Statement.{statement}
-use Rattle.board.proofs.sweeps.arrive_receiving_at.Tie as tie
+use Rattle.board.proofs.sweeps.arrival.arrive_receiving_at.Statement.{statement}
+use Rattle.board.proofs.sweeps.arrival.arrive_receiving_at.Tie as tie
 
 channel-index-requires : tie.Need-channel-index-requires
 channel-index-requires c κs = search needs

@@ -9,8 +9,8 @@ use Rattle.plan_index.proofs.user_table.Following.{reached}
 use Rattle.board.specs.Lent.{Whole}
 use Rattle.board.specs.sweeps.Sweeps.{OffersBy}
 use Rattle.board.proofs.sweeps.Walking.{stored-none, stored-next, Walked, walked-first, walked-next, walked-less, walked-end}
-use Rattle.board.proofs.sweeps.arrive_receiving.Statement.{statement}
-use Rattle.board.proofs.sweeps.arrive_receiving.Tie as tie
+use Rattle.board.proofs.sweeps.arrival.arrive_receiving.Statement.{statement}
+use Rattle.board.proofs.sweeps.arrival.arrive_receiving.Tie as tie
 
 abbrev Inv-loop : tie.InvT-loop
 Inv-loop users hintprocessors₀ hintmoves₀ heldprocessors₀ heldnumbers₀ board₀ h c₀ hintprocessors hintmoves heldprocessors heldnumbers board c =
