@@ -25,27 +25,30 @@ hint-entry-requires c κs = search needs
 put-hint-entry-requires : tie.Need-put-hint-entry-requires
 put-hint-entry-requires c κs = search needs
 
+-- before the desk's pointer was read: the pointer that travels no more was made, and the channel's own entry read
+abbrev none : tie.After-hint-entry → tie.After-unknown
+none o = o .before .before .before .before .before
+
+abbrev read : tie.After-hint-entry → tie.After-channel-entry
+read o = none o .before .before
+
 returns : tie.Need-returns
 returns c =
     let o = c .before .before .before .before .before .before in
-    let u = o .before .before .before .before .before in
-    let y = u .before .before in
+    let y = read o in
     let i = y .before .before in
-    let k = i .before in
-    let a = k .before .args in
+    let a = i .before .before .args in
     λ heldprocessors heldnumbers notes.
-    newer-stored (a .hintprocessors .now) (a .hintmoves .now) heldprocessors heldnumbers notes (a .board .now) (a .d) (a .c) (k .channel-index .ensures .0) (i .entry-beside .ensures .0) (y .channel-entry .ensures) _ (u .unknown .ensures) (o .hint-entry .ensures) (o .before .before .before .put-channel-entry .ensures) (c .before .before .before .if1 .taken) (c .put-hint-entry .ensures)
+    newer-stored (a .hintprocessors .now) (a .hintmoves .now) heldprocessors heldnumbers notes (a .board .now) (a .d) (a .c) (i .before .channel-index .ensures .0) (i .entry-beside .ensures .0) (y .channel-entry .ensures) _ (none o .unknown .ensures) (o .hint-entry .ensures) (o .before .before .before .put-channel-entry .ensures) (c .before .before .before .if1 .taken) (c .put-hint-entry .ensures)
 
 returns-2 : tie.Need-returns-2
 returns-2 c =
     let o = c .before .before .before in
-    let u = o .before .before .before .before .before in
-    let y = u .before .before in
+    let y = read o in
     let i = y .before .before in
-    let k = i .before in
-    let a = k .before .args in
+    let a = i .before .before .args in
     λ heldprocessors heldnumbers notes.
-    older-stored (a .hintprocessors .now) (a .hintmoves .now) heldprocessors heldnumbers notes (a .board .now) (a .d) (a .c) (k .channel-index .ensures .0) (i .entry-beside .ensures .0) (y .channel-entry .ensures) _ (u .unknown .ensures) (o .hint-entry .ensures) (o .before .before .before .put-channel-entry .ensures) (c .if1 .left)
+    older-stored (a .hintprocessors .now) (a .hintmoves .now) heldprocessors heldnumbers notes (a .board .now) (a .d) (a .c) (i .before .channel-index .ensures .0) (i .entry-beside .ensures .0) (y .channel-entry .ensures) _ (none o .unknown .ensures) (o .hint-entry .ensures) (o .before .before .before .put-channel-entry .ensures) (c .if1 .left)
 
 pub arrive-sending-at-spec : {M : Type 1} → statement M
 arrive-sending-at-spec =
