@@ -18,8 +18,8 @@ use Rattle.rules.specs.declared.channel.Hint.{Hint}
 use Rattle.rules.specs.Cells.{withNoted}
 use Rattle.rules.specs.Tasks.{noTask}
 use Rattle.rules.specs.Systems.{entryIndex, readChannel, writeChannel, store, cellStored}
-use Rattle.board.specs.packing.Packed.{taskOf, taskWord, stateOf, stateNumber, channelOf, channelWord, low16, byte2, byte3, byte4, byte5, mark6, bit}
-use Rattle.board.specs.Lent.{lent, channelColumn, channelsOn, tasksOn, storeOf, hintIn, heldIn, noteIn, ChannelPut}
+use Rattle.board.specs.packing.Packed.{taskOf, taskWord, stateOf, stateNumber, channelOf, channelWord, travellingWord, low16, byte2, byte3, byte4, byte5, mark6, bit}
+use Rattle.board.specs.Lent.{lent, channelColumn, channelsOn, tasksOn, storeOf, hintIn, heldIn, noteIn, ChannelPut, travels}
 use Rattle.board.proofs.Laws.{getD-channel, set-channel, keep-channel-above, getD-task, set-task, keep-tasks}
 
 pub task-read : (board : List ℕ) (n : ℕ) {m : ℕ} → m ≡ n → 1 ≤ n → n ≤ 64 → taskOf (getD board (126 + 2 * m) 0) (getD board (126 + 2 * m + 1) 0) ≡ getD (tasksOn board) (n - 1) noTask
@@ -138,6 +138,49 @@ module _ (board : List ℕ) (k : ℕ) (y : Channel) {w : ℕ} (most : k < 128) (
 
   pub channel-put : ChannelPut k y board (set board k w)
   channel-put = (simp (length-set, long), channel-written, keep-tasks board k w most)
+
+-- the travelling pointer of a channel's own entry is stored, in the lowest 24 bits; the bits above them stay
+module _ (v p m : ℕ) (pe : p < 256) (me : m < 65536) where
+  abbrev anew : ℕ
+  anew = 16777216 * (v / 16777216) + (65536 * p + m)
+
+  above5 : byte5 anew ≡ byte5 v
+  above5 = omega arith
+
+  above6 : mark6 anew ≡ mark6 v
+  above6 = let e : anew / 281474976710656 % 2 ≡ v / 281474976710656 % 2 = omega arith in rw e refl
+
+  above3 : byte3 anew ≡ byte3 v
+  above3 = omega arith
+
+  above4 : byte4 anew ≡ byte4 v
+  above4 = omega arith
+
+  toward : byte2 anew ≡ p
+  toward = omega arith
+
+  counted : low16 anew ≡ m
+  counted = omega arith
+
+module _ (board : List ℕ) (k : ℕ) (h : Hint) {w : ℕ} (most : k < 128) (long : length board ≡ 256) (we : w ≡ travellingWord (getD board k 0) h) (pe : h .processor .0 < 256) (me : h .moves < 65536) where
+  stays : {A : Type 0} (f : ℕ → A) (def : A) → f (travellingWord (getD board k 0) h) ≡ f (getD board k 0) → channelColumn f (set board k w) ≡ set (channelColumn f board) k (getD (channelColumn f board) k def)
+  stays f def q = set-channel f board k w (getD (channelColumn f board) k def) def most (omega arith) (ap f we ∙ q ∙ sym (getD-channel f board k def most))
+
+  becomes : (f : ℕ → ℕ) (v : ℕ) → f (travellingWord (getD board k 0) h) ≡ v → channelColumn f (set board k w) ≡ set (channelColumn f board) k v
+  becomes f v q = set-channel f board k w v 0 most (omega arith) (ap f we ∙ q)
+
+  travelling-written : channelsOn (set board k w) ≡ writeChannel (channelsOn board) k (travels (readChannel (channelsOn board) k) h)
+  unfolding channelsOn
+  travelling-written =
+      let v = getD board k 0 in
+      let p = h .processor .0 in
+      let m = h .moves in
+      rw
+      (stays byte5 0 (above5 v p m pe me), stays mark6 false (above6 v p m pe me), stays byte3 0 (above3 v p m pe me), stays byte4 0 (above4 v p m pe me), becomes byte2 p (toward v p m pe me), becomes low16 m (counted v p m pe me))
+      refl
+
+  pub travelling-put : ChannelPut k (travels (readChannel (channelsOn board) k) h) board (set board k w)
+  travelling-put = (simp (length-set, long), travelling-written, keep-tasks board k w most)
 
 -- a cell is stored where each column has what it leaves there: a column that it leaves as it was need not be written (`set-getD`)
 module _ (hp hm op on notes : List ℕ) (k : Channels) (d : ProcessorId) (c : ChannelId) (x : Cell) {hp' hm' op' on' notes' : List ℕ} {k' : Channels} where

@@ -83,6 +83,10 @@ heldIn heldprocessors heldnumbers d c = heldEntry heldprocessors heldnumbers (en
 abbrev pub noteIn : List ℕ → ProcessorId → ChannelId → ProcessorId
 noteIn notes d c = processorId (getD notes (entryIndex d c) 0)
 
+-- a channel's own entry with another travelling pointer
+abbrev pub travels : Channel → Hint → Channel
+travels y h = record { granted = y .granted; awaiting = y .awaiting; carried = y .carried; travelling = h }
+
 -- at i a pointer was stored, a held offer, and on the board a channel's own entry
 abbrev pub HintPut : ℕ → Hint → List ℕ → List ℕ → List ℕ → List ℕ → Type 0
 HintPut i h hintprocessors hintmoves hintprocessors' hintmoves' = (hintprocessors' ≡ set hintprocessors i (h .processor .0)) × (hintmoves' ≡ set hintmoves i (h .moves))

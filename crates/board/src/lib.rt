@@ -15,7 +15,7 @@ ghost use mathlib.Core.Path.{_≡_};
 ghost use Prim.Native.Nat.{_≤_, _<_, _-_, _+_, _*_};
 ghost use lib.ListN.{set};
 ghost use Rattle.rules.specs.Systems.{entryIndex, readChannel, writeChannel, taskIn, taskStored};
-ghost use Rattle.board.specs.Lent.{Whole, AtCell, tasksOn, channelsOn, hintEntry, heldEntry, hintIn, heldIn, noteIn, HintPut, HeldPut, ChannelPut};
+ghost use Rattle.board.specs.Lent.{Whole, AtCell, tasksOn, channelsOn, hintEntry, heldEntry, hintIn, heldIn, noteIn, HintPut, HeldPut, ChannelPut, travels};
 use plan::ChannelId;
 use plan::ProcessorId;
 use plan::TaskId;
@@ -86,6 +86,23 @@ fn put_channel_entry(board: &mut [u64; 256], k: usize, y: Channel)
     ensures { λ r. ⌜ ChannelPut k y (now (board .entry)) (now (board .exit)) ⌝ }
 {
     board[k] = crate::packing::channel_word(y);
+}
+
+// The travelling pointer of the channel whose own entry is at k.
+fn travelling_entry(board: &[u64; 256], k: usize) -> Hint
+    requires { ⌜ k < 128 ⌝ }
+    ensures { λ r. ⌜ r ≡ readChannel (channelsOn (now (board .entry))) k .travelling ⌝ }
+{
+    crate::packing::travelling_of(board[k])
+}
+
+// The travelling pointer of the channel whose own entry is at k becomes h; the rest of the entry stays.
+fn put_travelling_entry(board: &mut [u64; 256], k: usize, h: Hint)
+    requires { ⌜ (k < 128) × Whole (now board) ⌝ }
+    ensures { λ r. ⌜ ChannelPut k (travels (readChannel (channelsOn (now (board .entry))) k) h) (now (board .entry)) (now (board .exit)) ⌝ }
+{
+    let v = board[k];
+    board[k] = crate::packing::with_travelling(v, h);
 }
 
 // Channel c's own entry.

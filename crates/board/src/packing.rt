@@ -3,7 +3,7 @@
 ghost use mathlib.Core.Path.{_≡_};
 ghost use Prim.Native.Nat.{_%_, _<_};
 ghost use lib.Dec.{eqb};
-ghost use Rattle.board.specs.packing.Packed.{channelOf, channelWord, stateOf, stateNumber, taskOf, taskWord, bit};
+ghost use Rattle.board.specs.packing.Packed.{channelOf, channelWord, travellingWord, stateOf, stateNumber, taskOf, taskWord, bit};
 use plan::ProcessorId;
 use plan::Word;
 use rules::channel::Channel;
@@ -40,14 +40,21 @@ fn bit(b: bool) -> u64
     if b { 1 } else { 0 }
 }
 
+// The travelling pointer of a channel's own entry, read from its number.
+pub fn travelling_of(v: u64) -> Hint
+    ensures { λ r. ⌜ r ≡ channelOf v .travelling ⌝ }
+{
+    Hint {
+        processor: ProcessorId(low8(v / 65536)),
+        moves: low16(v),
+    }
+}
+
 // A channel's own entry, read from its number.
 pub fn channel_of(v: u64) -> Channel
     ensures { λ r. ⌜ r ≡ channelOf v ⌝ }
 {
-    let travelling = Hint {
-        processor: ProcessorId(low8(v / 65536)),
-        moves: low16(v),
-    };
+    let travelling = travelling_of(v);
     let carried = Offer {
         processor: ProcessorId(low8(v / 16777216)),
         number: low8(v / 4294967296),
@@ -58,6 +65,14 @@ pub fn channel_of(v: u64) -> Channel
         carried: carried,
         travelling: travelling,
     }
+}
+
+// The number of a channel's own entry with another travelling pointer.
+pub fn with_travelling(v: u64, h: Hint) -> u64
+    ensures { λ r. ⌜ r ≡ travellingWord v h ⌝ }
+{
+    let toward = h.processor;
+    16777216 * (v / 16777216) + (65536 * (toward.0 as u64) + h.moves as u64)
 }
 
 // A channel's own entry as a number. The fields that most changes leave come first.

@@ -10,12 +10,11 @@ ghost use Rattle.rig_parts.specs.Sweeps.{ruledAt, forEnds, swept};
 ghost use Rattle.plan_index.specs.user_table.Users.{Indexed, sendersOf, receiversOf};
 ghost use Rattle.board.specs.Lent.{Whole, AtCell};
 ghost use Rattle.board.specs.sweeps.Sweeps.{HintsBy, PointersBy, OffersBy};
-use crate::channel_entry;
 use crate::channel_index;
 use crate::entry_beside;
 use crate::hint_entry;
-use crate::put_channel_entry;
 use crate::put_hint;
+use crate::put_travelling_entry;
 use plan::ChannelId;
 use plan::ProcessorId;
 use plan::TaskId;
@@ -42,9 +41,7 @@ fn depart_at<'a>(
     let k = channel_index(c);
     let i = entry_beside(d, k);
     let h = hint_entry(hintprocessors, hintmoves, i);
-    let mut y = channel_entry(board, k);
-    y.travelling = h;
-    put_channel_entry(board, k, y);
+    put_travelling_entry(board, k, h);
 }
 
 // The pointers of desk d for the channels that task t receives on become h.

@@ -19,7 +19,7 @@ use Rattle.rules.specs.Moves.{departureSending}
 use Rattle.rig_parts.specs.declared.sweep.CellRule.{CellRule}
 use Rattle.rig_parts.specs.declared.sweep.CellRule.the-variants.{Locate, ArriveReceiving, ArriveSending, DepartSending}
 use Rattle.rig_parts.specs.Sweeps.{ruleOf, ruledAt}
-use Rattle.board.specs.Lent.{Lent, Whole, lent, channelsOn, storeOf, hintEntry, heldEntry, hintIn, heldIn, noteIn, HintPut, HeldPut, ChannelPut}
+use Rattle.board.specs.Lent.{Lent, Whole, lent, channelsOn, storeOf, hintEntry, heldEntry, hintIn, heldIn, noteIn, HintPut, HeldPut, ChannelPut, travels}
 use Rattle.board.specs.Acted.{StoredBy}
 use Rattle.board.proofs.Stores.{columns-stored}
 
@@ -49,10 +49,7 @@ module _ (x : Cell) where
     unfolding takenOver
     dropped-cell h = rw (le-ltb _ _ h) refl
 
--- an entry of a channel with another travelling pointer, with another carried offer
-abbrev travels : Channel → Hint → Channel
-travels y h = record { granted = y .granted; awaiting = y .awaiting; carried = y .carried; travelling = h }
-
+-- an entry of a channel with another carried offer
 abbrev carries : Channel → Offer → Channel
 carries y o = record { granted = y .granted; awaiting = y .awaiting; carried = o; travelling = y .travelling }
 
@@ -99,28 +96,28 @@ module _ (hp hm op on notes board : List ℕ) (d : ProcessorId) (c : ChannelId) 
   located-stored h w p = ruled (Locate (h .processor) (h .moves)) (located (h .processor) (h .moves) cell) refl refl p held-kept (channel-kept w)
 
   -- the channel's own entry is at k, and the entry of desk d at i
-  module _ {k i : ℕ} (ke : k ≡ c .0 - 1) (ie : i ≡ 128 * (d .0 - 1) + k) {y : Channel} (ye : y ≡ readChannel (channelsOn board) k) where
+  module _ {k i : ℕ} (ke : k ≡ c .0 - 1) (ie : i ≡ 128 * (d .0 - 1) + k) where
     entry : i ≡ entryIndex d c
     entry = rw ke at ie
 
     -- the pointer travels with the sender
-    pub departure-stored : (board' : List ℕ) {h : Hint} → h ≡ hintEntry hp hm i → ChannelPut k (travels y h) board board'
+    pub departure-stored : (board' : List ℕ) {h : Hint} → h ≡ hintEntry hp hm i → ChannelPut k (travels (readChannel (channelsOn board) k) h) board board'
         → StoredBy (ruledAt DepartSending d c) before (lent hp hm op on notes board')
-    departure-stored board' he p = ruled DepartSending (departureSending cell) refl refl hint-kept held-kept (rw (ye, he, entry, ke) at p)
+    departure-stored board' he p = ruled DepartSending (departureSending cell) refl refl hint-kept held-kept (rw (he, entry, ke) at p)
 
-    -- the sender arrives: its travelling pointer is newer; it is not
-    module _ (board' : List ℕ) {none own : Hint} (ne : none ≡ unknown) (oe : own ≡ hintEntry hp hm i) (p : ChannelPut k (travels y none) board board') where
-      pub newer-stored : own .moves < y .travelling .moves → {hp' hm' : List ℕ} → HintPut i (y .travelling) hp hm hp' hm'
+    -- the sender arrives: its travelling pointer h is newer; it is not
+    module _ (board' : List ℕ) {h none own : Hint} (he : h ≡ readChannel (channelsOn board) k .travelling) (ne : none ≡ unknown) (oe : own ≡ hintEntry hp hm i) (p : ChannelPut k (travels (readChannel (channelsOn board) k) none) board board') where
+      pub newer-stored : own .moves < h .moves → {hp' hm' : List ℕ} → HintPut i h hp hm hp' hm'
           → StoredBy (ruledAt ArriveSending d c) before (lent hp' hm' op on notes board')
       newer-stored b q =
-          ruled ArriveSending (withTravelling (withHint cell (cell .channel .travelling)) unknown) (newer-cell cell (rw (ye, oe, entry, ke) at b)) refl (rw (ye, entry, ke) at q) held-kept (rw (ye, ne, ke) at p)
+          ruled ArriveSending (withTravelling (withHint cell (cell .channel .travelling)) unknown) (newer-cell cell (rw (he, oe, entry, ke) at b)) refl (rw (he, entry, ke) at q) held-kept (rw (ne, ke) at p)
 
-      pub older-stored : y .travelling .moves ≤ own .moves → StoredBy (ruledAt ArriveSending d c) before (lent hp hm op on notes board')
+      pub older-stored : h .moves ≤ own .moves → StoredBy (ruledAt ArriveSending d c) before (lent hp hm op on notes board')
       older-stored b =
-          ruled ArriveSending (withTravelling cell unknown) (older-cell cell (rw (ye, oe, entry, ke) at b)) refl hint-kept held-kept (rw (ye, ne, ke) at p)
+          ruled ArriveSending (withTravelling cell unknown) (older-cell cell (rw (he, oe, entry, ke) at b)) refl hint-kept held-kept (rw (ne, ke) at p)
 
     -- the receiver arrives: the held offer counts and is larger than the carried one; it counts and is not larger; it does not count
-    module _ (n : ℕ) {hp' hm' op' on' : List ℕ} {none o : Offer} (oe : o ≡ heldEntry op on i) (ne : none ≡ noOffer) (q : HintPut i (hint d n) hp hm hp' hm') (r : HeldPut i none op on op' on') where
+    module _ {y : Channel} (ye : y ≡ readChannel (channelsOn board) k) (n : ℕ) {hp' hm' op' on' : List ℕ} {none o : Offer} (oe : o ≡ heldEntry op on i) (ne : none ≡ noOffer) (q : HintPut i (hint d n) hp hm hp' hm') (r : HeldPut i none op on op' on') where
       pub larger-stored : (board' : List ℕ) → y .granted < o .number → y .carried .number < o .number → ChannelPut k (carries y o) board board'
           → StoredBy (ruledAt (ArriveReceiving d n) d c) before (lent hp' hm' op' on' notes board')
       larger-stored board' a b p =

@@ -7,6 +7,7 @@ use Rattle.rules.specs.declared.task.Task.{Task}
 use Rattle.rules.specs.declared.task.TaskState.{TaskState}
 use Rattle.rules.specs.declared.task.TaskState.the-variants.{Unborn, Ready, Waiting, Sending, Receiving, Moving, Done}
 use Rattle.rules.specs.declared.channel.Channel.{Channel}
+use Rattle.rules.specs.declared.channel.Hint.{Hint}
 use Rattle.rules.specs.Numbers.{processorId}
 use Rattle.rules.specs.Cells.{hint, offer}
 
@@ -40,6 +41,10 @@ channelOf v =
 abbrev pub channelWord : Channel → ℕ
 channelWord y =
     y .travelling .moves + 65536 * (y .travelling .processor .0) + 16777216 * (y .carried .processor .0) + 4294967296 * (y .carried .number) + 1099511627776 * (y .granted) + 281474976710656 * bit (y .awaiting)
+
+-- the same with another travelling pointer, from its number
+abbrev pub travellingWord : ℕ → Hint → ℕ
+travellingWord v h = 16777216 * (v / 16777216) + (65536 * (h .processor .0) + h .moves)
 
 -- a task's state
 abbrev pub stateOf : ℕ → TaskState

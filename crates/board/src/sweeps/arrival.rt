@@ -13,6 +13,8 @@ use crate::hint_entry;
 use crate::put_channel_entry;
 use crate::put_held_entry;
 use crate::put_hint_entry;
+use crate::put_travelling_entry;
+use crate::travelling_entry;
 use plan::ChannelId;
 use plan::ProcessorId;
 use plan::TaskId;
@@ -69,11 +71,9 @@ fn arrive_sending_at<'a>(
 {
     let k = channel_index(c);
     let i = entry_beside(d, k);
-    let mut y = channel_entry(board, k);
-    let h = y.travelling;
+    let h = travelling_entry(board, k);
     let none = cell_rules::order::unknown();
-    y.travelling = none;
-    put_channel_entry(board, k, y);
+    put_travelling_entry(board, k, none);
     let own = hint_entry(hintprocessors, hintmoves, i);
     if own.moves < h.moves {
         put_hint_entry(hintprocessors, hintmoves, i, h);

@@ -4,20 +4,17 @@ use Rattle.board.specs.packing.Packed.{channelOf}
 use Rattle.board.proofs.packing.channel_of.Statement.{statement}
 use Rattle.board.proofs.packing.channel_of.Tie as tie
 
+travelling-of-requires : tie.Need-travelling-of-requires
+travelling-of-requires c κs = search needs
+
 low8-requires : tie.Need-low8-requires
 low8-requires c κs = search needs
-
-low16-requires : tie.Need-low16-requires
-low16-requires c κs = search needs
 
 low8-requires-2 : tie.Need-low8-requires-2
 low8-requires-2 c κs = search needs
 
 low8-requires-3 : tie.Need-low8-requires-3
 low8-requires-3 c κs = search needs
-
-low8-requires-4 : tie.Need-low8-requires-4
-low8-requires-4 c κs = search needs
 
 is-odd-requires : tie.Need-is-odd-requires
 is-odd-requires c κs = search needs
@@ -30,10 +27,9 @@ pub channel-of-spec : {M : Type 1} → statement M
 channel-of-spec =
     tie.close
     (tie.spec
+    travelling-of-requires
     low8-requires
-    low16-requires
     low8-requires-2
     low8-requires-3
-    low8-requires-4
     is-odd-requires
     returns)

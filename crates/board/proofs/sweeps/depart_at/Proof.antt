@@ -13,19 +13,17 @@ entry-beside-requires c κs = search needs
 hint-entry-requires : tie.Need-hint-entry-requires
 hint-entry-requires c κs = search needs
 
-channel-entry-requires : tie.Need-channel-entry-requires
-channel-entry-requires c κs = search needs
-
-put-channel-entry-requires : tie.Need-put-channel-entry-requires
-put-channel-entry-requires c κs = search needs
+put-travelling-entry-requires : tie.Need-put-travelling-entry-requires
+put-travelling-entry-requires c κs = search needs
 
 returns : tie.Need-returns
 returns c =
-    let i = c .before .before .before .before .before in
+    let h = c .before .before in
+    let i = h .before in
     let k = i .before in
     let a = k .before .args in
     λ heldprocessors heldnumbers notes.
-    departure-stored (a .hintprocessors .now) (a .hintmoves .now) heldprocessors heldnumbers notes (a .board .now) (a .d) (a .c) (k .channel-index .ensures .0) (i .entry-beside .ensures .0) (c .before .before .channel-entry .ensures) _ (c .before .before .before .before .hint-entry .ensures) (c .put-channel-entry .ensures)
+    departure-stored (a .hintprocessors .now) (a .hintmoves .now) heldprocessors heldnumbers notes (a .board .now) (a .d) (a .c) (k .channel-index .ensures .0) (i .entry-beside .ensures .0) _ (h .hint-entry .ensures) (c .put-travelling-entry .ensures)
 
 pub depart-at-spec : {M : Type 1} → statement M
 depart-at-spec =
@@ -34,6 +32,5 @@ depart-at-spec =
     channel-index-requires
     entry-beside-requires
     hint-entry-requires
-    channel-entry-requires
-    put-channel-entry-requires
+    put-travelling-entry-requires
     returns)
