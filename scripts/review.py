@@ -230,6 +230,9 @@ class Edit:
                 if texts[file].count(old) != 1:
                     complain(self.where, f"its old text is found {texts[file].count(old)} times in {file}: {old}")
                     return
+                if old == value:
+                    complain(self.where, f'it changes nothing in {file}: {old}')
+                    return
                 self.places.append((file, texts[file].index(old)))
                 texts[file] = texts[file].replace(old, value)
                 old = None
