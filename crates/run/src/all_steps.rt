@@ -1,5 +1,8 @@
 // The steps of a file, carried out one after the other, each with its line: the loop owns the mail, five tables and the board are lent.
+
+// A step of the file, from its four bytes.
 mod decode;
+// The line of a step behind those that are written.
 mod lines;
 
 ghost use Rattle.board.specs.Lent.{lent};

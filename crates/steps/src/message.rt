@@ -1,10 +1,18 @@
 // A letter: what it does where it goes to, done or decided.
+
+// An advert: answered or noted.
 pub mod advert;
+// A call: its sender goes on, and the word leaves.
 pub mod call;
+// An ended letter: the child leaves its parent's set.
 pub mod ended;
+// A mover letter: the task arrives.
 pub mod mover;
+// An offer letter: answered, carried, forwarded, held or dropped.
 pub mod offer;
+// What the rules of one channel see of what is lent.
 mod site;
+// A word letter: its receiver takes the word.
 pub mod word;
 
 ghost use Rattle.board.specs.Lent.{lent};
