@@ -1,12 +1,16 @@
 -- Laws of sums over the numbers below n: of one number again and again, of a multiple, a bound; where each part is at most another, and where
--- one is less.
-use mathlib.Core.Path.{_≡_, refl}
-use mathlib.Core.Logic.{by-cases}
-use Prim.Native.Nat.{ℕ, zero, suc, _*_, _<_, _≤_}
+-- one is less; where one part is changed; where all parts are 0.
+use mathlib.Core.Path.{_≡_, refl, sym}
+use mathlib.Core.Logic.{_≢_, by-cases}
+use Prim.Native.Nat.{ℕ, zero, suc, _+_, _*_, _<_, _≤_}
 use native.Mathlib.Decide.{ℕ-discrete}
 use native.Mathlib.Nat.{mul-zero, mul-suc, mul-add}
 use native.Mathlib.Omega.{arith}
-use Rattle.base.specs.Range.{fold, sumBelow}
+use lib.Dec.{eqb}
+use borrow.Author.Tests.{ne-eqb}
+use Rattle.base.specs.Range.{fold, below, sumBelow}
+use Rattle.base.proofs.Folds.{fold-same}
+use Rattle.base.proofs.Tests.{and-true, and-false}
 
 pub sum-const : (w n : ℕ) → sumBelow n (λ k. w) ≡ w * n
 unfolding fold
@@ -36,3 +40,22 @@ sum-less (suc n) f g h j l s =
     (ℕ-discrete j n)
     (λ (e : j ≡ n). let s' : f n < g n = rw e at s in omega (arith, sum-le n f g (λ k l. h k (omega arith))))
     (λ ne. omega (arith, h n (omega arith), sum-less n f g (λ k l. h k (omega arith)) j (omega arith) s))
+
+-- g is f but at i
+pub sum-changed : (n i : ℕ) (f g : ℕ → ℕ) → i < n → ((j : ℕ) → j < n → j ≢ i → g j ≡ f j) → sumBelow n g + f i ≡ sumBelow n f + g i
+unfolding fold
+sum-changed zero i f g l same = absurd (omega arith)
+sum-changed (suc n) i f g l same =
+    by-cases
+    (ℕ-discrete i n)
+    (λ (e : i ≡ n). let before : sumBelow n g ≡ sumBelow n f = fold-same _+_ 0 n g f (λ j h. same j (omega arith) (λ z. omega arith)) in rw (e, before) (omega arith))
+    (λ ne. let last = same n (omega arith) (λ z. ne (sym z)) in let rest = sum-changed n i f g (omega arith) (λ j h. same j (omega arith)) in omega arith)
+
+pub sum-none : (n : ℕ) (f : ℕ → ℕ) → eqb (sumBelow n f) 0 ≡ below n (λ k. eqb (f k) 0)
+unfolding fold
+sum-none zero f = refl
+sum-none (suc n) f =
+    by-cases
+    (ℕ-discrete (f n) 0)
+    (λ (e : f n ≡ 0). let same : sumBelow n f + f n ≡ sumBelow n f = omega arith in rw (same, e, sum-none n f) (sym (and-true (below n (λ k. eqb (f k) 0)))))
+    (λ ne. rw (ne-eqb (sumBelow n f + f n) 0 (λ z. ne (omega arith)), ne-eqb (f n) 0 ne) (sym (and-false (below n (λ k. eqb (f k) 0)))))

@@ -41,6 +41,10 @@ alone g = (g ++ (end ∷ [])) ∷ []
 abbrev pair : Program → Program → Programs
 pair g h = (does opCreate 2 ∷ (g ++ (end ∷ []))) ∷ (h ++ (end ∷ [])) ∷ []
 
+-- task 1 creates tasks 2 and 3 and does the first, task 2 the second, task 3 the third
+abbrev three : Program → Program → Program → Programs
+three g h i = (does opCreate 2 ∷ does opCreate 3 ∷ (g ++ (end ∷ []))) ∷ (h ++ (end ∷ [])) ∷ (i ++ (end ∷ [])) ∷ []
+
 -- n tasks: task 1 creates tasks 2 to 63, task 2 those from 64 on
 abbrev many : ℕ → Programs
 many n =
@@ -92,11 +96,10 @@ others =
     ∷ plan (alone (does opCreate 1 ∷ [])) 3
     ∷ plan (pair (does opCreate 3 ∷ []) []) 3
     ∷ plan (alone (does opSend 0 ∷ [])) 3
-    ∷ plan (alone (does opSend 128 ∷ [])) 0
     ∷ plan (alone (does opSend 129 ∷ [])) 3
     ∷ plan (alone (does opReceive 0 ∷ [])) 3
-    ∷ plan (alone (does opReceive 128 ∷ [])) 0
     ∷ plan (alone (does opReceive 129 ∷ [])) 3
+    ∷ plan (pair (does opSend 1 ∷ does opReceive 128 ∷ []) (does opReceive 1 ∷ does opSend 128 ∷ [])) 0
     ∷ plan (alone (does opSet 65535 ∷ does opAdd 65535 ∷ does opSync 0 ∷ [])) 0
     -- 4: no finish at the end, one before it; after 3
     ∷ plan ((does opSync 0 ∷ []) ∷ []) 4
@@ -109,14 +112,24 @@ others =
     ∷ plan ((does opCreate 3 ∷ end ∷ []) ∷ (end ∷ []) ∷ (does opCreate 2 ∷ end ∷ []) ∷ []) 5
     ∷ plan (pair [] (does opCreate 2 ∷ [])) 5
     ∷ plan ((end ∷ []) ∷ (does opSync 0 ∷ []) ∷ []) 4
-    -- 6: one task at both ends, two senders, two receivers, two of each end in one task; after 5
+    -- 6: one task at both ends, two senders, two receivers, two of each end in one task
     ∷ plan (alone (does opSend 1 ∷ does opReceive 1 ∷ [])) 6
-    ∷ plan (pair (does opSend 1 ∷ []) (does opSend 1 ∷ [])) 6
-    ∷ plan (pair (does opReceive 1 ∷ []) (does opReceive 1 ∷ [])) 6
-    ∷ plan (pair (does opSend 128 ∷ []) (does opSend 128 ∷ [])) 6
+    ∷ plan (three (does opSend 1 ∷ []) (does opSend 1 ∷ []) (does opReceive 1 ∷ [])) 6
+    ∷ plan (three (does opReceive 1 ∷ []) (does opReceive 1 ∷ []) (does opSend 1 ∷ [])) 6
+    ∷ plan (three (does opSend 128 ∷ []) (does opReceive 128 ∷ []) (does opSend 128 ∷ [])) 6
     ∷ plan (pair (does opSend 1 ∷ does opSend 1 ∷ []) (does opReceive 1 ∷ does opReceive 1 ∷ [])) 0
     ∷ plan (pair (does opSend 1 ∷ does opReceive 2 ∷ []) (does opReceive 1 ∷ does opSend 2 ∷ [])) 0
+    -- only a send, only a receive, one of two channels, two with an end each; none used
+    ∷ plan (alone (does opSend 1 ∷ [])) 6
+    ∷ plan (alone (does opReceive 1 ∷ [])) 6
+    ∷ plan (pair (does opSend 128 ∷ does opSend 128 ∷ []) []) 6
+    ∷ plan (pair [] (does opReceive 128 ∷ [])) 6
+    ∷ plan (pair (does opSend 1 ∷ does opSend 2 ∷ []) (does opReceive 1 ∷ [])) 6
+    ∷ plan (pair (does opSend 1 ∷ []) (does opReceive 2 ∷ [])) 6
+    ∷ plan (pair [] []) 0
+    -- after 5
     ∷ plan ((end ∷ []) ∷ (does opSend 1 ∷ does opReceive 1 ∷ end ∷ []) ∷ []) 5
+    ∷ plan ((end ∷ []) ∷ (does opSend 1 ∷ end ∷ []) ∷ []) 5
     ∷ []
 
 abbrev pub edges : List Edge

@@ -13,7 +13,7 @@ use Rattle.plan.specs.declared.PlanAnswer.the-variants.{Accepted, Refuse
 use Rattle.plan.specs.declared.Refusal.the-variants.{BadLayout, BadInstruction, BadFinish, BadCreate, BadChannel}
 use Rattle.plan.specs.Kinds.{opCreate, opSync, opFinish, opSend, opReceive, opSet, opAdd, isFinish}
 use Rattle.plan.specs.Programs.{Program, Programs}
-use Rattle.plan.specs.Users.{users, oneTask, share, onlyLower}
+use Rattle.plan.specs.Users.{users, oneTask, share, oneEnd, onlyLower}
 
 -- "tasks 1 to 64, .. 1 to 64 instructions a task"
 abbrev pub sizeOk : ℕ → Bool
@@ -54,10 +54,12 @@ createOk m u = onlyLower u (users m opCreate u)
 unfoldable pub createsOk : Programs → Bool
 createsOk m = upTo (length m) (λ u. leb u 1 || createOk m u)
 
--- "6, a channel with two sending or two receiving tasks, or one task at both ends"
+-- "6, a channel with two sending or two receiving tasks, or one task at both ends", and "a channel with only one end"
 abbrev pub channelOk : Programs → ℕ → Bool
 channelOk m c =
-    oneTask (users m opSend c) && (oneTask (users m opReceive c) && not (share (users m opSend c) (users m opReceive c)))
+    oneTask (users m opSend c)
+    && (oneTask (users m opReceive c)
+    && (not (share (users m opSend c) (users m opReceive c)) && not (oneEnd (users m opSend c) (users m opReceive c))))
 
 unfoldable pub channelsOk : Programs → Bool
 channelsOk m = upTo 128 (channelOk m)

@@ -35,6 +35,13 @@ oneTask (t ∷ ts) = every (eqb t) ts
 abbrev pub share : List ℕ → List ℕ → Bool
 share ss rs = any (λ s. any (eqb s) rs) ss
 
+-- just one of two ends has a task
+abbrev pub oneEnd : List ℕ → List ℕ → Bool
+oneEnd [] [] = false
+oneEnd [] (r ∷ rs) = true
+oneEnd (s ∷ ss) [] = true
+oneEnd (s ∷ ss) (r ∷ rs) = false
+
 -- there is exactly one, and it is lower than u
 abbrev pub onlyLower : ℕ → List ℕ → Bool
 onlyLower u [] = false

@@ -12,3 +12,4 @@ pub mod Programs
 pub mod Users
 pub mod Parents
 pub mod Ends
+pub mod BothEnds

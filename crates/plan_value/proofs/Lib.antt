@@ -4,6 +4,7 @@ pub mod Sized
 pub mod Changes
 mod Nexts
 mod Marked
+pub mod Unpaired
 mod Uses
 mod Taken
 pub mod Entries

@@ -2,6 +2,7 @@
 pub mod Editions
 pub mod Marks
 pub mod Firsts
+pub mod Ends
 pub mod Pass
 pub mod Sizes
 pub mod Slots

@@ -21,6 +21,7 @@ use Rattle.plan_value.specs.declared.pass.Pass.{Pass}
 use Rattle.plan_value.specs.Editions.{secondOk, allowed}
 use Rattle.plan_value.specs.Marks.{keptOf, createMark, endMark, sameTest}
 use Rattle.plan_value.specs.Firsts.{allCreated}
+use Rattle.plan_value.specs.Ends.{unpairedIn}
 
 -- the pass, and the tables beside it: of creates, sends and receives the first task, by argument
 pub record Seen : Type 0 where
@@ -33,7 +34,7 @@ abbrev pub seen : Pass → List ℕ → List ℕ → List ℕ → Seen
 seen p x y z = record { pass = p; parents = x; senders = y; receivers = z }
 
 abbrev pub startPass : ℕ → Bool → Pass
-startPass n b = record { tasks = n; instructions = b; finishes = b; creates = b; channels = b }
+startPass n b = record { tasks = n; instructions = b; finishes = b; creates = b; channels = b; unpaired = 0 }
 
 abbrev pub entryOk : Edition → ℕ → Entry → Bool
 entryOk e n x = secondOk e (x .instruction .opcode) (x .second) && allowed e n (x .instruction)
@@ -65,6 +66,7 @@ takenSeen x s =
             finishes = s .pass .finishes && finishFits x;
             creates = s .pass .creates && nextCreate x (s .parents);
             channels = s .pass .channels && (nextEnd opSend x (s .senders) (s .receivers) && nextEnd opReceive x (s .receivers) (s .senders));
+            unpaired = unpairedIn (nextTable opSend x (s .senders)) (nextTable opReceive x (s .receivers));
           };
       parents = nextTable opCreate x (s .parents);
       senders = nextTable opSend x (s .senders);
@@ -107,6 +109,7 @@ pub record Passed (e : Edition) (n : ℕ) (l : List Entry) (s : Seen) : Type 0 w
   pub finishes : s .pass .finishes ≡ every finishFits l
   pub creates : s .pass .creates ≡ createsFine n l
   pub channels : s .pass .channels ≡ endsFine l
+  pub unpaired : s .pass .unpaired ≡ unpairedIn (s .senders) (s .receivers)
   pub parents : s .parents ≡ firstsOf opCreate l
   pub senders : s .senders ≡ firstsOf opSend l
   pub receivers : s .receivers ≡ firstsOf opReceive l
@@ -147,4 +150,4 @@ passAnswer p parents =
     unless (p .instructions) (Refused BadInstruction)
     (unless (p .finishes) (Refused BadFinish)
     (unless (p .creates && allCreated (p .tasks) parents) (Refused BadCreate)
-    (unless (p .channels) (Refused BadChannel) Accepted)))
+    (unless (p .channels && eqb (p .unpaired) 0) (Refused BadChannel) Accepted)))

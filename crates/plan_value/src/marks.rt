@@ -1,7 +1,9 @@
 // What one instruction more of task t says, where `old` is the first task that has such an instruction,
 // 0 for none.
 ghost use mathlib.Core.Path.{_≡_};
+ghost use Prim.Native.Nat.{_≤_};
 ghost use Rattle.plan_value.specs.Marks.{keptOf, createMark, endMark, sameTest};
+ghost use Rattle.plan_value.specs.Ends.{oneThere, unpairedThen};
 
 // The first of them then.
 pub fn kept(old: u8, t: u8) -> u8
@@ -32,6 +34,21 @@ pub fn end_fits(old: u8, other: u8, t: u8) -> bool
         return true;
     }
     old == t
+}
+
+// Of n channels with one end only, how many there are with one task more at an end, whose other end is task
+// `other`: at its first task the channel joins them, or gets its other end.
+pub fn unpaired_then(n: u8, old: u8, other: u8) -> u8
+    requires { ⌜ (oneThere old other ≤ n) × (n ≤ 128) ⌝ }
+    ensures { λ r. ⌜ r ≡ unpairedThen n old other ⌝ }
+{
+    if old != 0 {
+        return n;
+    }
+    if other == 0 {
+        return n + 1;
+    }
+    n - 1
 }
 
 // Both hold or neither.

@@ -3,7 +3,8 @@ ghost use mathlib.Core.Path.{_≡_};
 ghost use Prim.Native.Nat.{_≤_, _<_};
 ghost use lib.ListN.{getD};
 ghost use Rattle.plan_value.specs.Firsts.{allCreated};
-ghost use Rattle.plan_value.specs.Marks.{createMark, endMark, Entered};
+ghost use Rattle.plan_value.specs.Marks.{createMark, Entered};
+ghost use Rattle.plan_value.specs.Ends.{unpairedIn, EndEntered};
 ghost use Rattle.plan_value.specs.Pass.{seen, startPass, nextSeen, passAnswer};
 use crate::instruction::Edition;
 use crate::instruction::is_allowed;
@@ -12,6 +13,7 @@ use crate::marks::create_fits;
 use crate::marks::end_fits;
 use crate::marks::kept;
 use crate::marks::same;
+use crate::marks::unpaired_then;
 use plan::CREATE;
 use plan::FINISH;
 use plan::Instruction;
@@ -29,7 +31,7 @@ pub struct Entry {
 }
 
 // The pass over a plan of `tasks` tasks: whether no instruction is refused by 3; and then whether every
-// finish is in order, every create so far, and every channel.
+// finish is in order, every create so far, and every channel; and how many channels have one end so far.
 pub struct Pass {
     pub instructions: bool,
     // it stands between the flags: four in a row would be kept as one word, which is slower
@@ -37,6 +39,13 @@ pub struct Pass {
     pub finishes: bool,
     pub creates: bool,
     pub channels: bool,
+    pub unpaired: u8,
+}
+
+// Task at an end of a channel: whether this is in order, and how many channels have one end then.
+pub struct End {
+    pub fits: bool,
+    pub unpaired: u8,
 }
 
 impl Pass {
@@ -50,6 +59,7 @@ impl Pass {
             finishes: instructions,
             creates: instructions,
             channels: instructions,
+            unpaired: 0,
         }
     }
 }
@@ -65,15 +75,20 @@ fn enter_create<'a>(t: u8, a: usize, parents: &'a mut [u8; 129]) -> bool
     fits
 }
 
-// Task t at an end of channel a: the first task at this end stays; whether this is in order.
-fn enter_end<'a>(t: u8, a: usize, ends: &'a mut [u8; 129], others: &'a [u8; 129]) -> bool
-    requires { ⌜ a < 129 ⌝ }
-    ensures { λ r. ⌜ Entered a t (endMark (getD (now (ends .entry)) a 0) (getD (now (others .entry)) a 0) t) (now (ends .entry)) r (now (ends .exit)) ⌝ }
+// Task t at an end of channel a: the first task at this end stays. Before, n channels have one end.
+fn enter_end<'a>(t: u8, a: usize, n: u8, ends: &'a mut [u8; 129], others: &'a [u8; 129]) -> End
+    requires { ⌜ (1 ≤ t) × (1 ≤ a) × (a < 129) × (n ≡ unpairedIn (now ends) (now others)) ⌝ }
+    ensures { λ r. ⌜ EndEntered a t (now (ends .entry)) (now (others .entry)) r (now (ends .exit)) ⌝ }
 {
     let old = ends[a];
-    let fits = end_fits(old, others[a], t);
+    let other = others[a];
+    let fits = end_fits(old, other, t);
+    let unpaired = unpaired_then(n, old, other);
     ends[a] = kept(old, t);
-    fits
+    End {
+        fits: fits,
+        unpaired: unpaired,
+    }
 }
 
 // One instruction more. The tables take, by argument, the first task that creates, sends and receives. Its
@@ -86,7 +101,7 @@ pub fn next<'a>(
     senders: &'a mut [u8; 129],
     receivers: &'a mut [u8; 129],
 ) -> Pass
-    requires { ⌜ p .tasks ≤ 64 ⌝ }
+    requires { ⌜ (p .tasks ≤ 64) × (1 ≤ x .task) × (p .unpaired ≡ unpairedIn (now senders) (now receivers)) ⌝ }
     ensures { λ r. ⌜
         seen r (now (parents .exit)) (now (senders .exit)) (now (receivers .exit))
         ≡ nextSeen e x (seen p (now (parents .entry)) (now (senders .entry)) (now (receivers .entry))) ⌝ }
@@ -111,32 +126,37 @@ pub fn next<'a>(
             finishes: finishes,
             creates: creates,
             channels: p.channels,
+            unpaired: p.unpaired,
         };
     }
     if opcode == SEND {
         if !is_allowed(e, p.tasks, i) {
             return Pass::new(p.tasks, false);
         }
-        let channels = base::both(p.channels, enter_end(t, a, senders, receivers));
+        let end = enter_end(t, a, p.unpaired, senders, receivers);
+        let channels = base::both(p.channels, end.fits);
         return Pass {
             instructions: p.instructions,
             tasks: p.tasks,
             finishes: finishes,
             creates: p.creates,
             channels: channels,
+            unpaired: end.unpaired,
         };
     }
     if opcode == RECEIVE {
         if !is_allowed(e, p.tasks, i) {
             return Pass::new(p.tasks, false);
         }
-        let channels = base::both(p.channels, enter_end(t, a, receivers, senders));
+        let end = enter_end(t, a, p.unpaired, receivers, senders);
+        let channels = base::both(p.channels, end.fits);
         return Pass {
             instructions: p.instructions,
             tasks: p.tasks,
             finishes: finishes,
             creates: p.creates,
             channels: channels,
+            unpaired: end.unpaired,
         };
     }
     if !is_allowed(e, p.tasks, i) {
@@ -148,6 +168,7 @@ pub fn next<'a>(
         finishes: finishes,
         creates: p.creates,
         channels: p.channels,
+        unpaired: p.unpaired,
     }
 }
 
@@ -186,6 +207,9 @@ pub fn answer(p: Pass, parents: &[u8; 129]) -> PlanAnswer
         return PlanAnswer::Refused(Refusal::BadCreate);
     }
     if !p.channels {
+        return PlanAnswer::Refused(Refusal::BadChannel);
+    }
+    if p.unpaired != 0 {
         return PlanAnswer::Refused(Refusal::BadChannel);
     }
     PlanAnswer::Accepted
