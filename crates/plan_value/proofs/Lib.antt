@@ -4,9 +4,9 @@ pub mod Sized
 pub mod Changes
 mod Nexts
 mod Marked
-pub mod Unpaired
+mod Unpaired
 mod Uses
-mod Taken
+pub mod Taken
 pub mod Entries
 mod Present
 pub mod Meaning

@@ -13,6 +13,7 @@ use Rattle.base.specs.Range.{below}
 use Rattle.base.specs.Lists.{every, table}
 use Rattle.base.proofs.Tests.{and-true}
 use Rattle.base.proofs.Folds.{fold-same, fold-more}
+use Rattle.base.proofs.Sums.{sum-none}
 use Rattle.base.proofs.Tables.{as-table, table-more, table-same, getD-table, every-table}
 use Rattle.plan.specs.declared.Instruction.{Instruction}
 use Rattle.plan.specs.declared.PlanAnswer.the-variants.{Refused}
@@ -20,16 +21,18 @@ use Rattle.plan.specs.declared.Refusal.the-variants.{BadInstruction}
 use Rattle.plan.specs.Kinds.{opCreate, opSend, opReceive, isFinish, noInstruction}
 use Rattle.plan.specs.Programs.{Program, Programs, programAt, instructionAt}
 use Rattle.plan.specs.Layout.{countOf}
-use Rattle.plan.specs.Users.{firstOf, users}
-use Rattle.plan.specs.Refusals.{sizesOk, instructionOk, instructionsOk, finishOk, finishesOk, createOk, createsOk, channelsOk, structureAnswer}
+use Rattle.plan.specs.Users.{firstOf, users, oneTask, share, oneEnd}
+use Rattle.plan.specs.Refusals.{sizesOk, instructionOk, instructionsOk, finishOk, finishesOk, createOk, createsOk, channelOk, channelsOk, structureAnswer}
 use Rattle.plan_laws.proofs.Answers.{sized}
 use Rattle.plan_value.specs.declared.pass.Pass.{Pass}
 use Rattle.plan_value.specs.Editions.{presentEdition, secondOk, allowed}
 use Rattle.plan_value.specs.Marks.{sameTest}
 use Rattle.plan_value.specs.Firsts.{firstUsers, Firsts, hasParent, allCreated}
-use Rattle.plan_value.specs.Pass.{seen, entryOk, finishFits, usesOf, firstsOf, createFine, endsFit, endsFine, Passed, entries, PassOf, passAnswer, zerosIn}
+use Rattle.plan_value.specs.Ends.{oneThere, unpairedIn}
+use Rattle.plan_value.specs.Pass.{seen, entryOk, finishFits, usesOf, firstsOf, createFine, endsFit, Passed, entries, PassOf, passAnswer, zerosIn}
 use Rattle.plan_value.proofs.Changes.{below-both, every-below}
 use Rattle.plan_value.proofs.Marked.{create-whole}
+use Rattle.plan_value.proofs.Unpaired.{there-none}
 use Rattle.plan_value.proofs.Uses.{uses-some}
 use Rattle.plan_value.proofs.Entries.{every-entries, uses-entries}
 use Rattle.plan_value.proofs.Present.{second-present, allowed-present}
@@ -99,6 +102,9 @@ module _ (m : Programs) (second : ℕ → ℕ → ℕ) where
         receivers = so .receivers ∙ first-users opReceive;
       }
 
+  first-at : (k c : ℕ) {f : List ℕ} → f ≡ firstsOf k (entries m second) → c < 128 → getD f (suc c) 0 ≡ firstOf (usesOf k (suc c) (entries m second))
+  first-at k c e h = rw e (getD-table 129 (λ a. firstOf (usesOf k a (entries m second))) (suc c) 0 (omega arith))
+
   module _ (sizes : sizesOk m ≡ true) where
     finishes-are : every finishFits (entries m second) ≡ finishesOk m
     unfolding finishesOk
@@ -106,14 +112,6 @@ module _ (m : Programs) (second : ℕ → ℕ → ℕ) where
         every-entries m second finishFits
         ∙ fold-same _&&_ true (length m) _ (λ k. finishOk (programAt m k)) (λ k h. sym (finish-of (programAt m k) (sized m sizes .counts k h .some)))
         ∙ sym (every-below finishOk m [])
-
-    channels-are : endsFine (entries m second) ≡ channelsOk m
-    unfolding channelsOk
-    channels-are =
-        fold-same _&&_ true 128 _ _
-        (λ k h.
-        ap (λ (l : List ℕ). endsFit l (usesOf opReceive (suc k) (entries m second))) (uses-entries m second opSend (suc k))
-        ∙ ap (endsFit (users m opSend (suc k))) (uses-entries m second opReceive (suc k)))
 
     module _ {p : Pass} {x y z : List ℕ} (so : Passed presentEdition (length m) (entries m second) (seen p x y z)) where
       creates-are : p .creates && allCreated (p .tasks) x ≡ createsOk m
@@ -126,9 +124,8 @@ module _ (m : Programs) (second : ℕ → ℕ → ℕ) where
           ∙ sym (below-both n (λ k. leb (suc k) 1 || createFine (suc k) (usesOf opCreate (suc k) l)) (hasParent x))
           ∙ fold-same _&&_ true n _ (λ k. leb (suc k) 1 || createOk m (suc k))
           (λ k h.
-          let few : suc k < 129 = omega (arith, sized m sizes .tasks .few) in
-          let parent : getD x (k + 1) 0 ≡ firstOf (usesOf opCreate (suc k) l) =
-          rw (add-one k, so .parents) (getD-table 129 (λ a. firstOf (usesOf opCreate a l)) (suc k) 0 few) in
+          let few : k < 128 = omega (arith, sized m sizes .tasks .few) in
+          let parent : getD x (k + 1) 0 ≡ firstOf (usesOf opCreate (suc k) l) = rw (add-one k) (first-at opCreate k (so .parents) few) in
           rw (parent, add-one k)
           (go (leb (suc k) 1) (createFine (suc k) (usesOf opCreate (suc k) l)) (not (eqb (firstOf (usesOf opCreate (suc k) l)) 0))
           ∙ ap (λ (b : Bool). leb (suc k) 1 || b) (sym (create-whole (suc k) (usesOf opCreate (suc k) l) (uses-some opCreate (suc k) l (so .tasks))))
@@ -137,6 +134,26 @@ module _ (m : Programs) (second : ℕ → ℕ → ℕ) where
           go : (b c d : Bool) → (b || c) && (b || d) ≡ b || (c && d)
           go true c d = refl
           go false c d = refl
+
+      channels-are : p .channels && eqb (p .unpaired) 0 ≡ channelsOk m
+      unfolding channelsOk unpairedIn
+      channels-are =
+          let l = entries m second in
+          let ss : ℕ → List ℕ = λ k. usesOf opSend (suc k) l in
+          let rs : ℕ → List ℕ = λ k. usesOf opReceive (suc k) l in
+          rw (so .channels, so .unpaired, sum-none 128 (λ k. oneThere (getD y (suc k) 0) (getD z (suc k) 0)))
+          (sym (below-both 128 (λ k. endsFit (ss k) (rs k)) (λ k. eqb (oneThere (getD y (suc k) 0) (getD z (suc k) 0)) 0))
+          ∙ fold-same _&&_ true 128 _ (λ k. channelOk m (suc k))
+          (λ k h.
+          rw (first-at opSend k (so .senders) h, first-at opReceive k (so .receivers) h,
+          there-none (ss k) (rs k) (uses-some opSend (suc k) l (so .tasks)) (uses-some opReceive (suc k) l (so .tasks)),
+          uses-entries m second opSend (suc k), uses-entries m second opReceive (suc k))
+          (go (users m opSend (suc k)) (users m opReceive (suc k)))))
+        where
+          go : (s r : List ℕ) → endsFit s r && not (oneEnd s r) ≡ oneTask s && (oneTask r && (not (share s r) && not (oneEnd s r)))
+          go s r =
+              and-assoc (oneTask s) (oneTask r && not (share s r)) (not (oneEnd s r))
+              ∙ ap (λ (b : Bool). oneTask s && b) (and-assoc (oneTask r) (not (share s r)) (not (oneEnd s r)))
 
     -- 3 to 6
     pub answer-is : {p : Pass} {x y z : List ℕ} → PassOf presentEdition m second p x y z
@@ -149,4 +166,4 @@ module _ (m : Programs) (second : ℕ → ℕ → ℕ) where
         go false e = rw (← instructions-are, ← q .instructions, e) refl
         go true e =
             let so = q .passed e in
-            rw (← instructions-are, ← q .instructions, e, ← finishes-are, ← so .finishes, ← creates-are so, ← channels-are, ← so .channels) refl
+            rw (← instructions-are, ← q .instructions, e, ← finishes-are, ← so .finishes, ← creates-are so, ← channels-are so) refl

@@ -12,19 +12,21 @@ use borrow.Author.Tests.{eq-eqb, ne-eqb, le-leb, lt-leb}
 use Rattle.base.specs.Range.{below}
 use Rattle.base.specs.Lists.{every, any}
 use Rattle.base.proofs.Folds.{fold-same}
-use Rattle.base.proofs.Tables.{all-same, getD-table, table-same, set-table}
+use Rattle.base.proofs.Tables.{all-same, length-table, getD-table, table-same, set-table}
 use Rattle.base.proofs.Tests.{and-both, and-true, and-false, within-low, within-high, below-all, every-append}
 use Rattle.plan.specs.Kinds.{opCreate, opSend, opReceive}
 use Rattle.plan.specs.Users.{firstOf}
-use Rattle.plan_laws.proofs.Programs.{create-operand, send-operand, receive-operand}
+use Rattle.plan_laws.proofs.Programs.{create-operand}
 use Rattle.plan_value.specs.declared.instruction.Edition.{Edition}
 use Rattle.plan_value.specs.declared.pass.Entry.{Entry}
 use Rattle.plan_value.specs.Marks.{keptOf, createMark, endMark}
 use Rattle.plan_value.specs.Firsts.{NoFirsts}
+use Rattle.plan_value.specs.Ends.{Counted}
 use Rattle.plan_value.specs.Pass.{Seen, seen, startPass, entryOk, finishFits, nextTable, nextCreate, nextEnd, takenSeen, usesOf, firstsOf, createFine, createsFine, endsFit, endsFine, Passed}
 use Rattle.plan_value.proofs.Changes.{or-true, below-mark}
 use Rattle.plan_value.proofs.Nexts.{argument-fine, create-fits, send-fits, receive-fits}
 use Rattle.plan_value.proofs.Marked.{first-more, create-more, ends-swap, ends-more}
+use Rattle.plan_value.proofs.Unpaired.{unpaired-none}
 use Rattle.plan_value.proofs.Uses.{uses-same, uses-one, uses-some}
 
 -- of none
@@ -42,6 +44,7 @@ pass-none e n none =
       finishes = refl;
       creates = sym (below-all (λ k. leb (suc k) 1 || createFine (suc k) (usesOf opCreate (suc k) [])) n (λ k h. or-true (leb (suc k) 1)));
       channels = sym (below-all (λ k. endsFit (usesOf opSend (suc k) []) (usesOf opReceive (suc k) [])) 128 (λ k h. unfold any in refl));
+      unpaired = sym (rw (none .senders, none .receivers) unpaired-none);
       parents = no-uses opCreate (none .parents);
       senders = no-uses opSend (none .senders);
       receivers = no-uses opReceive (none .receivers);
@@ -122,10 +125,9 @@ module _ (l : List Entry) (x : Entry) (some : every (λ x. leb 1 (x .task)) l �
       fold-same _&&_ true 128 (endsOver k j r) (endsOver j k r)
       (λ c q. ends-swap (usesOf k (suc c) r) (usesOf j (suc c) r) (uses-some k (suc c) r h) (uses-some j (suc c) r h))
 
-  end-next : (k j : ℕ) {f g : List ℕ} → f ≡ firstsOf k l → g ≡ firstsOf j l → kind ≡ k → k ≢ j → 1 ≤ a → a ≤ 128
+  end-next : (k j : ℕ) {f g : List ℕ} → f ≡ firstsOf k l → g ≡ firstsOf j l → kind ≡ k → k ≢ j → 1 ≤ a → a < 129
       → below 128 (endsOver k j (l ++ (x ∷ []))) ≡ below 128 (endsOver k j l) && endMark (getD f a 0) (getD g a 0) (x .task)
-  end-next k j {f} {g} e d o ne low high =
-      let fits : a < 129 = omega arith in
+  end-next k j {f} {g} e d o ne low fits =
       let other = other-kind j (λ z. ne (sym o ∙ z)) in
       let at : suc (a - 1) ≡ a = omega arith in
       let whole = rw (here k o) at (uses-some k a (l ++ (x ∷ [])) some-then) in
@@ -134,7 +136,7 @@ module _ (l : List Entry) (x : Entry) (some : every (λ x. leb 1 (x .task)) l �
       (rw (at, here k o, other a, first-here k e fits, first-here j d fits)
       (ends-more (usesOf k a l) (usesOf j a l) (x .task) (uses-some k a l some) (ne-eqb (x .task) 0 (λ z. omega arith)) whole))
 
-  channels-next : {f g : List ℕ} → f ≡ firstsOf opSend l → g ≡ firstsOf opReceive l → (kind ≡ opSend → (1 ≤ a) × (a ≤ 128)) → (kind ≡ opReceive → (1 ≤ a) × (a ≤ 128))
+  channels-next : {f g : List ℕ} → f ≡ firstsOf opSend l → g ≡ firstsOf opReceive l → (kind ≡ opSend → (1 ≤ a) × (a < 129)) → (kind ≡ opReceive → (1 ≤ a) × (a < 129))
       → endsFine (l ++ (x ∷ [])) ≡ endsFine l && (nextEnd opSend x f g && nextEnd opReceive x g f)
   channels-next {f} {g} e d sent received =
       by-cases
@@ -156,6 +158,14 @@ module _ (l : List Entry) (x : Entry) (some : every (λ x. leb 1 (x .task)) l �
       (λ c h. rw (other-kind opSend ne (suc c), other-kind opReceive no (suc c)) refl)
       ∙ sym (and-true (endsFine l)))))
 
+pub pass-counted : {e : Edition} {n : ℕ} {l : List Entry} {s : Seen} → Passed e n l s → Counted (s .pass .unpaired) (s .senders) (s .receivers)
+pass-counted {l = l} p =
+    record {
+      size = rw (p .senders) (length-table 129 (λ a. firstOf (usesOf opSend a l)));
+      other-size = rw (p .receivers) (length-table 129 (λ a. firstOf (usesOf opReceive a l)));
+      count = p .unpaired;
+    }
+
 pub pass-taken : (e : Edition) (n : ℕ) {l : List Entry} (x : Entry) {s : Seen} → n ≤ 64 → Passed e n l s → 1 ≤ x .task → entryOk e n x ≡ true → Passed e n (l ++ (x ∷ [])) (takenSeen x s)
 unfolding every
 pass-taken e n {l} x {s} few p task fine =
@@ -175,10 +185,10 @@ pass-taken e n {l} x {s} few p task fine =
           ap (λ (b : Bool). b && (nextEnd opSend x (s .senders) (s .receivers) && nextEnd opReceive x (s .receivers) (s .senders))) (p .channels)
           ∙ sym
           (channels-next l x (p .tasks) task (p .senders) (p .receivers)
-          (λ o. let r = send-operand n (x .instruction) ok o in (within-low 1 128 a r, within-high 1 128 a r))
-          (λ o. let r = receive-operand n (x .instruction) ok o in (within-low 1 128 a r, within-high 1 128 a r)));
+          (send-fits e n x fine) (receive-fits e n x fine));
+      unpaired = refl;
       parents = firsts-next l x (p .tasks) task opCreate (p .parents) (create-fits e n x fine few);
-      senders = firsts-next l x (p .tasks) task opSend (p .senders) (send-fits e n x fine few);
-      receivers = firsts-next l x (p .tasks) task opReceive (p .receivers) (receive-fits e n x fine few);
+      senders = firsts-next l x (p .tasks) task opSend (p .senders) (λ o. send-fits e n x fine o .1);
+      receivers = firsts-next l x (p .tasks) task opReceive (p .receivers) (λ o. receive-fits e n x fine o .1);
       tasks = some-then l x (p .tasks) task;
     }

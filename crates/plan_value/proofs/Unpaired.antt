@@ -6,19 +6,19 @@ use mathlib.Core.Logic.{_≢_, by-cases}
 use Prim.Native.Nat.{ℕ, suc, _+_, _-_, _<_, _≤_}
 use native.Mathlib.Decide.{ℕ-discrete}
 use native.Mathlib.Omega.{arith}
-use lib.ListN.{length, getD, set}
+use lib.ListN.{length, getD, set, replicate}
 use lib.Seq.{getD-set-same, getD-set-other}
 use lib.Dec.{eqb, leb}
 use borrow.Author.Tests.{ne-eqb}
 use Rattle.base.specs.Choice.{pick}
-use Rattle.base.specs.Range.{below, sumBelow}
+use Rattle.base.specs.Range.{fold, sumBelow}
 use Rattle.base.specs.Lists.{every}
 use Rattle.base.proofs.Folds.{fold-same}
 use Rattle.base.proofs.Joins.{part-of-sum}
 use Rattle.base.proofs.Sums.{sum-at-most, sum-changed, sum-none}
 use Rattle.plan.specs.Users.{firstOf, oneEnd}
 use Rattle.plan_value.specs.Marks.{keptOf}
-use Rattle.plan_value.specs.Ends.{oneThere, unpairedIn, unpairedThen}
+use Rattle.plan_value.specs.Ends.{oneThere, unpairedIn, Counted, unpairedThen}
 use Rattle.plan_value.proofs.Marked.{first-some}
 
 there-swap : (a b : ℕ) → oneThere a b ≡ oneThere b a
@@ -33,6 +33,14 @@ there-swap a b = go (eqb a 0) (eqb b 0)
 pub unpaired-swap : (ends others : List ℕ) → unpairedIn ends others ≡ unpairedIn others ends
 unfolding unpairedIn
 unpaired-swap ends others = fold-same _+_ 0 128 _ _ (λ k h. there-swap (getD ends (suc k) 0) (getD others (suc k) 0))
+
+pub counted-swap : {n : ℕ} {ends others : List ℕ} → Counted n ends others → Counted n others ends
+counted-swap {n} {ends} {others} c = record { size = c .other-size; other-size = c .size; count = c .count ∙ unpaired-swap ends others }
+
+-- nobody is at either end of any
+pub unpaired-none : unpairedIn (replicate 129 0) (replicate 129 0) ≡ 0
+unfolding unpairedIn fold
+unpaired-none = refl
 
 few-there : (a b : ℕ) → oneThere a b ≤ 1
 few-there a b = go (eqb a 0) (eqb b 0)

@@ -2,7 +2,7 @@
 use mathlib.Core.Path.{_≡_}
 use mathlib.Core.List.{List}
 use Prim.Native.Nat.{ℕ, suc, _+_, _-_}
-use lib.ListN.{getD}
+use lib.ListN.{length, getD}
 use lib.Dec.{eqb}
 use Rattle.base.specs.Choice.{pick}
 use Rattle.base.specs.Range.{sumBelow}
@@ -16,6 +16,12 @@ oneThere a b = pick (eqb a 0) (pick (eqb b 0) 0 1) (pick (eqb b 0) 1 0)
 -- of the channels 1 to 128
 unfoldable pub unpairedIn : List ℕ → List ℕ → ℕ
 unpairedIn ends others = sumBelow 128 (λ k. oneThere (getD ends (suc k) 0) (getD others (suc k) 0))
+
+-- n of them, by tables of 129 entries
+pub record Counted (n : ℕ) (ends others : List ℕ) : Type 0 where
+  pub size : length ends ≡ 129
+  pub other-size : length others ≡ 129
+  pub count : n ≡ unpairedIn ends others
 
 -- .. with one task more at an end, where `old` is the first there before and `other` the first at the other end
 abbrev pub unpairedThen : ℕ → ℕ → ℕ → ℕ

@@ -4,7 +4,7 @@ ghost use Prim.Native.Nat.{_≤_, _<_};
 ghost use lib.ListN.{getD};
 ghost use Rattle.plan_value.specs.Firsts.{allCreated};
 ghost use Rattle.plan_value.specs.Marks.{createMark, Entered};
-ghost use Rattle.plan_value.specs.Ends.{unpairedIn, EndEntered};
+ghost use Rattle.plan_value.specs.Ends.{Counted, EndEntered};
 ghost use Rattle.plan_value.specs.Pass.{seen, startPass, nextSeen, passAnswer};
 use crate::instruction::Edition;
 use crate::instruction::is_allowed;
@@ -77,7 +77,7 @@ fn enter_create<'a>(t: u8, a: usize, parents: &'a mut [u8; 129]) -> bool
 
 // Task t at an end of channel a: the first task at this end stays. Before, n channels have one end.
 fn enter_end<'a>(t: u8, a: usize, n: u8, ends: &'a mut [u8; 129], others: &'a [u8; 129]) -> End
-    requires { ⌜ (1 ≤ t) × (1 ≤ a) × (a < 129) × (n ≡ unpairedIn (now ends) (now others)) ⌝ }
+    requires { ⌜ (1 ≤ t) × (1 ≤ a) × (a < 129) × Counted n (now ends) (now others) ⌝ }
     ensures { λ r. ⌜ EndEntered a t (now (ends .entry)) (now (others .entry)) r (now (ends .exit)) ⌝ }
 {
     let old = ends[a];
@@ -101,7 +101,7 @@ pub fn next<'a>(
     senders: &'a mut [u8; 129],
     receivers: &'a mut [u8; 129],
 ) -> Pass
-    requires { ⌜ (p .tasks ≤ 64) × (1 ≤ x .task) × (p .unpaired ≡ unpairedIn (now senders) (now receivers)) ⌝ }
+    requires { ⌜ (p .tasks ≤ 64) × (1 ≤ x .task) × Counted (p .unpaired) (now senders) (now receivers) ⌝ }
     ensures { λ r. ⌜
         seen r (now (parents .exit)) (now (senders .exit)) (now (receivers .exit))
         ≡ nextSeen e x (seen p (now (parents .entry)) (now (senders .entry)) (now (receivers .entry))) ⌝ }

@@ -2,7 +2,7 @@
 use mathlib.Core.Path.{_≡_, sym, _∙_}
 use mathlib.Core.Bool.{true}
 use borrow.Author.Needs.{needs}
-use borrow.Author.Tests.{not-true, not-false}
+use borrow.Author.Tests.{eq-eqb, ne-eqb, not-true, not-false}
 use Rattle.plan_value.specs.declared.pass.Pass.{Pass}
 use Rattle.plan_value.proofs.pass.answer.Statement.{statement}
 use Rattle.plan_value.proofs.pass.answer.Tie as tie
@@ -61,7 +61,8 @@ returns-5 c =
 
 returns-6 : tie.Need-returns-6
 returns-6 c =
-    let f = c .before .before in
+    let g = c .before .before in
+    let f = g .before .before in
     let a = f .before in
     let d = a .before in
     let e = d .before .before in
@@ -70,10 +71,27 @@ returns-6 c =
       finishes e,
       creates d,
       sym (a .all-created .ensures) ∙ not-false (a .all-created .result) (f .if4 .left),
-      not-false (pass3 d .channels) (c .if5 .left),
+      not-false (pass3 d .channels) (g .if5 .left),
+      ne-eqb (pass3 d .unpaired) 0 (c .if6 .taken),
+    )
+
+returns-7 : tie.Need-returns-7
+returns-7 c =
+    let g = c .before .before in
+    let f = g .before .before in
+    let a = f .before in
+    let d = a .before in
+    let e = d .before .before in
+    simp (
+      instructions (e .before .before),
+      finishes e,
+      creates d,
+      sym (a .all-created .ensures) ∙ not-false (a .all-created .result) (f .if4 .left),
+      not-false (pass3 d .channels) (g .if5 .left),
+      eq-eqb (pass3 d .unpaired) 0 (c .if6 .left),
     )
 
 pub answer-spec : {M : Type 1} → statement M
 answer-spec =
     tie.close
-    (tie.spec returns returns-2 returns-3 all-created-requires returns-4 returns-5 returns-6)
+    (tie.spec returns returns-2 returns-3 all-created-requires returns-4 returns-5 returns-6 returns-7)

@@ -9,6 +9,7 @@ use Rattle.plan_value.specs.declared.pass.Entry.{Entry}
 use Rattle.plan_value.specs.Editions.{secondOk, allowed}
 use Rattle.plan_value.specs.Pass.{Seen, seen, entryOk, finishFits}
 use Rattle.plan_value.proofs.Nexts.{next-refused, create-fits, send-fits, receive-fits, next-create, next-send, next-receive, next-other}
+use Rattle.plan_value.proofs.Unpaired.{counted-swap}
 use Rattle.plan_value.proofs.pass.next.Statement.{statement}
 use Rattle.plan_value.proofs.pass.next.Tie as tie
 
@@ -83,7 +84,7 @@ enter-create-requires : tie.Need-enter-create-requires
 enter-create-requires c κs =
     let l = c .before .before in
     let b = l .before .before in
-    rw (on b) (create-fits (e b) (before b .pass .tasks) (x b) (fine b (l .is-allowed .ensures) (c .before .if3 .left)) (start b .pre) (l .before .if2 .taken))
+    rw (on b) (create-fits (e b) (before b .pass .tasks) (x b) (fine b (l .is-allowed .ensures) (c .before .if3 .left)) (start b .pre .0) (l .before .if2 .taken))
 
 both-requires-2 : tie.Need-both-requires-2
 both-requires-2 c κs = search needs
@@ -93,7 +94,7 @@ returns-3 c =
     let n = c .before in
     let l = n .before .before .before in
     let b = l .before .before in
-    next-create (e b) (x b) (before b) (fine b (l .is-allowed .ensures) (n .before .before .if3 .left)) (finish b) (on b) (l .before .if2 .taken) (c .both2 .ensures) (n .enter-create .ensures)
+    next-create (e b) (x b) (before b) (fine b (l .is-allowed .ensures) (n .before .before .if3 .left)) (finish b) (on b) (start b .pre .2 .count) (l .before .if2 .taken) (c .both2 .ensures) (n .enter-create .ensures)
 
 is-allowed-requires-2 : tie.Need-is-allowed-requires-2
 is-allowed-requires-2 c κs = search needs
@@ -112,7 +113,8 @@ enter-end-requires c κs =
     let f = c .before .before in
     let l = f .before in
     let b = l .before .before .before in
-    rw (on b) (send-fits (e b) (before b .pass .tasks) (x b) (fine b (l .is-allowed2 .ensures) (f .if5 .left)) (start b .pre) (l .before .if4 .taken))
+    let (low, high) = send-fits (e b) (before b .pass .tasks) (x b) (fine b (l .is-allowed2 .ensures) (f .if5 .left)) (l .before .if4 .taken) in
+    (start b .pre .1, rw (on b) low, rw (on b) high, start b .pre .2)
 
 both-requires-3 : tie.Need-both-requires-3
 both-requires-3 c κs = search needs
@@ -142,7 +144,8 @@ enter-end-requires-2 c κs =
     let f = c .before .before in
     let l = f .before in
     let b = l .before .before .before .before in
-    rw (on b) (receive-fits (e b) (before b .pass .tasks) (x b) (fine b (l .is-allowed3 .ensures) (f .if7 .left)) (start b .pre) (l .before .if6 .taken))
+    let (low, high) = receive-fits (e b) (before b .pass .tasks) (x b) (fine b (l .is-allowed3 .ensures) (f .if7 .left)) (l .before .if6 .taken) in
+    (start b .pre .1, rw (on b) low, rw (on b) high, counted-swap (start b .pre .2))
 
 both-requires-4 : tie.Need-both-requires-4
 both-requires-4 c κs = search needs
@@ -172,7 +175,7 @@ returns-9 c =
     let l = c .before in
     let d = l .before in
     let b = d .before .before .before in
-    next-other (e b) (x b) (before b) (fine b (l .is-allowed4 .ensures) (c .if8 .left)) (finish b) (d .before .before .if2 .left) (d .before .if4 .left) (d .if6 .left)
+    next-other (e b) (x b) (before b) (fine b (l .is-allowed4 .ensures) (c .if8 .left)) (finish b) (start b .pre .2 .count) (d .before .before .if2 .left) (d .before .if4 .left) (d .if6 .left)
 
 pub next-spec : {M : Type 1} → statement M
 next-spec =
