@@ -105,27 +105,29 @@ workedSample =
       channels = [] ∷ [] ∷ (7 ∷ []) ∷ [];
     }
 
--- a sync waits for the child created before it and not for the one created after it; that one sends to nobody, so the finish waits for ever
+-- a sync waits for the child created before it and not for the one created after it; that one and its own child each receive first what the
+-- other sends later, so the finish waits for ever
 abbrev childrenSample : Sample
 childrenSample =
     record {
       plan =
           (does opCreate 2 ∷ does opSync 0 ∷ does opCreate 3 ∷ end ∷ [])
           ∷ (end ∷ [])
-          ∷ (does opSend 1 ∷ end ∷ [])
+          ∷ (does opCreate 4 ∷ does opReceive 2 ∷ does opSend 1 ∷ end ∷ [])
+          ∷ (does opReceive 1 ∷ does opSend 2 ∷ end ∷ [])
           ∷ [];
-      run = acts (1 ∷ []) [] 1 ∷ acts (2 ∷ []) [] 2 ∷ acts (1 ∷ []) [] 1 ∷ acts (1 ∷ []) [] 1 ∷ [];
-      tasks = (1 ∷ 3 ∷ 0 ∷ []) ∷ (1 ∷ 1 ∷ 0 ∷ []) ∷ (1 ∷ 0 ∷ 0 ∷ []) ∷ [];
+      run = acts (1 ∷ []) [] 1 ∷ acts (2 ∷ []) [] 2 ∷ acts (1 ∷ []) [] 1 ∷ acts (1 ∷ []) [] 1 ∷ acts (3 ∷ []) [] 3 ∷ [];
+      tasks = (1 ∷ 3 ∷ 0 ∷ []) ∷ (1 ∷ 1 ∷ 0 ∷ []) ∷ (1 ∷ 1 ∷ 0 ∷ []) ∷ (1 ∷ 0 ∷ 0 ∷ []) ∷ [];
       channels = [] ∷ [] ∷ [] ∷ [];
     }
 
 -- words in their order, one that wraps, and one that is set over one received; then a sender whose receiver waits elsewhere, on a channel that
--- nobody sends on
+-- it sends on only later
 abbrev wordsSample : Sample
 wordsSample =
     record {
       plan =
-          (does opCreate 2 ∷ does opSet 65535 ∷ does opSend 1 ∷ does opAdd 3 ∷ does opSend 1 ∷ does opSend 2 ∷ end ∷ [])
+          (does opCreate 2 ∷ does opSet 65535 ∷ does opSend 1 ∷ does opAdd 3 ∷ does opSend 1 ∷ does opSend 2 ∷ does opSend 3 ∷ end ∷ [])
           ∷ (does opReceive 1 ∷ does opReceive 1 ∷ does opAdd 4 ∷ does opSet 9 ∷ does opReceive 3 ∷ does opReceive 2 ∷ end ∷ [])
           ∷ [];
       run =

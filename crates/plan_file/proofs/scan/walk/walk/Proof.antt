@@ -17,6 +17,7 @@ use Rattle.plan_value.specs.declared.pass.Entry.{Entry}
 use Rattle.plan_value.specs.Editions.{presentEdition}
 use Rattle.plan_value.specs.Pass.{Seen, seen, nextSeen, entryAt, entriesTo, Passed}
 use Rattle.plan_value.proofs.Sized.{few-tasks, count-few}
+use Rattle.plan_value.proofs.Taken.{pass-counted}
 use Rattle.plan_value.proofs.Entries.{entry-is, pass-start, pass-row, pass-more, pass-stops, pass-ends}
 use Rattle.plan_file.specs.declared.code.Fetched.{Fetched}
 use Rattle.plan_file.specs.Code.{fetchedFrom, slotPlace, codeOf}
@@ -177,7 +178,10 @@ sub-if1 : tie.Need-sub-if1 Inv-loop2 μ-loop2 Inv-loop μ-loop
 sub-if1 c = omega arith
 
 next-requires : tie.Need-next-requires Inv-loop2 μ-loop2 Inv-loop μ-loop
-next-requires c κs = let l = c .before .before .before .before .before in rw (l .loop2 .inv .8 .size) (omega arith)
+next-requires c κs =
+    let l = c .before .before .before .before .before in
+    let p = l .loop2 .inv .8 in
+    (rw (p .size) (omega arith), omega arith, pass-counted p)
 
 returns : tie.Need-returns Inv-loop2 μ-loop2 Inv-loop μ-loop
 returns c =
