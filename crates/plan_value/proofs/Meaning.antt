@@ -145,9 +145,13 @@ module _ (m : Programs) (second : ℕ → ℕ → ℕ) where
           (sym (below-both 128 (λ k. endsFit (ss k) (rs k)) (λ k. eqb (oneThere (getD y (suc k) 0) (getD z (suc k) 0)) 0))
           ∙ fold-same _&&_ true 128 _ (λ k. channelOk m (suc k))
           (λ k h.
-          rw (first-at opSend k (so .senders) h, first-at opReceive k (so .receivers) h,
-          there-none (ss k) (rs k) (uses-some opSend (suc k) l (so .tasks)) (uses-some opReceive (suc k) l (so .tasks)),
-          uses-entries m second opSend (suc k), uses-entries m second opReceive (suc k))
+          rw (
+            first-at opSend k (so .senders) h,
+            first-at opReceive k (so .receivers) h,
+            there-none (ss k) (rs k) (uses-some opSend (suc k) l (so .tasks)) (uses-some opReceive (suc k) l (so .tasks)),
+            uses-entries m second opSend (suc k),
+            uses-entries m second opReceive (suc k),
+          )
           (go (users m opSend (suc k)) (users m opReceive (suc k)))))
         where
           go : (s r : List ℕ) → endsFit s r && not (oneEnd s r) ≡ oneTask s && (oneTask r && (not (share s r) && not (oneEnd s r)))

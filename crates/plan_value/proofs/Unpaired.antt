@@ -17,7 +17,6 @@ use Rattle.base.proofs.Folds.{fold-same}
 use Rattle.base.proofs.Joins.{part-of-sum}
 use Rattle.base.proofs.Sums.{sum-at-most, sum-changed, sum-none}
 use Rattle.plan.specs.Users.{firstOf, oneEnd}
-use Rattle.plan_value.specs.Marks.{keptOf}
 use Rattle.plan_value.specs.Ends.{oneThere, unpairedIn, Counted, unpairedThen}
 use Rattle.plan_value.proofs.Marked.{first-some}
 
@@ -51,16 +50,13 @@ few-there a b = go (eqb a 0) (eqb b 0)
     go false true = omega arith
     go false false = omega arith
 
--- n before and m after, where task t comes to an end
-then-is : (n m old other t : ℕ) → 1 ≤ t → m + oneThere old other ≡ n + oneThere (keptOf old t) other → unpairedThen n old other ≡ m
-then-is n m old other t some = go (eqb old 0) refl (eqb other 0)
+-- n before and m after, where task t is the first at an end
+then-is : (n m other t : ℕ) → 1 ≤ t → m + oneThere 0 other ≡ n + oneThere t other → unpairedThen n other ≡ m
+then-is n m other t some h = go (eqb other 0) (rw (ne-eqb t 0 (λ z. omega arith)) at h)
   where
-    go : (p : Bool) → eqb old 0 ≡ p → (q : Bool)
-        → m + pick p (pick q 0 1) (pick q 1 0) ≡ n + pick (eqb (pick p t old) 0) (pick q 0 1) (pick q 1 0) → pick p (pick q (n + 1) (n - 1)) n ≡ m
-    go true e true h = let then = rw (ne-eqb t 0 (λ z. omega arith)) at h in omega arith
-    go true e false h = let then = rw (ne-eqb t 0 (λ z. omega arith)) at h in omega arith
-    go false e true h = let then = rw e at h in omega arith
-    go false e false h = let then = rw e at h in omega arith
+    go : (q : Bool) → m + pick q 0 1 ≡ n + pick q 1 0 → pick q (n + 1) (n - 1) ≡ m
+    go true e = omega arith
+    go false e = omega arith
 
 module _ (ends others : List ℕ) where
   -- the ends of a channel
@@ -80,18 +76,17 @@ module _ (ends others : List ℕ) where
     unfolding unpairedIn
     unpaired-part = let part = rw at at (part-of-sum 128 there (a - 1) (omega arith)) in omega arith
 
-    -- task t enters the table of an end
-    pub unpaired-more : (t : ℕ) → 1 ≤ t → length ends ≡ 129
-        → unpairedThen (unpairedIn ends others) (getD ends a 0) (getD others a 0) ≡ unpairedIn (set ends a (keptOf (getD ends a 0) t)) others
+    -- task t is the first at an end
+    pub unpaired-more : (t : ℕ) → 1 ≤ t → length ends ≡ 129 → getD ends a 0 ≡ 0
+        → unpairedThen (unpairedIn ends others) (getD others a 0) ≡ unpairedIn (set ends a t) others
     unfolding unpairedIn
-    unpaired-more t some size =
-        let new = keptOf (getD ends a 0) t in
-        let then : ℕ → ℕ = λ k. oneThere (getD (set ends a new) (suc k) 0) (getD others (suc k) 0) in
-        let here : getD (set ends a new) a 0 ≡ new = getD-set-same ends a new 0 (omega arith) in
+    unpaired-more t some size none =
+        let then : ℕ → ℕ = λ k. oneThere (getD (set ends a t) (suc k) 0) (getD others (suc k) 0) in
+        let here : getD (set ends a t) a 0 ≡ t = getD-set-same ends a t 0 (omega arith) in
         let changed =
         sum-changed 128 (a - 1) there then (omega arith)
-        (λ j h ne. ap (λ (x : ℕ). oneThere x (getD others (suc j) 0)) (getD-set-other ends a (suc j) new 0 (λ z. ne (omega arith)))) in
-        then-is (sumBelow 128 there) (sumBelow 128 then) (getD ends a 0) (getD others a 0) t some (rw (at, here) at changed)
+        (λ j h ne. ap (λ (x : ℕ). oneThere x (getD others (suc j) 0)) (getD-set-other ends a (suc j) t 0 (λ z. ne (omega arith)))) in
+        then-is (sumBelow 128 there) (sumBelow 128 then) (getD others a 0) t some (rw (at, here, none) at changed)
 
 -- by the tasks at both ends, none of them 0
 pub there-none : (ss rs : List ℕ) → every (leb 1) ss ≡ true → every (leb 1) rs ≡ true → eqb (oneThere (firstOf ss) (firstOf rs)) 0 ≡ not (oneEnd ss rs)

@@ -23,9 +23,9 @@ pub record Counted (n : ℕ) (ends others : List ℕ) : Type 0 where
   pub other-size : length others ≡ 129
   pub count : n ≡ unpairedIn ends others
 
--- .. with one task more at an end, where `old` is the first there before and `other` the first at the other end
-abbrev pub unpairedThen : ℕ → ℕ → ℕ → ℕ
-unpairedThen n old other = pick (eqb old 0) (pick (eqb other 0) (n + 1) (n - 1)) n
+-- n of them, with the first task at an end whose other end is task `other`
+abbrev pub unpairedThen : ℕ → ℕ → ℕ
+unpairedThen n other = pick (eqb other 0) (n + 1) (n - 1)
 
 -- task t enters the table of an end at a: what is answered, and the table then
 pub record EndEntered (a t : ℕ) (before others : List ℕ) (r : End) (after : List ℕ) : Type 0 where

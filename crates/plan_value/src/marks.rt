@@ -36,15 +36,12 @@ pub fn end_fits(old: u8, other: u8, t: u8) -> bool
     old == t
 }
 
-// Of n channels with one end only, how many there are with one task more at an end, whose other end is task
-// `other`: at its first task the channel joins them, or gets its other end.
-pub fn unpaired_then(n: u8, old: u8, other: u8) -> u8
-    requires { ⌜ (oneThere old other ≤ n) × (n ≤ 128) ⌝ }
-    ensures { λ r. ⌜ r ≡ unpairedThen n old other ⌝ }
+// How many channels have one end only, n before, with the first task at an end whose other end is task
+// `other`: the channel joins them, or gets its other end.
+pub fn unpaired_then(n: usize, other: u8) -> usize
+    requires { ⌜ (oneThere 0 other ≤ n) × (n ≤ 128) ⌝ }
+    ensures { λ r. ⌜ r ≡ unpairedThen n other ⌝ }
 {
-    if old != 0 {
-        return n;
-    }
     if other == 0 {
         return n + 1;
     }

@@ -39,13 +39,14 @@ pub struct Pass {
     pub finishes: bool,
     pub creates: bool,
     pub channels: bool,
-    pub unpaired: u8,
+    // no byte, for the same reason
+    pub unpaired: usize,
 }
 
-// Task at an end of a channel: whether this is in order, and how many channels have one end then.
-pub struct End {
-    pub fits: bool,
-    pub unpaired: u8,
+// A task at an end of a channel: whether it may be there, and how many channels have one end then.
+struct End {
+    fits: bool,
+    unpaired: usize,
 }
 
 impl Pass {
@@ -75,19 +76,23 @@ fn enter_create<'a>(t: u8, a: usize, parents: &'a mut [u8; 129]) -> bool
     fits
 }
 
-// Task t at an end of channel a: the first task at this end stays. Before, n channels have one end.
-fn enter_end<'a>(t: u8, a: usize, n: u8, ends: &'a mut [u8; 129], others: &'a [u8; 129]) -> End
+// Task t at an end of channel a, where n channels have one end before: the first task at this end stays.
+fn enter_end<'a>(t: u8, a: usize, n: usize, ends: &'a mut [u8; 129], others: &'a [u8; 129]) -> End
     requires { ⌜ (1 ≤ t) × (1 ≤ a) × (a < 129) × Counted n (now ends) (now others) ⌝ }
     ensures { λ r. ⌜ EndEntered a t (now (ends .entry)) (now (others .entry)) r (now (ends .exit)) ⌝ }
 {
     let old = ends[a];
     let other = others[a];
-    let fits = end_fits(old, other, t);
-    let unpaired = unpaired_then(n, old, other);
-    ends[a] = kept(old, t);
+    if old != 0 {
+        return End {
+            fits: end_fits(old, other, t),
+            unpaired: n,
+        };
+    }
+    ends[a] = t;
     End {
-        fits: fits,
-        unpaired: unpaired,
+        fits: end_fits(old, other, t),
+        unpaired: unpaired_then(n, other),
     }
 }
 

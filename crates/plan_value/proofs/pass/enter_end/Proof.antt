@@ -1,9 +1,11 @@
 -- `pass::enter_end` is the test of one more at an end of a channel, the table with it, and the number of channels with one end then.
-use mathlib.Core.Path.{sym, _∙_, ap}
+use mathlib.Core.Path.{refl, sym, _∙_, ap}
 use Prim.Native.Nat.{ℕ}
-use lib.ListN.{getD, set}
+use lib.ListN.{getD}
+use lib.Seq.{set-getD}
 use borrow.Author.Needs.{needs}
-use Rattle.plan_value.specs.Ends.{unpairedIn, unpairedThen}
+use borrow.Author.Tests.{eq-eqb, ne-eqb}
+use Rattle.plan_value.specs.Ends.{unpairedThen}
 use Rattle.plan_value.proofs.Unpaired.{unpaired-few, unpaired-part, unpaired-more}
 use Rattle.plan_value.proofs.pass.enter_end.Statement.{statement}
 use Rattle.plan_value.proofs.pass.enter_end.Tie as tie
@@ -17,29 +19,41 @@ element-copy-out-other c = search needs
 end-fits-requires : tie.Need-end-fits-requires
 end-fits-requires c κs = search needs
 
-unpaired-then-requires : tie.Need-unpaired-then-requires
-unpaired-then-requires c κs =
-    let s = c .before .before .before in
+returns : tie.Need-returns
+returns c =
+    let s = c .before .before .before .before in
     let a = s .args in
-    rw (s .pre .3 .count) (unpaired-part (a .ends .now) (a .others .now) (a .a) (s .pre .1) (s .pre .2), unpaired-few (a .ends .now) (a .others .now))
-
-kept-requires : tie.Need-kept-requires
-kept-requires c κs = search needs
+    record {
+      entered = record { answer = c .end-fits .ensures; table = rw (ne-eqb (getD (a .ends .now) (a .a) 0) 0 (c .before .if1 .taken)) (sym (set-getD (a .ends .now) (a .a) 0)) };
+      unpaired = s .pre .3 .count;
+    }
 
 element-write-ends : tie.Need-element-write-ends
 element-write-ends c = search needs
 
-returns : tie.Need-returns
-returns c =
-    let s = c .before .before .before .before .before in
+end-fits-requires-2 : tie.Need-end-fits-requires-2
+end-fits-requires-2 c κs = search needs
+
+unpaired-then-requires : tie.Need-unpaired-then-requires
+unpaired-then-requires c κs =
+    let d = c .before in
+    let s = d .before .before .before in
+    let a = s .args in
+    let part = rw (d .if1 .left) at (unpaired-part (a .ends .now) (a .others .now) (a .a) (s .pre .1) (s .pre .2)) in
+    rw (s .pre .3 .count) (part, unpaired-few (a .ends .now) (a .others .now))
+
+returns-2 : tie.Need-returns-2
+returns-2 c =
+    let f = c .before in
+    let d = f .before in
+    let s = d .before .before .before in
     let a = s .args in
     record {
-      entered = record { answer = c .before .before .end-fits .ensures; table = ap (set (a .ends .now) (a .a)) (c .kept .ensures) };
+      entered = record { answer = f .end-fits2 .ensures; table = rw (eq-eqb (getD (a .ends .now) (a .a) 0) 0 (d .if1 .left)) refl };
       unpaired =
-          c .before .unpaired-then .ensures
-          ∙ ap (λ (n : ℕ). unpairedThen n (getD (a .ends .now) (a .a) 0) (getD (a .others .now) (a .a) 0)) (s .pre .3 .count)
-          ∙ unpaired-more (a .ends .now) (a .others .now) (a .a) (s .pre .1) (s .pre .2) (a .t) (s .pre .0) (s .pre .3 .size)
-          ∙ ap (λ (x : ℕ). unpairedIn (set (a .ends .now) (a .a) x) (a .others .now)) (sym (c .kept .ensures));
+          c .unpaired-then .ensures
+          ∙ ap (λ (n : ℕ). unpairedThen n (getD (a .others .now) (a .a) 0)) (s .pre .3 .count)
+          ∙ unpaired-more (a .ends .now) (a .others .now) (a .a) (s .pre .1) (s .pre .2) (a .t) (s .pre .0) (s .pre .3 .size) (d .if1 .left);
     }
 
 pub enter-end-spec : {M : Type 1} → statement M
@@ -49,7 +63,8 @@ enter-end-spec =
     element-copy-out-old
     element-copy-out-other
     end-fits-requires
-    unpaired-then-requires
-    kept-requires
+    returns
     element-write-ends
-    returns)
+    end-fits-requires-2
+    unpaired-then-requires
+    returns-2)
