@@ -133,9 +133,9 @@ pub record StepEdge : Type 0 where
 abbrev pub stepHolds : StepEdge → Bool
 stepHolds e = eqb (stepNumber (step (e .system) (e .step) .report .answer)) (e .number)
 
--- a rig of six desks whose task 1 sends
+-- a rig of six desks whose task 1 sends, to a task that it creates later
 unfoldable pub sender : System
-sender = startOn 6 ((send 3 ∷ finish ∷ []) ∷ [])
+sender = startOn 6 ((send 3 ∷ create 2 ∷ finish ∷ []) ∷ (receive 3 ∷ finish ∷ []) ∷ [])
 
 -- a rig of two desks whose task 1 has moved n - 1 times
 unfoldable pub mover : ℕ → System

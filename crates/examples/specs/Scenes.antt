@@ -40,7 +40,7 @@ syncAndTwoChannels =
     record {
       processors = 2;
       plan =
-          (create 2 ∷ create 3 ∷ create 4 ∷ sync ∷ sync ∷ finish ∷ []) ∷ (send 1 ∷ send 1 ∷ finish ∷ []) ∷ (finish ∷ []) ∷
+          (create 2 ∷ create 3 ∷ create 4 ∷ sync ∷ sync ∷ finish ∷ []) ∷ (send 1 ∷ send 1 ∷ send 2 ∷ finish ∷ []) ∷ (finish ∷ []) ∷
           (receive 1 ∷ receive 2 ∷ finish ∷ []) ∷ [];
       lines =
           ok (run 1) ∷ ok (run 1) ∷ ok (run 2) ∷ ok (run 1) ∷ ok (run 1) ∷ word 1 0 (run 4) ∷ ok (move 4 2) ∷ ok (run 3) ∷ ok (deliver 1) ∷
@@ -78,13 +78,14 @@ carriedOfferMovesAlong =
       messages = 0;
     }
 
--- a pointer that travels with its sender
+-- a pointer that travels with its sender; then a send whose receiver is not born yet
 abbrev pub pointerTravelsWithSender : Script
 pointerTravelsWithSender =
     record {
       processors = 3;
       plan =
-          (create 2 ∷ receive 2 ∷ receive 2 ∷ finish ∷ []) ∷ (send 2 ∷ send 2 ∷ send 1 ∷ finish ∷ []) ∷ [];
+          (create 2 ∷ receive 2 ∷ receive 2 ∷ create 3 ∷ finish ∷ []) ∷ (send 2 ∷ send 2 ∷ send 1 ∷ finish ∷ []) ∷ (receive 1 ∷ finish ∷ [])
+          ∷ [];
       lines =
           ok (run 1) ∷ ok (run 2) ∷ word 2 0 (run 1) ∷ ok (move 2 2) ∷ ok (deliver 1) ∷ refuses 17 (move 1 3) ∷ ok (run 2) ∷ ok (deliver 1) ∷
           ok (run 1) ∷ ok (deliver 1) ∷ ok (run 2) ∷ [];
@@ -98,7 +99,7 @@ heldForOtherChannel =
     record {
       processors = 2;
       plan =
-          (create 2 ∷ send 1 ∷ finish ∷ []) ∷ (receive 2 ∷ receive 1 ∷ finish ∷ []) ∷ [];
+          (create 2 ∷ send 1 ∷ send 2 ∷ finish ∷ []) ∷ (receive 2 ∷ receive 1 ∷ finish ∷ []) ∷ [];
       lines =
           ok (run 1) ∷ refuses 19 (raw 2 1 1) ∷ refuses 10 (move 0 3) ∷ ok (move 2 2) ∷ ok (run 1) ∷ ok (deliver 2) ∷ ok (deliver 1) ∷ ok (run 2) ∷ [];
       rest = true;

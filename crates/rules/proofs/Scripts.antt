@@ -6,6 +6,8 @@ use lib.Dec.{eqb}
 use Rattle.plan.specs.declared.Instruction.{Instruction}
 use Rattle.plan.specs.Kinds.{opCreate, opSync, opFinish, opSend, opReceive, opSet, opAdd}
 use Rattle.plan.specs.Programs.{Programs, canonical}
+use Rattle.plan.specs.Answers.{isAccepted}
+use Rattle.plan.specs.Refusals.{planAnswer}
 use Rattle.plan.proofs.Edges.{does}
 use Rattle.plan.proofs.WriteEdges.{sameBytes}
 use Rattle.rules.specs.declared.step.Step.{Step}
@@ -94,5 +96,6 @@ historyHolds e h =
     && (sameBool (e .rest) (quiescent (h .system))
     && eqb (e .messages) (h .system .network .used))
 
+-- the plan is accepted, and its run is as said
 abbrev pub scriptHolds : Script → Bool
-scriptHolds e = historyHolds e (ruledSteps (startOn (e .processors) (e .plan)) (map (λ l. l .step) (e .lines)))
+scriptHolds e = isAccepted (planAnswer (e .plan)) && historyHolds e (ruledSteps (startOn (e .processors) (e .plan)) (map (λ l. l .step) (e .lines)))

@@ -152,7 +152,7 @@ sender-behind = refl
 
 -- on two desks, task 1 receives on channel 1: at the start, after a move to desk 2, after its arrival
 abbrev mover : System
-mover = startOn 2 ((receive 1 ∷ finish ∷ []) ∷ [])
+mover = startOn 2 ((receive 1 ∷ create 2 ∷ finish ∷ []) ∷ (send 1 ∷ finish ∷ []) ∷ [])
 
 start-pointer : entryAt mover (processor 1) one .hint ≡ hint (processor 1) 1
 unfolding evaluated
@@ -172,16 +172,14 @@ unfolding evaluated
 arrived-pointer = refl
 
 -- the last channel, at both ends: the pointer of a start; a pointer that travels, and another channel's that stays
-last-received : entryAt (startOn 2 ((receive 128 ∷ finish ∷ []) ∷ [])) (processor 1) (channelId 128) .hint ≡ hint (processor 1) 1
+last-received : entryAt (startOn 2 ((receive 128 ∷ create 2 ∷ finish ∷ []) ∷ (send 128 ∷ finish ∷ []) ∷ [])) (processor 1) (channelId 128) .hint ≡ hint (processor 1) 1
 unfolding evaluated
 last-received = refl
 
 abbrev sender : System
 sender =
-    withCell (withCell (startOn 2 ((send 128 ∷ finish ∷ []) ∷ [])) (processor 1) (channelId 128) (withHint empty (hint (processor 2) 3)))
-    (processor 1)
-    (channelId 2)
-    (withTravelling empty (hint (processor 2) 4))
+    let r = startOn 2 ((send 128 ∷ create 2 ∷ finish ∷ []) ∷ (receive 128 ∷ finish ∷ []) ∷ []) in
+    withCell (withCell r (processor 1) (channelId 128) (withHint empty (hint (processor 2) 3))) (processor 1) (channelId 2) (withTravelling empty (hint (processor 2) 4))
 
 last-sent : channelAt (ruledSteps sender (move 1 2 ∷ []) .system) (channelId 128) .travelling ≡ hint (processor 2) 3
 unfolding evaluated
