@@ -60,10 +60,28 @@ static void both_ends(struct random *r, struct draft *d)
         }
 }
 
+/* An end of a channel is left out: each send or receive on it becomes an add. */
+static void one_end(struct random *r, struct draft *d)
+{
+    struct draft_instruction gone = *any_of_kind(r, d, random_chance(r, 50) ? SEND : RECEIVE);
+    if (gone.kind != SEND && gone.kind != RECEIVE)
+        return;
+    for (uint32_t t = 1; t <= d->tasks; t++)
+        for (uint32_t i = 0; i < d->task[t].count; i++) {
+            struct draft_instruction *at = &d->task[t].code[i];
+            if (at->kind == gone.kind && at->argument == gone.argument)
+                *at = (struct draft_instruction){ADD, 1};
+        }
+}
+
 static void wrong_channel(struct random *r, struct draft *d)
 {
     if (random_chance(r, 30)) {
         both_ends(r, d);
+        return;
+    }
+    if (random_chance(r, 40)) {
+        one_end(r, d);
         return;
     }
     struct draft_instruction *one = any_of_kind(r, d, random_chance(r, 50) ? SEND : RECEIVE);

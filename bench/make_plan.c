@@ -1,7 +1,7 @@
 /* Instructions are added in one order of events for the whole rig: a send and
  * its receive at once, a create before the child's first event, a finish when
  * all children have one. So each plan can be run to its end, unless changes are
- * made afterwards. */
+ * made afterwards; those leave each channel that is used with both ends. */
 #include "make_plan.h"
 
 #include <string.h>
@@ -136,7 +136,37 @@ static void swap_two(struct maker *m, struct draft_task *task)
     task->code[j] = one;
 }
 
-/* Two instructions change places, or one goes, or a channel gets one end only. */
+/* A create stays, and a channel's only send or only receive. */
+static bool may_go(const struct draft_task *task, uint32_t i)
+{
+    struct draft_instruction it = task->code[i];
+    uint32_t alike = 0;
+    for (uint32_t j = 0; j < task->count; j++)
+        alike += task->code[j].kind == it.kind && task->code[j].argument == it.argument;
+    return it.kind != CREATE && ((it.kind != SEND && it.kind != RECEIVE) || alike > 1);
+}
+
+/* A set or an add of the task, chosen by chance; NULL if it has none there. */
+static struct draft_instruction *any_sum(struct maker *m, struct draft_task *task)
+{
+    struct draft_instruction *it = &task->code[random_below(m->r, task->count)];
+    return it->kind == SET || it->kind == ADD ? it : NULL;
+}
+
+/* A set or an add each of two tasks become the ends of a new channel. */
+static void new_channel(struct maker *m, uint32_t t)
+{
+    uint32_t u = random_from(m->r, 1, m->d->tasks);
+    struct draft_instruction *one = any_sum(m, &m->d->task[t]);
+    struct draft_instruction *two = any_sum(m, &m->d->task[u]);
+    if (t == u || one == NULL || two == NULL || m->channels == MAX_CHANNELS)
+        return;
+    uint8_t channel = m->name[m->channels++];
+    *one = (struct draft_instruction){SEND, channel};
+    *two = (struct draft_instruction){RECEIVE, channel};
+}
+
+/* Two instructions change places, or one goes, or there is a channel more. */
 static void change(struct maker *m)
 {
     uint32_t t = random_from(m->r, 1, m->d->tasks);
@@ -147,11 +177,10 @@ static void change(struct maker *m)
     uint32_t way = random_below(m->r, 3);
     if (way == 0)
         swap_two(m, task);
-    else if (way == 1 && task->code[i].kind != CREATE)
+    else if (way == 1 && may_go(task, i))
         draft_remove(m->d, t, i);
-    else if (m->channels < MAX_CHANNELS && (task->code[i].kind == SET || task->code[i].kind == ADD))
-        task->code[i] = (struct draft_instruction){random_chance(m->r, 50) ? SEND : RECEIVE,
-                                                   m->name[m->channels++]};
+    else
+        new_channel(m, t);
 }
 
 static void begin(struct maker *m, struct random *r, struct draft *d, uint32_t tasks)

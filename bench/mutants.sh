@@ -51,6 +51,7 @@ done <<'RULES'
 20 a byte behind the last line is written
 21 a byte behind the output is written
 22 a byte behind the plan is read
+23 a channel may have one end only
 RULES
 
 [ "$missed" -eq 0 ] || { echo "mutants: $missed of $tried not found" >&2; exit 1; }

@@ -49,6 +49,7 @@ static bool instruction_is_right(const uint8_t *p, uint32_t tasks)
 struct findings {
     bool refused4, refused5, refused6;
     uint32_t created;
+    uint32_t ends, pairs; /* ends of channels that have a task, channels that have two */
 };
 
 static void find_create(struct findings *f, struct sim_users *users, uint32_t task, uint32_t child)
@@ -64,6 +65,10 @@ static void find_end(struct findings *f, uint8_t *end, uint8_t other, uint32_t t
 {
     if ((*end != 0 && *end != task) || (other == task && MUTANT != 16))
         f->refused6 = true;
+    if (*end == 0) {
+        f->ends++;
+        f->pairs += other != 0;
+    }
     *end = (uint8_t)task;
 }
 
@@ -86,7 +91,7 @@ uint32_t sim_plan_users(uint32_t desks, const uint8_t *plan, size_t length, stru
         return 1;
     if (!layout_is_right(plan, length) || (MUTANT == 22 && plan[length] == 255))
         return 2;
-    struct findings f = {false, false, false, 0};
+    struct findings f = {false, false, false, 0, 0, 0};
     memset(users, 0, sizeof *users);
     uint32_t tasks = sim_u16(plan);
     const uint8_t *p = plan + 4 + 4 * tasks;
@@ -102,5 +107,7 @@ uint32_t sim_plan_users(uint32_t desks, const uint8_t *plan, size_t length, stru
         return 4;
     if (f.refused5 || f.created != tasks - 1)
         return 5;
-    return f.refused6 ? 6 : 0;
+    if (f.refused6 || (f.ends != 2 * f.pairs && MUTANT != 23))
+        return 6;
+    return 0;
 }

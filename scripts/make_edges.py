@@ -43,18 +43,16 @@ def full():
     return [[(SET, 65535)] * (64 - len(task)) + task for task in tasks]
 
 
-def channels(n):
-    """Tasks 1 and 2 send on the first n channels, tasks 3 and 4 receive on them."""
-    sends = [(SEND, c) for c in range(1, n + 1)]
-    return [
-        [(CREATE, 2), (CREATE, 3), (CREATE, 4)] + sends[:60] + [(FINISH, 0)],
-        sends[60:] + [(FINISH, 0)],
-        [(RECEIVE, c) for c in range(1, min(n, 63) + 1)] + [(FINISH, 0)],
-        [(RECEIVE, c) for c in range(64, n + 1)] + [(FINISH, 0)],
-    ]
+def channels(sent, received):
+    """Task 1 creates the others; tasks 2 to 4 send on these channels, tasks 5 to 7 receive on those."""
+    def three(kind, numbers):
+        code = [(kind, c) for c in numbers]
+        return [code[:60] + [(FINISH, 0)], code[60:120] + [(FINISH, 0)], code[120:] + [(FINISH, 0)]]
+    return [[(CREATE, u) for u in range(2, 8)] + [(FINISH, 0)]] + three(SEND, sent) + three(RECEIVE, received)
 
 
 def main():
+    every = list(range(1, 129))
     records = [
         record(layout(created(64))),
         record(layout(created(65)), refused=2),
@@ -62,8 +60,20 @@ def main():
         record(layout(long(65)), refused=2),
         record(layout(full()), desks=6),
         record(layout(full()) + b"\0", refused=2),
-        record(layout(channels(122))),
-        record(layout(channels(122)[:3] + [[(RECEIVE, 63), (FINISH, 0)]]), refused=6),
+        # all 128 channels; nobody uses one of them; only a send and only a receive on it
+        record(layout(channels(every, every)), desks=6),
+        record(layout(channels(every[:-1], every[:-1]))),
+        record(layout(channels(every[1:], every[1:]))),
+        record(layout(channels(every, every[:-1])), refused=6),
+        record(layout(channels(every[:-1], every)), refused=6),
+        record(layout(channels(every, every[1:])), refused=6),
+        record(layout(channels(every[1:], every)), refused=6),
+        # two tasks receive on a channel, two send on one
+        record(layout(channels(every, every + [1])), refused=6),
+        record(layout(channels(every + [1], every)), refused=6),
+        # one send, one receive, and no other instruction but a finish
+        record(layout([[(SEND, 1), (FINISH, 0)]]), refused=6),
+        record(layout([[(RECEIVE, 128), (FINISH, 0)]]), refused=6),
     ]
     there = pathlib.Path(__file__).resolve().parent.parent
     (there / "crates/vectors_test/data/edges.bin").write_bytes(b"".join(records))

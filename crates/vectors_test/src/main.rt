@@ -119,7 +119,6 @@ fn report(name: &[u8]) {
 }
 
 fn main() {
-    report(b"base.bin");
-    report(b"moves.bin");
+    report(b"s102.bin");
     report(b"edges.bin");
 }
