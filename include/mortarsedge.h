@@ -87,8 +87,8 @@ enum mortarsedge_answer {
     MORTARSEDGE_BAD_INSTRUCTION = 3, /* kind unknown, second byte not zero, or argument out of range */
     MORTARSEDGE_BAD_FINISH = 4,      /* finish not exactly the last instruction of a task */
     MORTARSEDGE_BAD_CREATE = 5,      /* a task 2 to T not created exactly once, or not by a lower number */
-    MORTARSEDGE_BAD_CHANNEL = 6,     /* a channel with two sending or two receiving tasks, or one task at
-                                        both ends */
+    MORTARSEDGE_BAD_CHANNEL = 6,     /* a channel with two sending or two receiving tasks, one task at both
+                                        ends, or only one end */
     /* Of the step file. */
     MORTARSEDGE_BAD_STEP_FILE = 8, /* length no multiple of 4, or over 2,000 steps */
     /* Of a step. */
@@ -311,7 +311,7 @@ static inline const char *mortarsedge_refusal_text(uint32_t number)
     case MORTARSEDGE_BAD_CREATE:
         return "a task from 2 on not created exactly once, or not by a lower number";
     case MORTARSEDGE_BAD_CHANNEL:
-        return "a channel with two sending or two receiving tasks, or one task at both ends";
+        return "a channel with two sending or two receiving tasks, one task at both ends, or only one end";
     case MORTARSEDGE_BAD_STEP_FILE:
         return "step file's length no multiple of 4, or over 2,000 steps";
     case MORTARSEDGE_BAD_RIG:

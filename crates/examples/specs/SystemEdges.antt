@@ -11,7 +11,7 @@ use Rattle.rules.specs.Cells.{hint, offer, withHint, withHeld, withNoted, withG
 use Rattle.rules.specs.Networks.{enqueued}
 use Rattle.rules.specs.Systems.{withNetwork, withTask, cellAt, withCell}
 use Rattle.rules.specs.Starts.{blank}
-use Rattle.rules.proofs.Scripts.{create, sync, finish, startOn}
+use Rattle.rules.proofs.Scripts.{create, sync, finish, send, receive, startOn}
 use Rattle.rules.proofs.Sites.{small, crowded}
 use Rattle.rules.proofs.SoundEdges.{Sample, fine, wrong}
 
@@ -32,6 +32,9 @@ unfoldable pub systemSamples : List (Sample System)
 systemSamples =
     fine small ∷ wrong (blank 0 (small .plan)) ∷ fine (blank 1 (small .plan)) ∷ fine (blank 6 (small .plan)) ∷ wrong (blank 7 (small .plan))
     ∷ wrong (withPlan ((sync ∷ []) ∷ []) small)
+    ∷ fine (withPlan ((create 2 ∷ send 1 ∷ finish ∷ []) ∷ (receive 1 ∷ finish ∷ []) ∷ []) pair)
+    ∷ wrong (withPlan ((create 2 ∷ send 1 ∷ finish ∷ []) ∷ (finish ∷ []) ∷ []) pair)
+    ∷ wrong (withPlan ((create 2 ∷ finish ∷ []) ∷ (receive 1 ∷ finish ∷ []) ∷ []) pair)
     ∷ wrong (withTask small (taskId 1) noTask) ∷ fine (withTask small (taskId 2) noTask)
     ∷ fine pair ∷ wrong (withTask pair (taskId 2) noTask) ∷ fine (withTask pair (taskId 3) noTask)
     ∷ fine (withCellBy (λ x. withHint x (hint (processorId 2) 1)) small) ∷ wrong (withCellBy (λ x. withHint x (hint (processorId 3) 1)) small)

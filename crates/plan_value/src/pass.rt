@@ -138,30 +138,30 @@ pub fn next<'a>(
         if !is_allowed(e, p.tasks, i) {
             return Pass::new(p.tasks, false);
         }
-        let end = enter_end(t, a, p.unpaired, senders, receivers);
-        let channels = base::both(p.channels, end.fits);
+        let sent = enter_end(t, a, p.unpaired, senders, receivers);
+        let channels = base::both(p.channels, sent.fits);
         return Pass {
             instructions: p.instructions,
             tasks: p.tasks,
             finishes: finishes,
             creates: p.creates,
             channels: channels,
-            unpaired: end.unpaired,
+            unpaired: sent.unpaired,
         };
     }
     if opcode == RECEIVE {
         if !is_allowed(e, p.tasks, i) {
             return Pass::new(p.tasks, false);
         }
-        let end = enter_end(t, a, p.unpaired, receivers, senders);
-        let channels = base::both(p.channels, end.fits);
+        let received = enter_end(t, a, p.unpaired, receivers, senders);
+        let channels = base::both(p.channels, received.fits);
         return Pass {
             instructions: p.instructions,
             tasks: p.tasks,
             finishes: finishes,
             creates: p.creates,
             channels: channels,
-            unpaired: end.unpaired,
+            unpaired: received.unpaired,
         };
     }
     if !is_allowed(e, p.tasks, i) {
@@ -211,10 +211,7 @@ pub fn answer(p: Pass, parents: &[u8; 129]) -> PlanAnswer
     if !all_created(p.tasks, parents) {
         return PlanAnswer::Refused(Refusal::BadCreate);
     }
-    if !p.channels {
-        return PlanAnswer::Refused(Refusal::BadChannel);
-    }
-    if p.unpaired != 0 {
+    if !base::both(p.channels, p.unpaired == 0) {
         return PlanAnswer::Refused(Refusal::BadChannel);
     }
     PlanAnswer::Accepted

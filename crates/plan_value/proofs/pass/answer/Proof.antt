@@ -2,7 +2,7 @@
 use mathlib.Core.Path.{_≡_, sym, _∙_}
 use mathlib.Core.Bool.{true}
 use borrow.Author.Needs.{needs}
-use borrow.Author.Tests.{eq-eqb, ne-eqb, not-true, not-false}
+use borrow.Author.Tests.{not-true, not-false}
 use Rattle.plan_value.specs.declared.pass.Pass.{Pass}
 use Rattle.plan_value.proofs.pass.answer.Statement.{statement}
 use Rattle.plan_value.proofs.pass.answer.Tie as tie
@@ -45,9 +45,13 @@ returns-4 c =
     let e = d .before .before in
     simp (instructions (e .before .before), finishes e, creates d, sym (a .all-created .ensures) ∙ not-true (a .all-created .result) (c .if4 .taken))
 
+both-requires : tie.Need-both-requires
+both-requires c κs = search needs
+
 returns-5 : tie.Need-returns-5
 returns-5 c =
-    let f = c .before .before in
+    let b = c .before in
+    let f = b .before .before in
     let a = f .before in
     let d = a .before in
     let e = d .before .before in
@@ -56,13 +60,13 @@ returns-5 c =
       finishes e,
       creates d,
       sym (a .all-created .ensures) ∙ not-false (a .all-created .result) (f .if4 .left),
-      not-true (pass3 d .channels) (c .if5 .taken),
+      sym (b .both .ensures) ∙ not-true (b .both .result) (c .if5 .taken),
     )
 
 returns-6 : tie.Need-returns-6
 returns-6 c =
-    let g = c .before .before in
-    let f = g .before .before in
+    let b = c .before in
+    let f = b .before .before in
     let a = f .before in
     let d = a .before in
     let e = d .before .before in
@@ -71,27 +75,10 @@ returns-6 c =
       finishes e,
       creates d,
       sym (a .all-created .ensures) ∙ not-false (a .all-created .result) (f .if4 .left),
-      not-false (pass3 d .channels) (g .if5 .left),
-      ne-eqb (pass3 d .unpaired) 0 (c .if6 .taken),
-    )
-
-returns-7 : tie.Need-returns-7
-returns-7 c =
-    let g = c .before .before in
-    let f = g .before .before in
-    let a = f .before in
-    let d = a .before in
-    let e = d .before .before in
-    simp (
-      instructions (e .before .before),
-      finishes e,
-      creates d,
-      sym (a .all-created .ensures) ∙ not-false (a .all-created .result) (f .if4 .left),
-      not-false (pass3 d .channels) (g .if5 .left),
-      eq-eqb (pass3 d .unpaired) 0 (c .if6 .left),
+      sym (b .both .ensures) ∙ not-false (b .both .result) (c .if5 .left),
     )
 
 pub answer-spec : {M : Type 1} → statement M
 answer-spec =
     tie.close
-    (tie.spec returns returns-2 returns-3 all-created-requires returns-4 returns-5 returns-6 returns-7)
+    (tie.spec returns returns-2 returns-3 all-created-requires returns-4 both-requires returns-5 returns-6)
