@@ -1,4 +1,5 @@
--- Demand 3: the statement, what else holds of moves, and what a corollary is stated with.
+-- Demand 3: the statement, what else holds of moves and of marks, and what a corollary is stated with.
 pub mod Statement
 pub mod Moves
+pub mod Overflows
 pub mod Corollaries

@@ -86,11 +86,12 @@ pub record ComesToRest (p : Plan) : Type 0 where
   pub list : List Step
   pub rests : Rests p list
 
--- two rigs agree on task t's state, place and word
+-- two rigs agree on task t's state, place and word; "A still rig and a moving one must agree on marks at rest."
 pub record SameTask (r q : System) (t : TaskId) : Type 0 where
   pub state : taskAt r t .state ≡ taskAt q t .state
   pub place : taskAt r t .pc ≡ taskAt q t .pc
   pub word : taskAt r t .word ≡ taskAt q t .word
+  pub overflow : taskAt r t .overflow ≡ taskAt q t .overflow
 
 -- Demand 3 in its own words, clause by clause, with what renders each.
 --
@@ -107,7 +108,7 @@ pub record SameTask (r q : System) (t : TaskId) : Type 0 where
 -- that there is such a list. That nothing moves there is no premise: on one desk no move is accepted (`NothingMoves` of Moves).
 --
 -- (c) "If the moving rig is at rest too, both share every channel's list of received words and every task's state, place and word.": `same-words`
--- and `same-tasks`.
+-- and `same-tasks`, which has the task's mark too.
 --
 -- (d) "From the end of any such list on, at rest or not, if no more moves are accepted, every list of further steps has at most 10 × (instructions
 -- not yet executed + letters under way) accepted ones, both counted at that moment,": `few-steps`, for each list us of further steps; `few-runs`, that

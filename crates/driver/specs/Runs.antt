@@ -9,7 +9,7 @@ use Rattle.plan.specs.Files.{filePrograms, startAnswer}
 use Rattle.plan.specs.Programs.{canonical}
 use Rattle.rules.specs.declared.step.RunAnswer.the-variants.{Traced, OutputShort}
 use Rattle.rules.specs.Answers.{runNumber}
-use Rattle.rules.specs.Trace.{stepLines, endLine}
+use Rattle.rules.specs.Trace.{stepLines, overLines, endLine}
 use Rattle.rules.specs.StepFiles.{fileSteps, text, runFileAnswer, runFileText, runFileOutput}
 use Rattle.claim.specs.Statement.{Demand3, from}
 
@@ -17,18 +17,18 @@ use Rattle.claim.specs.Statement.{Demand3, from}
 abbrev pub packed : ℕ → ℕ → ℕ
 packed number filled = number + 256 * filled
 
--- as many bytes hold every trace: 2,000 lines of at most 17, and the last of at most 10
+-- as many bytes hold every trace: 2,000 lines of at most 17, 9 of 7 and 55 of 8 for marked tasks, and the last of at most 10
 abbrev pub enough : ℕ
-enough = 34010
+enough = 34513
 
 unfoldable pub runOutcome : ℕ → List ℕ → List ℕ → List ℕ → ℕ
 runOutcome n p b out = packed (runNumber (runFileAnswer n p b out)) (length (runFileText n p b out))
 
--- the lines of the reports that demand 3 speaks of, and the last line of the rig that it speaks of
+-- the lines of the reports that demand 3 speaks of, and those of the rig that it speaks of
 abbrev pub traceText : ℕ → List ℕ → List ℕ → List ℕ
 traceText n p b =
     let h = from n (canonical (filePrograms p)) (fileSteps b) in
-    text (stepLines 0 (h .reports) ++ (endLine (h .system) ∷ []))
+    text (stepLines 0 (h .reports) ++ (overLines (h .system) ++ (endLine (h .system) ∷ [])))
 
 -- a run answered and wrote so: `outcome` and `bytes` hold of every call, and `room` says that an output of `enough` bytes is not refused by 20.
 -- Where the plan is accepted, `demand-3` is the claim about this plan on these desks and these steps; and where the run is, the output holds

@@ -8,3 +8,5 @@ pub mod WriteEdges
 pub mod EdgesHold
 -- the parts of programs that are given by a rule: of a plan value's meaning, and of what a file holds
 pub mod Parts
+-- a sum of 16 bits that wrapped
+pub mod Sums

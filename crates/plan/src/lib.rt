@@ -25,6 +25,12 @@ pub struct Instruction {
 // "A word is 16 bits": what a task stores and channels pass on. Its operations are in specs/Words.
 pub struct Word(pub u16);
 
+// What an add gives: the wrapped word, and whether the sum passed 65,535.
+pub struct Sum {
+    pub word: Word,
+    pub overflow: bool,
+}
+
 // "Kinds: 1 create, 2 sync, 3 finish, 4 send, 5 receive, 6 set, 7 add".
 pub const CREATE: u8 = 1;
 
@@ -117,11 +123,15 @@ impl Word {
         Word(i.operand)
     }
 
-    // "add is taken modulo 65,536".
-    pub fn add(self, i: Instruction) -> Word
+    // "add is taken modulo 65,536"; a sum that wrapped is below what was added to.
+    pub fn add(self, i: Instruction) -> Sum
         ensures { λ r. ⌜ r ≡ addWord self i ⌝ }
     {
         let sum = std::num::wrapping_add_u16(self.0, i.operand);
-        Word(sum)
+        let word = Word(sum);
+        Sum {
+            word: word,
+            overflow: sum < self.0,
+        }
     }
 }

@@ -32,8 +32,8 @@ use Rattle.rules.specs.StepFiles.{fileSteps, startOf, traceLines, text, 
 use Rattle.rules.specs.Steps.{wellFormed, kindAnswer, ruledAnswer, stepAnswer, performed, answered, step, ruledStep, quiescent, stepsBy, wordOn, receivedOn}
 use Rattle.rules.specs.Systems.{taskIn, taskStored, withTask, withCell, channelAt, entryAt}
 use Rattle.rules.specs.Tasks.{woken}
-use Rattle.rules.specs.Trace.{digits, fields, stepLine, endLine, stepLines, refusedLine}
+use Rattle.rules.specs.Trace.{digits, fields, stepLine, overLine, overLines, endLine, stepLines, refusedLine}
 
 unfoldable pub evaluated : Unit {0}
-unfolding sameBytes every everyPair any tableBefore table fold member inserted removed layoutOk filePrograms secondBytesOk fileAnswer startAnswer layout planRead writeAnswer writeOutput startNumber programs canonical sizesOk instructionOk instructionsOk finishOk finishesOk createsOk structureAnswer planAnswer users setWord addWord terminatedRule takenOver arrival callRule dataRule newer larger firstNoted gotTerminated gotMigration opened delivered deliverAnswer completed siteAt withOutcome forCells forChannels syncRule finishRule moved moveAnswer messages messageAt enqueued enqueuedAll dequeued messagesOf offerRule advertRule nextIn lastIn isOn sendNumber receivePasses receiveWaits receiveRule ranCreate ranFinish ranSend ranReceive executed ran fits runAnswer sameBool linesHold startOn historyHolds sendPasses sendWaits sendRule tablesOk messageOk networkOk unbornOk bornOk taskOk systemOk birth blank started fileSteps startOf traceLines text stepsOk runFileAnswer fitting runFileText runFileOutput printed wellFormed kindAnswer ruledAnswer stepAnswer performed answered step ruledStep quiescent stepsBy wordOn receivedOn taskIn taskStored withTask entryAt channelAt withCell woken digits fields stepLine endLine stepLines refusedLine channelEntriesOk channelsOk plain
+unfolding sameBytes every everyPair any tableBefore table fold member inserted removed layoutOk filePrograms secondBytesOk fileAnswer startAnswer layout planRead writeAnswer writeOutput startNumber programs canonical sizesOk instructionOk instructionsOk finishOk finishesOk createsOk structureAnswer planAnswer users setWord addWord terminatedRule takenOver arrival callRule dataRule newer larger firstNoted gotTerminated gotMigration opened delivered deliverAnswer completed siteAt withOutcome forCells forChannels syncRule finishRule moved moveAnswer messages messageAt enqueued enqueuedAll dequeued messagesOf offerRule advertRule nextIn lastIn isOn sendNumber receivePasses receiveWaits receiveRule ranCreate ranFinish ranSend ranReceive executed ran fits runAnswer sameBool linesHold startOn historyHolds sendPasses sendWaits sendRule tablesOk messageOk networkOk unbornOk bornOk taskOk systemOk birth blank started fileSteps startOf traceLines text stepsOk runFileAnswer fitting runFileText runFileOutput printed wellFormed kindAnswer ruledAnswer stepAnswer performed answered step ruledStep quiescent stepsBy wordOn receivedOn taskIn taskStored withTask entryAt channelAt withCell woken digits fields stepLine overLine overLines endLine stepLines refusedLine channelEntriesOk channelsOk plain
 evaluated = tt

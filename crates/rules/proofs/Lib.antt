@@ -18,5 +18,7 @@ pub mod MessageCases
 pub mod TaskCases
 -- each refusal of a run, a delivery and a move, in their order where several hold; whole steps
 pub mod StepCases
+-- the mark of a sum over the top
+pub mod OverflowCases
 -- numbers in a line, lines, and what fits into an output
 pub mod TraceCases

@@ -42,16 +42,16 @@ run-numbers : map runNumber (Traced ∷ Unstarted BadFinish ∷ BadSteps ∷ Out
 run-numbers = refl
 
 -- records field by field: before birth, at birth at desk 2, on the way from desk 2, after an arrival at desk 3
-unborn-task : unborn ≡ record { state = Unborn; processor = noProcessor; pc = 1; home = noProcessor; word = zeroWord; moves = 0; children = 0 }
+unborn-task : unborn ≡ record { state = Unborn; processor = noProcessor; pc = 1; home = noProcessor; word = zeroWord; overflow = false; moves = 0; children = 0 }
 unborn-task = refl
 
-born-task : born (processor 2) ≡ record { state = Ready; processor = processor 2; pc = 1; home = processor 2; word = zeroWord; moves = 1; children = 0 }
+born-task : born (processor 2) ≡ record { state = Ready; processor = processor 2; pc = 1; home = processor 2; word = zeroWord; overflow = false; moves = 1; children = 0 }
 born-task = refl
 
-departed-task : departed (born (processor 2)) ≡ record { state = Moving; processor = noProcessor; pc = 1; home = processor 2; word = zeroWord; moves = 2; children = 0 }
+departed-task : departed (born (processor 2)) ≡ record { state = Moving; processor = noProcessor; pc = 1; home = processor 2; word = zeroWord; overflow = false; moves = 2; children = 0 }
 departed-task = refl
 
-arrived-task : arrived (departed (born (processor 2))) (processor 3) ≡ record { state = Ready; processor = processor 3; pc = 1; home = processor 2; word = zeroWord; moves = 2; children = 0 }
+arrived-task : arrived (departed (born (processor 2))) (processor 3) ≡ record { state = Ready; processor = processor 3; pc = 1; home = processor 2; word = zeroWord; overflow = false; moves = 2; children = 0 }
 arrived-task = refl
 
 -- a task that has executed the second of four instructions, a send on channel 1; one that has executed none
@@ -210,11 +210,11 @@ refused-stays : ruledStep small (deliver 1) ≡ record { report = record { answe
 unfolding evaluated small
 refused-stays = refl
 
--- create, set and add: 65,535 and 8 make 7; the child is ready at the desk of its parent, which has it among its children
+-- create, set and add: 65,535 and 8 make 7, and go over the top; the child is ready at the desk of its parent, which has it among its children
 abbrev begun : System
 begun = ruledSteps family (run 1 ∷ run 1 ∷ run 1 ∷ []) .system
 
-begun-parent : taskAt begun (taskId 1) ≡ withPc (withChild (record { state = Ready; processor = processor 1; pc = 1; home = processor 1; word = seven; moves = 1; children = 0 }) (taskId 2)) 4
+begun-parent : taskAt begun (taskId 1) ≡ withPc (withChild (record { state = Ready; processor = processor 1; pc = 1; home = processor 1; word = seven; overflow = true; moves = 1; children = 0 }) (taskId 2)) 4
 unfolding evaluated family
 begun-parent = refl
 

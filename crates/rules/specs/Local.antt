@@ -9,7 +9,7 @@ use Rattle.rules.specs.declared.message.Message.the-variants.{Terminated
 use Rattle.rules.specs.declared.rule.Posting.the-variants.{Nothing, Single}
 use Rattle.rules.specs.declared.rule.Finished.{Finished}
 use Rattle.rules.specs.Numbers.{sameTask, taskId}
-use Rattle.rules.specs.Tasks.{isAt, withState, withWord, advanced, withChild, isChildless, withoutChild}
+use Rattle.rules.specs.Tasks.{isAt, withState, withWord, marked, advanced, withChild, isChildless, withoutChild}
 
 -- "Create: the child becomes ready at d .. and joins the living children.": the creating task; the child's is a birth
 abbrev pub createRule : Task → TaskId → Task
@@ -32,5 +32,8 @@ finishRule t x parent =
 abbrev pub setRule : Task → Instruction → Task
 setRule x i = advanced (withWord x (setWord (x .word) i))
 
+-- "Adding now tells whether the sum passed 65,535, besides the wrapped word. A task that met this .. carries a mark"
 abbrev pub addRule : Task → Instruction → Task
-addRule x i = advanced (withWord x (addWord (x .word) i))
+addRule x i =
+    let s = addWord (x .word) i in
+    advanced (marked (withWord x (s .word)) (s .overflow))

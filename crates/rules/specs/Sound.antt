@@ -75,9 +75,11 @@ messageOk n m (Migration d t) = processorOk n d && taskNumberOk m t
 unfoldable pub networkOk : ℕ → ℕ → Network → Bool
 networkOk n m x = leb (x .used) networkSize && every (messageOk n m) (messages x)
 
--- "an unborn .. task not as said above": the record `unborn`, with any children
+-- "an unborn .. task not as said above": the record `unborn`, with any children; "an unborn task with one", a mark, "is refused by 9"
 unfoldable pub unbornOk : Task → Bool
-unbornOk x = isNone (x .processor) && (eqb (x .pc) 1 && (every (eqb 0) (wordNumbers (x .word)) && (isNone (x .home) && eqb (x .moves) 0)))
+unbornOk x =
+    isNone (x .processor)
+    && (eqb (x .pc) 1 && (every (eqb 0) (wordNumbers (x .word)) && (not (x .overflow) && (isNone (x .home) && eqb (x .moves) 0))))
 
 -- "a .. moving task not as said above"; any other is at a desk of the rig
 abbrev pub whereOk : ℕ → Task → Bool

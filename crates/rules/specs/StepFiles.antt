@@ -17,7 +17,7 @@ use Rattle.rules.specs.declared.system.System.{System}
 use Rattle.rules.specs.Answers.{runNumber}
 use Rattle.rules.specs.Starts.{started}
 use Rattle.rules.specs.Steps.{steps}
-use Rattle.rules.specs.Trace.{stepLines, endLine, refusedLine}
+use Rattle.rules.specs.Trace.{stepLines, overLines, endLine, refusedLine}
 
 -- "A step is 4 bytes: kind .., task, 16-bit number.": the step after the first k
 abbrev pub stepAt : List ℕ → ℕ → Step
@@ -30,11 +30,11 @@ fileSteps b = table (length b / 4) (stepAt b)
 unfoldable pub startOf : ℕ → List ℕ → System
 startOf n p = started n (canonical (filePrograms p))
 
--- the lines of the trace: those of the steps, and the last
+-- the lines of the trace: those of the steps, of the marked tasks, and the last
 unfoldable pub traceLines : System → List Step → List (List ℕ)
 traceLines r ss =
     let h = steps r ss in
-    stepLines 0 (h .reports) ++ (endLine (h .system) ∷ [])
+    stepLines 0 (h .reports) ++ (overLines (h .system) ++ (endLine (h .system) ∷ []))
 
 -- lines one after the other
 unfoldable pub text : List (List ℕ) → List ℕ

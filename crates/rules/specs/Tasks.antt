@@ -1,5 +1,5 @@
 -- One task: its states, and what birth, departure, arrival and the smaller changes make of its record.
-use mathlib.Core.Bool.{Bool, _&&_}
+use mathlib.Core.Bool.{Bool, false, _&&_, _||_}
 use Prim.Native.Nat.{ℕ, _+_}
 use lib.Dec.{eqb}
 use Rattle.base.specs.Choice.{pick}
@@ -32,34 +32,37 @@ isAt d x = sameProcessor (x .processor) d
 
 -- the record with one field changed
 abbrev pub withState : Task → TaskState → Task
-withState x s = record { state = s; processor = x .processor; pc = x .pc; home = x .home; word = x .word; moves = x .moves; children = x .children }
+withState x s = record { state = s; processor = x .processor; pc = x .pc; home = x .home; word = x .word; overflow = x .overflow; moves = x .moves; children = x .children }
 
 abbrev pub withProcessor : Task → ProcessorId → Task
-withProcessor x d = record { state = x .state; processor = d; pc = x .pc; home = x .home; word = x .word; moves = x .moves; children = x .children }
+withProcessor x d = record { state = x .state; processor = d; pc = x .pc; home = x .home; word = x .word; overflow = x .overflow; moves = x .moves; children = x .children }
 
 abbrev pub withPc : Task → ℕ → Task
-withPc x n = record { state = x .state; processor = x .processor; pc = n; home = x .home; word = x .word; moves = x .moves; children = x .children }
+withPc x n = record { state = x .state; processor = x .processor; pc = n; home = x .home; word = x .word; overflow = x .overflow; moves = x .moves; children = x .children }
 
 abbrev pub withWord : Task → Word → Task
-withWord x w = record { state = x .state; processor = x .processor; pc = x .pc; home = x .home; word = w; moves = x .moves; children = x .children }
+withWord x w = record { state = x .state; processor = x .processor; pc = x .pc; home = x .home; word = w; overflow = x .overflow; moves = x .moves; children = x .children }
+
+abbrev pub withOverflow : Task → Bool → Task
+withOverflow x b = record { state = x .state; processor = x .processor; pc = x .pc; home = x .home; word = x .word; overflow = b; moves = x .moves; children = x .children }
 
 abbrev pub withMoves : Task → ℕ → Task
-withMoves x n = record { state = x .state; processor = x .processor; pc = x .pc; home = x .home; word = x .word; moves = n; children = x .children }
+withMoves x n = record { state = x .state; processor = x .processor; pc = x .pc; home = x .home; word = x .word; overflow = x .overflow; moves = n; children = x .children }
 
 abbrev pub withChildren : Task → ℕ → Task
-withChildren x s = record { state = x .state; processor = x .processor; pc = x .pc; home = x .home; word = x .word; moves = x .moves; children = s }
+withChildren x s = record { state = x .state; processor = x .processor; pc = x .pc; home = x .home; word = x .word; overflow = x .overflow; moves = x .moves; children = s }
 
 -- what stands for a task where there is none: it is nowhere
 abbrev pub noTask : Task
-noTask = record { state = Unborn; processor = noProcessor; pc = 0; home = noProcessor; word = zeroWord; moves = 0; children = 0 }
+noTask = record { state = Unborn; processor = noProcessor; pc = 0; home = noProcessor; word = zeroWord; overflow = false; moves = 0; children = 0 }
 
 -- "An unborn task has desk 0, place 1, word 0, count 0"; "a desk of birth (0 before it)"
 abbrev pub unborn : Task
-unborn = record { state = Unborn; processor = noProcessor; pc = 1; home = noProcessor; word = zeroWord; moves = 0; children = 0 }
+unborn = record { state = Unborn; processor = noProcessor; pc = 1; home = noProcessor; word = zeroWord; overflow = false; moves = 0; children = 0 }
 
 -- birth: "ready at d, its desk of birth, with place 1 and no children"; "a word (0 at birth)", "a move count (1 at birth)"
 abbrev pub born : ProcessorId → Task
-born d = record { state = Ready; processor = d; pc = 1; home = d; word = zeroWord; moves = 1; children = 0 }
+born d = record { state = Ready; processor = d; pc = 1; home = d; word = zeroWord; overflow = false; moves = 1; children = 0 }
 
 -- move: "Its count goes up by one"; "a moving one has desk 0"
 abbrev pub departed : Task → Task
@@ -79,6 +82,10 @@ readied x = withState x Ready
 -- "the receiver takes it and is ready"
 abbrev pub taking : Task → Word → Task
 taking x w = withWord (readied x) w
+
+-- "A task that met this, and no other, carries a mark until done and after": the task after a sum that went over the top, or did not
+abbrev pub marked : Task → Bool → Task
+marked x b = withOverflow x (x .overflow || b)
 
 -- "joins the living children"
 abbrev pub withChild : Task → TaskId → Task

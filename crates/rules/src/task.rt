@@ -17,7 +17,7 @@ pub enum TaskState {
 }
 
 // "A task has a state .., a desk, a place, a word (0 at birth), a desk of birth (0 before it), a move count (1 at birth) and a
-// 64-bit set of living children, bit t−1 for task t."
+// 64-bit set of living children, bit t−1 for task t."; "A task that met this .. carries a mark": it met a sum over the top.
 pub struct Task {
     pub state: TaskState,
     // its desk, 0 where it has none
@@ -27,6 +27,8 @@ pub struct Task {
     // its desk of birth
     pub home: ProcessorId,
     pub word: Word,
+    // its mark
+    pub overflow: bool,
     // its move count
     pub moves: u16,
     pub children: u64,
@@ -47,6 +49,7 @@ impl Task {
             pc: self.pc,
             home: home,
             word: word,
+            overflow: self.overflow,
             moves: self.moves,
             children: self.children,
         }
@@ -62,6 +65,7 @@ impl Task {
         self.home = at;
         let zero = Word(0);
         self.word = zero;
+        self.overflow = false;
         self.moves = 1;
         self.children = 0;
         let ready = TaskState::Ready;
