@@ -1,6 +1,6 @@
 -- A run step of a ready task leaves a fine effect.
 use mathlib.Core.Path.{_≡_, refl}
-use mathlib.Core.Bool.{true, false}
+use mathlib.Core.Bool.{true, false, _||_}
 use Prim.Native.Nat.{ℕ, _-_, _≤_, _<_}
 use native.Mathlib.Omega.{arith}
 use lib.Dec.{eqb}
@@ -121,5 +121,5 @@ module _ (r : System) (s : Startable (r .processors) (r .plan)) (w : Whole r) (t
       (λ e. let k = eqb-true (i .opcode) opReceive e in receive-effect r s w t l h (channelId (i .operand)) (receive-operand _ i next-fine k) (acting opReceive k refl))
       (λ e.
       pick-cases Left (eqb (i .opcode) opSet) _ _
-      (λ e. changes _ (word-ok _ _ _ x (i .opcode) (acting (i .opcode) refl f) (setWord (x .word) i)))
-      (λ e. changes _ (word-ok _ _ _ x (i .opcode) (acting (i .opcode) refl f) (addWord (x .word) i))))))))
+      (λ e. changes _ (word-ok _ _ _ x (i .opcode) (acting (i .opcode) refl f) (setWord (x .word) i) (x .overflow)))
+      (λ e. changes _ (word-ok _ _ _ x (i .opcode) (acting (i .opcode) refl f) (addWord (x .word) i .word) (x .overflow || addWord (x .word) i .overflow))))))))

@@ -1,6 +1,6 @@
 -- What the rules make of a task's record is not refused by 9.
 use mathlib.Core.Path.{_≡_, refl}
-use mathlib.Core.Bool.{true}
+use mathlib.Core.Bool.{Bool, true}
 use Prim.Native.Nat.{ℕ, _+_, _-_, _<_, _^_}
 use native.Mathlib.Omega.{arith}
 use lib.ListN.{length}
@@ -12,7 +12,7 @@ use Rattle.plan.specs.Kinds.{opSend, opReceive}
 use Rattle.plan.specs.Programs.{Program}
 use Rattle.rules.specs.declared.task.Task.{Task}
 use Rattle.rules.specs.declared.task.TaskState.the-variants.{Ready, Waiting, Sending, Receiving}
-use Rattle.rules.specs.Tasks.{stateNumber, isIn, withState, withWord, advanced, readied, taking, isChildless}
+use Rattle.rules.specs.Tasks.{stateNumber, isIn, withState, withWord, withOverflow, advanced, readied, taking, isChildless}
 use Rattle.rules.specs.Places.{nextIn, lastIn}
 use Rattle.rules.specs.Local.{createRule, syncRule}
 use Rattle.rules.specs.Sound.{taskOk}
@@ -44,8 +44,8 @@ module _ (n m : ℕ) (g : Program) (x : Task) where
     pub create-ok : (u : TaskId) → inserted (u .0) (x .children) < 2 ^ m → taskOk n m g (createRule x u) ≡ true
     create-ok u h = let s = acts in ready-ok (createRule x u) (omega arith) (a .ready)
 
-    pub word-ok : (w : Word) → taskOk n m g (advanced (withWord x w)) ≡ true
-    word-ok w = let s = acts in ready-ok (advanced (withWord x w)) (omega arith) (a .ready)
+    pub word-ok : (w : Word) (b : Bool) → taskOk n m g (advanced (withOverflow (withWord x w) b)) ≡ true
+    word-ok w b = let s = acts in ready-ok (advanced (withOverflow (withWord x w) b)) (omega arith) (a .ready)
 
     pub passing-ok : (w : Word) → taskOk n m g (advanced (taking x w)) ≡ true
     passing-ok w = let s = acts in settled-ok n m g (advanced (taking x w)) (omega arith) refl
