@@ -2,7 +2,7 @@
 use mathlib.Core.Path.{_≡_, refl, sym, ap}
 use mathlib.Core.Bool.{Bool, true, false}
 use mathlib.Core.Logic.{_≢_, Ne·symm, by-cases}
-use Prim.Native.Nat.{ℕ, suc}
+use Prim.Native.Nat.{ℕ}
 use native.Mathlib.Decide.{ℕ-discrete}
 use Rattle.base.specs.Choice.{pick}
 use Rattle.base.proofs.Updates.{updated-other, updated-comm, updated-swap}
@@ -16,14 +16,15 @@ use Rattle.plan.specs.Users.{senderOf, receiverOf}
 use Rattle.net.specs.States.{Net, atTask}
 use Rattle.net.specs.Labels.{Label, Label-discrete, own, pass, isCreate}
 use Rattle.net.specs.Guards.{nextOf, enabled}
-use Rattle.net.specs.Effects.{bornAfter, wordAfter, afterOwn, afterPass, effect}
+use Rattle.net.specs.Effects.{bornAfter, afterOwn, afterPass, effect}
 use Rattle.net.specs.Nets.{net}
 use Rattle.net.proofs.Parts.{no-part-own, no-part-pass, sender-part, receiver-part, own-part, apart, ends-apart}
 use Rattle.net.proofs.Stays.{next-stays, still-enabled}
 
--- states with the same four parts are one
-same-net : {s z : Net} → s .born ≡ z .born → s .completed ≡ z .completed → s .word ≡ z .word → s .passed ≡ z .passed → s ≡ z
-same-net b p w g = λ i. record { born = b i; completed = p i; word = w i; passed = g i }
+-- states with the same five parts are one
+same-net : {s z : Net} → s .born ≡ z .born → s .completed ≡ z .completed → s .word ≡ z .word → s .overflow ≡ z .overflow → s .passed ≡ z .passed
+    → s ≡ z
+same-net b p w o g = λ i. record { born = b i; completed = p i; word = w i; overflow = o i; passed = g i }
 
 -- two births
 births : (i j : Instruction) (born : TaskId → Bool) → bornAfter j (bornAfter i born) ≡ bornAfter i (bornAfter j born)
@@ -38,18 +39,12 @@ births i j born = go (isCreate i) (isCreate j)
     go false true = refl
     go false false = refl
 
--- each of two tasks changes its own value
-own-values : {A : Type 0} (f : TaskId → A) (t u : TaskId) (g h : A → A) → t .0 ≢ u .0
-    → atTask (atTask f t (g (f t))) u (h (atTask f t (g (f t)) u)) ≡ atTask (atTask f u (h (f u))) t (g (atTask f u (h (f u)) t))
-own-values f t u g h ne =
-    rw (updated-other (λ (x : TaskId). x .0) f t u (g (f t)) (Ne·symm ne), updated-other (λ (x : TaskId). x .0) f u t (h (f u)) ne)
-    (updated-comm _ f t u (g (f t)) (h (f u)) ne)
-
 module _ (s : Net) where
   own-own-state : (t u : TaskId) (i j : Instruction) → t .0 ≢ u .0 → afterOwn (afterOwn s t i) u j ≡ afterOwn (afterOwn s u j) t i
   unfolding afterOwn
   own-own-state t u i j ne =
-      same-net (births i j (s .born)) (own-values (s .completed) t u suc suc ne) (own-values (s .word) t u (wordAfter i) (wordAfter j) ne) refl
+      let en = Ne·symm ne in
+      same-net (births i j (s .born)) (simp (updated-other, updated-comm)) (simp (updated-other, updated-comm)) (simp (updated-other, updated-comm)) refl
 
   own-pass-state : (t : TaskId) (i : Instruction) (c : ChannelId) (a b : TaskId) → t .0 ≢ a .0 → t .0 ≢ b .0 → a .0 ≢ b .0
       → afterPass (afterOwn s t i) c a b ≡ afterOwn (afterPass s c a b) t i
@@ -58,7 +53,7 @@ module _ (s : Net) where
       let at = Ne·symm ta in
       let bt = Ne·symm tb in
       let ba = Ne·symm ab in
-      same-net refl (simp (updated-other, updated-comm)) (simp (updated-other, updated-comm)) (simp updated-other)
+      same-net refl (simp (updated-other, updated-comm)) (simp (updated-other, updated-comm)) (simp updated-other) (simp updated-other)
 
   pass-pass-state : (c : ChannelId) (a b : TaskId) (d : ChannelId) (e f : TaskId) → c .0 ≢ d .0 → a .0 ≢ b .0 → e .0 ≢ f .0
       → a .0 ≢ e .0 → a .0 ≢ f .0 → b .0 ≢ e .0 → b .0 ≢ f .0
@@ -72,7 +67,7 @@ module _ (s : Net) where
       let fa = Ne·symm af in
       let eb = Ne·symm be in
       let fb = Ne·symm bf in
-      same-net refl (simp (updated-other, updated-comm)) (simp (updated-other, updated-comm)) (simp (updated-other, updated-comm))
+      same-net refl (simp (updated-other, updated-comm)) (simp (updated-other, updated-comm)) refl (simp (updated-other, updated-comm))
 
 module _ (m : Programs) (s : Net) where
   own-own : (t u : TaskId) → own t ≢ own u → enabled m s (own t) ≡ true → enabled m s (own u) ≡ true

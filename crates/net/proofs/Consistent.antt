@@ -30,7 +30,7 @@ use Rattle.net.specs.Effects.{afterOwn, afterPass, effect}
 use Rattle.net.specs.Nets.{net, Reached}
 use Rattle.net.specs.Consistent.{isCreated, Consistent}
 use Rattle.net.proofs.Parts.{same-task, part-pass, acting, own-active, stands-opcode, sender-stands, receiver-stands}
-use Rattle.net.proofs.Stays.{born-after, completed-grows, completed-stays, word-stays, born-kept}
+use Rattle.net.proofs.Stays.{born-after, completed-grows, completed-stays, word-stays, overflow-stays, born-kept}
 use Rattle.net.proofs.Remaining.{active-short}
 use Rattle.net.proofs.NextInstruction.{next-creates}
 
@@ -115,6 +115,7 @@ module _ (m : Programs) (a : planAnswer m ≡ Accepted) (s : Net) (old : Consist
         nobody = λ u w. label-nobody l u h w;
         idle = λ t e. let b = unborn-before l t e in completed-stays m s l t (unborn-idle l t h b) ∙ old .idle t b;
         wordless = λ t e. let b = unborn-before l t e in word-stays m s l t (unborn-idle l t h b) ∙ old .wordless t b;
+        unmarked = λ t e. let b = unborn-before l t e in overflow-stays m s l t (unborn-idle l t h b) ∙ old .unmarked t b;
         sized = λ t. label-sized l t h;
       }
 
@@ -128,6 +129,7 @@ start-consistent m a =
       nobody = λ u w. ne-eqb 1 (u .0) (λ e. tests-differ (within-both 1 (length m) (u .0) (omega arith) (omega arith)) w);
       idle = λ t e. refl;
       wordless = λ t e. refl;
+      unmarked = λ t e. refl;
       sized = λ t. omega arith;
     }
 

@@ -11,9 +11,9 @@ use Rattle.plan.specs.Files.{filePrograms}
 use Rattle.plan.proofs.WriteEdges.{sameBytes}
 use Rattle.net.specs.States.{startNet}
 use Rattle.net.specs.Guards.{programFor, isComplete, isActive, nextOf, standsAt, childrenComplete, isFree, enabled}
-use Rattle.net.specs.Effects.{bornAfter, wordAfter, afterOwn, afterPass, effect}
+use Rattle.net.specs.Effects.{bornAfter, wordAfter, overflowAfter, afterOwn, afterPass, effect}
 use Rattle.net.specs.Samples.{mayAct, wordsNumbers, sameRows, ended, played, sampleHolds, samples}
 
 pub all-hold : every sampleHolds samples ≡ true
-unfolding fold every any tableBefore table updated setWord addWord users sizesOk instructionOk instructionsOk finishOk finishesOk createsOk channelsOk structureAnswer planAnswer filePrograms sameBytes startNet programFor isComplete isActive nextOf standsAt childrenComplete isFree enabled bornAfter wordAfter afterOwn afterPass effect mayAct wordsNumbers sameRows ended played sampleHolds samples
+unfolding fold every any tableBefore table updated setWord addWord users sizesOk instructionOk instructionsOk finishOk finishesOk createsOk channelsOk structureAnswer planAnswer filePrograms sameBytes startNet programFor isComplete isActive nextOf standsAt childrenComplete isFree enabled bornAfter wordAfter overflowAfter afterOwn afterPass effect mayAct wordsNumbers sameRows ended played sampleHolds samples
 all-hold = refl

@@ -58,6 +58,11 @@ module _ (m : Programs) (s : Net) where
   word-stays (own u) t p = let ne = no-part-own m t u p in simp updated-other
   word-stays (pass c) t p = let (a, b) = no-part-pass m t c p in simp updated-other
 
+  pub overflow-stays : (l : Label) (t : TaskId) → takesPart m t l ≡ false → effect m s l .overflow t ≡ s .overflow t
+  unfolding effect afterOwn afterPass
+  overflow-stays (own u) t p = let ne = no-part-own m t u p in simp updated-other
+  overflow-stays (pass c) t p = refl
+
   pub next-stays : (l : Label) (t : TaskId) → takesPart m t l ≡ false → nextOf m (effect m s l) t ≡ nextOf m s t
   unfolding nextOf
   next-stays l t p = rw (completed-stays l t p) refl

@@ -26,4 +26,5 @@ pub record Consistent (m : Programs) (s : Net) : Type 0 where
   -- who is not born has done nothing, and nobody has done more than its program
   pub idle : (t : TaskId) → s .born t ≡ false → s .completed t ≡ 0
   pub wordless : (t : TaskId) → s .born t ≡ false → s .word t ≡ zeroWord
+  pub unmarked : (t : TaskId) → s .born t ≡ false → s .overflow t ≡ false
   pub sized : (t : TaskId) → s .completed t ≤ length (programFor m t)

@@ -1,5 +1,5 @@
 -- What taking a label does.
-use mathlib.Core.Bool.{Bool, true}
+use mathlib.Core.Bool.{Bool, true, _&&_, _||_}
 use mathlib.Core.List.{[], _∷_, _++_}
 use Prim.Native.Nat.{suc}
 use lib.Dec.{eqb}
@@ -17,12 +17,19 @@ use Rattle.net.specs.States.{Net, atTask, atChannel}
 use Rattle.net.specs.Labels.{Label, own, pass, isCreate}
 use Rattle.net.specs.Guards.{nextOf}
 
--- who is born after instruction i, and the word then of the task that does it
+-- who is born after instruction i, and the word and the mark then of the task that does it
 unfoldable pub bornAfter : Instruction → (TaskId → Bool) → TaskId → Bool
 bornAfter i born = pick (isCreate i) (atTask born (taskId (i .operand)) true) born
 
 unfoldable pub wordAfter : Instruction → Word → Word
-wordAfter i w = pick (eqb (i .opcode) opSet) (setWord w i) (pick (eqb (i .opcode) opAdd) (addWord w i) w)
+wordAfter i w = pick (eqb (i .opcode) opSet) (setWord w i) (pick (eqb (i .opcode) opAdd) (addWord w i .word) w)
+
+-- to word w it is an add whose sum goes over the top
+abbrev pub isOverflow : Instruction → Word → Bool
+isOverflow i w = eqb (i .opcode) opAdd && addWord w i .overflow
+
+unfoldable pub overflowAfter : Instruction → Word → Bool → Bool
+overflowAfter i w b = b || isOverflow i w
 
 -- the state after task t's own instruction i
 unfoldable pub afterOwn : Net → TaskId → Instruction → Net
@@ -31,6 +38,7 @@ afterOwn s t i =
       born = bornAfter i (s .born);
       completed = atTask (s .completed) t (suc (s .completed t));
       word = atTask (s .word) t (wordAfter i (s .word t));
+      overflow = atTask (s .overflow) t (overflowAfter i (s .word t) (s .overflow t));
       passed = s .passed;
     }
 
@@ -41,6 +49,7 @@ afterPass s c a b =
       born = s .born;
       completed = atTask (atTask (s .completed) a (suc (s .completed a))) b (suc (s .completed b));
       word = atTask (s .word) b (s .word a);
+      overflow = s .overflow;
       passed = atChannel (s .passed) c (s .passed c ++ (s .word a ∷ []));
     }
 

@@ -45,9 +45,9 @@ unfoldable pub mayAct : Programs → Net → List ℕ → List ℕ → Bool
 mayAct m s tasks channels =
     sameBytes (those (length m) (λ t. enabled m s (own (taskId t)))) tasks && sameBytes (those 3 (λ c. enabled m s (pass (channelId c)))) channels
 
--- a task: 1 if it is born, how many instructions it has completed, its word
+-- a task: 1 if it is born, how many instructions it has completed, 1 if it is marked, its word
 abbrev taskNumbers : Net → TaskId → List ℕ
-taskNumbers s t = pick (s .born t) 1 0 ∷ s .completed t ∷ wordNumbers (s .word t)
+taskNumbers s t = pick (s .born t) 1 0 ∷ s .completed t ∷ pick (s .overflow t) 1 0 ∷ wordNumbers (s .word t)
 
 -- words, as numbers
 unfoldable pub wordsNumbers : List Word → List ℕ
@@ -101,7 +101,7 @@ workedSample =
           ∷ acts (1 ∷ []) [] 1
           ∷ acts (1 ∷ []) [] 1
           ∷ [];
-      tasks = (1 ∷ 5 ∷ 7 ∷ []) ∷ (1 ∷ 3 ∷ 8 ∷ []) ∷ [];
+      tasks = (1 ∷ 5 ∷ 0 ∷ 7 ∷ []) ∷ (1 ∷ 3 ∷ 0 ∷ 8 ∷ []) ∷ [];
       channels = [] ∷ [] ∷ (7 ∷ []) ∷ [];
     }
 
@@ -117,7 +117,7 @@ childrenSample =
           ∷ (does opReceive 1 ∷ does opSend 2 ∷ end ∷ [])
           ∷ [];
       run = acts (1 ∷ []) [] 1 ∷ acts (2 ∷ []) [] 2 ∷ acts (1 ∷ []) [] 1 ∷ acts (1 ∷ []) [] 1 ∷ acts (3 ∷ []) [] 3 ∷ [];
-      tasks = (1 ∷ 3 ∷ 0 ∷ []) ∷ (1 ∷ 1 ∷ 0 ∷ []) ∷ (1 ∷ 1 ∷ 0 ∷ []) ∷ (1 ∷ 0 ∷ 0 ∷ []) ∷ [];
+      tasks = (1 ∷ 3 ∷ 0 ∷ 0 ∷ []) ∷ (1 ∷ 1 ∷ 0 ∷ 0 ∷ []) ∷ (1 ∷ 1 ∷ 0 ∷ 0 ∷ []) ∷ (1 ∷ 0 ∷ 0 ∷ 0 ∷ []) ∷ [];
       channels = [] ∷ [] ∷ [] ∷ [];
     }
 
@@ -139,8 +139,33 @@ wordsSample =
           ∷ acts (2 ∷ []) [] 2
           ∷ acts (2 ∷ []) [] 2
           ∷ [];
-      tasks = (1 ∷ 5 ∷ 2 ∷ []) ∷ (1 ∷ 4 ∷ 9 ∷ []) ∷ [];
+      tasks = (1 ∷ 5 ∷ 1 ∷ 2 ∷ []) ∷ (1 ∷ 4 ∷ 0 ∷ 9 ∷ []) ∷ [];
       channels = (65535 ∷ 2 ∷ []) ∷ [] ∷ [] ∷ [];
+    }
+
+-- a sum over the top marks its task: no other add does and no set, none takes the mark away, and who receives the word has no mark of it
+abbrev marksSample : Sample
+marksSample =
+    record {
+      plan =
+          (does opCreate 2 ∷ does opSet 65535 ∷ does opAdd 1 ∷ does opSet 3 ∷ does opAdd 2 ∷ does opSend 1 ∷ end ∷ [])
+          ∷ (does opSet 65535 ∷ does opAdd 0 ∷ does opSet 1 ∷ does opReceive 1 ∷ end ∷ [])
+          ∷ [];
+      run =
+          acts (1 ∷ []) [] 1
+          ∷ acts (1 ∷ 2 ∷ []) [] 1
+          ∷ acts (1 ∷ 2 ∷ []) [] 1
+          ∷ acts (1 ∷ 2 ∷ []) [] 1
+          ∷ acts (1 ∷ 2 ∷ []) [] 1
+          ∷ acts (2 ∷ []) [] 2
+          ∷ acts (2 ∷ []) [] 2
+          ∷ acts (2 ∷ []) [] 2
+          ∷ passes [] (1 ∷ []) 1
+          ∷ acts (2 ∷ []) [] 2
+          ∷ acts (1 ∷ []) [] 1
+          ∷ [];
+      tasks = (1 ∷ 7 ∷ 1 ∷ 5 ∷ []) ∷ (1 ∷ 5 ∷ 0 ∷ 5 ∷ []) ∷ [];
+      channels = (5 ∷ []) ∷ [] ∷ [] ∷ [];
     }
 
 -- a task that is not born yet: its word may not pass
@@ -153,7 +178,7 @@ bornSample =
           ∷ (does opSend 1 ∷ end ∷ [])
           ∷ [];
       run = acts (1 ∷ []) [] 1 ∷ [];
-      tasks = (1 ∷ 1 ∷ 0 ∷ []) ∷ (1 ∷ 0 ∷ 0 ∷ []) ∷ (0 ∷ 0 ∷ 0 ∷ []) ∷ [];
+      tasks = (1 ∷ 1 ∷ 0 ∷ 0 ∷ []) ∷ (1 ∷ 0 ∷ 0 ∷ 0 ∷ []) ∷ (0 ∷ 0 ∷ 0 ∷ 0 ∷ []) ∷ [];
       channels = [] ∷ [] ∷ [] ∷ [];
     }
 
@@ -177,9 +202,9 @@ severalSample =
           ∷ acts (1 ∷ []) [] 1
           ∷ acts (1 ∷ []) [] 1
           ∷ [];
-      tasks = (1 ∷ 5 ∷ 4 ∷ []) ∷ (1 ∷ 3 ∷ 1 ∷ []) ∷ (1 ∷ 2 ∷ 0 ∷ []) ∷ [];
+      tasks = (1 ∷ 5 ∷ 0 ∷ 4 ∷ []) ∷ (1 ∷ 3 ∷ 0 ∷ 1 ∷ []) ∷ (1 ∷ 2 ∷ 0 ∷ 0 ∷ []) ∷ [];
       channels = (0 ∷ []) ∷ [] ∷ [] ∷ [];
     }
 
 unfoldable pub samples : List Sample
-samples = workedSample ∷ childrenSample ∷ wordsSample ∷ bornSample ∷ severalSample ∷ []
+samples = workedSample ∷ childrenSample ∷ wordsSample ∷ marksSample ∷ bornSample ∷ severalSample ∷ []

@@ -1,5 +1,5 @@
 -- The state of the net.
-use mathlib.Core.Bool.{Bool}
+use mathlib.Core.Bool.{Bool, false}
 use mathlib.Core.List.{List, []}
 use Prim.Native.Nat.{ℕ}
 use Rattle.base.specs.Updates.{updated}
@@ -15,12 +15,14 @@ pub record Net : Type 0 where
   -- how many of its instructions a task has completed
   pub completed : TaskId → ℕ
   pub word : TaskId → Word
+  -- which tasks are marked, by a sum over the top
+  pub overflow : TaskId → Bool
   -- the words that have passed a channel, in order
   pub passed : ChannelId → List Word
 
 -- task 1 is born, and nothing is done
 unfoldable pub startNet : Net
-startNet = record { born = sameTask (taskId 1); completed = λ t. 0; word = λ t. zeroWord; passed = λ c. [] }
+startNet = record { born = sameTask (taskId 1); completed = λ t. 0; word = λ t. zeroWord; overflow = λ t. false; passed = λ c. [] }
 
 -- what is kept for each task, or for each channel, with that of one changed
 abbrev pub atTask : {A : Type 0} → (TaskId → A) → TaskId → A → TaskId → A
