@@ -95,7 +95,7 @@ alike-created : (g : Program) (x : Task) (u : TaskId) → isIn Ready x ≡ true 
 unfolding senderView receiverView isOn lastIn completedBy nextIn
 alike-created g x u ready low other =
     let z = withChild x u in
-    alike-then g x z (createRule x u) (record { sender = λ c. refl; receiver = λ c history. refl }) (alike-on g z ready low other (x .word))
+    alike-then g x z (createRule x u) (record { sender = λ c. refl; receiver = λ c history. refl }) (alike-on g z ready low other (x .word) (x .overflow))
 
 -- a rig that is read, after task t has gone on; and after it has created task u
 abbrev createdRead : TaskId → TaskId → Reading → Reading

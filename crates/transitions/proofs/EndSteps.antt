@@ -154,6 +154,13 @@ end-step-word (begins a) = refl
 end-step-word (passes w a) = refl
 end-step-word (ends w o) = refl
 
+pub end-step-overflow : {g : Program} {k : ℕ} {s : TaskState} {c : ChannelId} {x : Task} {n : ℕ} {w : Word} {y : Task} → EndStep g k s c x n w y
+    → y .overflow ≡ x .overflow
+end-step-overflow stays = refl
+end-step-overflow (begins a) = refl
+end-step-overflow (passes w a) = refl
+end-step-overflow (ends w o) = refl
+
 -- on its own channel: a ready task is not sending; the four turns of a sender
 module _ (g : Program) (c : ChannelId) (x : Task) where
   pub sender-ready : isIn Ready x ≡ true → senderView g c x .sending ≡ 0

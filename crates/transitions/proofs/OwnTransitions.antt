@@ -1,6 +1,6 @@
 -- An accepted run of a sync, a set or an add is a task's own act.
 use mathlib.Core.Path.{_≡_, refl}
-use mathlib.Core.Bool.{Bool, true, false}
+use mathlib.Core.Bool.{Bool, true, false, _||_, or-false}
 use Prim.Native.Nat.{ℕ}
 use lib.Dec.{eqb}
 use borrow.Author.Tests.{eqb-true}
@@ -19,7 +19,7 @@ use Rattle.rules.specs.declared.task.TaskState.the-variants.{Waiting}
 use Rattle.rules.specs.declared.rule.Received.the-variants.{Nothing}
 use Rattle.rules.specs.declared.step.StepAnswer.the-variants.{Accepted}
 use Rattle.rules.specs.declared.system.System.{System}
-use Rattle.rules.specs.Tasks.{withState, withWord, advanced, isChildless}
+use Rattle.rules.specs.Tasks.{withState, withWord, withOverflow, advanced, isChildless}
 use Rattle.rules.specs.Systems.{taskAt, withTask, meaning}
 use Rattle.rules.specs.Effects.{completed, changed}
 use Rattle.rules.specs.Local.{syncRule, setRule, addRule}
@@ -27,11 +27,11 @@ use Rattle.rules.specs.Runs.{executed, nextOf, ran, runAnswer}
 use Rattle.rules.specs.Sound.{systemOk}
 use Rattle.rules_laws.specs.Shapes.{Shaped}
 use Rattle.net.specs.Labels.{isCreate, isJoin, isTransfer}
-use Rattle.net.specs.Effects.{wordAfter}
+use Rattle.net.specs.Effects.{wordAfter, overflowAfter}
 use Rattle.transitions.specs.Readings.{Reading, reading, withTaskRead}
 use Rattle.transitions.specs.Progress.{programOf}
 use Rattle.transitions.specs.Views.{Histories}
-use Rattle.transitions.specs.Transitions.{Runs, Own, goes-on, waits, OwnTransition}
+use Rattle.transitions.specs.Transitions.{Runs, wentOn, Own, goes-on, waits, OwnTransition}
 use Rattle.transitions.proofs.Unseen.{SeenAlike, alike-on, alike-waits, alike-at, unseen-of}
 use Rattle.transitions.proofs.Frames.{read-task}
 use Rattle.transitions.proofs.Runs.{completed-changed, run-is-task, run-instruction, runs-of}
@@ -61,8 +61,9 @@ module _ (i : Instruction) (no-create : isCreate i ≡ false) (no-finish : isFin
       (three (λ y. changed (withTask r t y)) (eqb (i .opcode) opSync) (eqb (i .opcode) opSet) (syncRule x) (setRule x i) (addRule x i))
 
   module _ (n : ℕ) (fine : instructionOk n i ≡ true) (x : Task) where
-    goes : (w : Word) → wordAfter i (x .word) ≡ w → (isJoin i ≡ true → isChildless x ≡ true) → Own i x (advanced (withWord x w))
-    goes w e j = let o : Own i x (advanced (withWord x (wordAfter i (x .word)))) = goes-on no-transfer j in rw e at o
+    goes : (w : Word) (b : Bool) → wordAfter i (x .word) ≡ w → overflowAfter i (x .word) (x .overflow) ≡ b → (isJoin i ≡ true → isChildless x ≡ true)
+        → Own i x (advanced (withOverflow (withWord x w) b))
+    goes w b e f j = let o : Own i x (wentOn i x) = goes-on no-transfer j in rw (e, f) at o
 
     adds : eqb (i .opcode) opSync ≡ false → eqb (i .opcode) opSet ≡ false → eqb (i .opcode) opAdd ≡ true
     unfolding instructionOk
@@ -72,25 +73,26 @@ module _ (i : Instruction) (no-create : isCreate i ≡ false) (no-finish : isFin
 
     -- which does what is asked of an own act
     own-rule : Own i x (ownRule i x)
-    unfolding syncRule wordAfter
+    unfolding syncRule wordAfter overflowAfter
     own-rule =
         pick-cases (Own i x) (eqb (i .opcode) opSync) _ _
         (λ s.
         let k = eqb-true (i .opcode) opSync s in
         pick-cases (Own i x) (isChildless x) (advanced x) (advanced (withState x Waiting))
-        (λ e. goes (x .word) (rw k refl) (λ j. e))
+        (λ e. goes (x .word) (x .overflow) (rw k refl) (rw k (or-false (x .overflow))) (λ j. e))
         (λ e. waits k e))
         (λ s.
         let join : isJoin i ≡ true → isChildless x ≡ true = λ j. absurd (tests-differ j (rw (s, no-finish) refl)) in
         pick-cases (Own i x) (eqb (i .opcode) opSet) _ _
-        (λ p. goes (setWord (x .word) i) (rw p refl) join)
-        (λ p. goes (addWord (x .word) i) (rw (p, adds s p) refl) join))
+        (λ p. goes (setWord (x .word) i) (x .overflow) (rw p refl) (rw (eqb-true (i .opcode) opSet p) (or-false (x .overflow))) join)
+        (λ p. let sum = addWord (x .word) i in goes (sum .word) (x .overflow || sum .overflow) (rw (p, adds s p) refl) (rw (adds s p) refl) join))
 
 -- what becomes of a ready task by its own instruction is seen by no channel
 own-alike : (m : Programs) (x : Reading) (t : TaskId) (i : Instruction) → Runs m x t i → (y : Task) → Own i (x .tasks t) y
     → SeenAlike (programOf m t) (x .tasks t) y
 own-alike m x t i run y (goes-on n j) =
     alike-on (programOf m t) (x .tasks t) (run .ready) (run .low) (rw (run .next) n) (wordAfter i (x .tasks t .word))
+    (overflowAfter i (x .tasks t .word) (x .tasks t .overflow))
 own-alike m x t i run y (waits k c) = alike-waits (programOf m t) (x .tasks t) (run .ready) (run .low)
 
 module _ (r : System) (shaped : Shaped r) (ok : systemOk r ≡ true) (h : Histories) (t : TaskId) (a : runAnswer r t ≡ Accepted)

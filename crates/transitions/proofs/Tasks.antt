@@ -126,7 +126,7 @@ unfolding taskOk unbornOk
 unborn-is n m g x h e =
     let all : unbornOk x ≡ true = rw e at (and-right (ltb (x .children) (2 ^ m)) (pick (isIn Unborn x) (unbornOk x) (bornOk n g x)) h) in
     let rest = and-right (isNone (x .processor)) _ all in
-    let end = and-right (every (eqb 0) (wordNumbers (x .word))) _ (and-right (eqb (x .pc) 1) _ rest) in
+    let end = and-right (not (x .overflow)) _ (and-right (every (eqb 0) (wordNumbers (x .word))) _ (and-right (eqb (x .pc) 1) _ rest)) in
     record {
       nowhere = eqb-true (x .processor .0) 0 (and-left (isNone (x .processor)) _ all);
       place = eqb-true (x .pc) 1 (and-left (eqb (x .pc) 1) _ rest);

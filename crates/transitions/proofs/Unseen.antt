@@ -1,6 +1,6 @@
 -- A change of tasks that no channel's view sees.
 use mathlib.Core.Path.{_≡_, refl, sym, ap, _∙_}
-use mathlib.Core.Bool.{true, false, _&&_}
+use mathlib.Core.Bool.{Bool, true, false, _&&_}
 use Prim.Native.Nat.{ℕ, suc, _+_, _-_, _≤_}
 use native.Mathlib.Omega.{arith}
 use lib.Dec.{eqb}
@@ -16,7 +16,7 @@ use Rattle.plan.specs.Users.{senderOf, receiverOf}
 use Rattle.rules.specs.declared.task.TaskState.{TaskState}
 use Rattle.rules.specs.declared.task.TaskState.the-variants.{Ready, Waiting, Sending, Receiving}
 use Rattle.rules.specs.declared.task.Task.{Task}
-use Rattle.rules.specs.Tasks.{stateNumber, isIn, withState, withWord, withChildren, advanced, readied, isChildless, woken, withoutChild}
+use Rattle.rules.specs.Tasks.{stateNumber, isIn, withState, withWord, withOverflow, withChildren, advanced, readied, isChildless, woken, withoutChild}
 use Rattle.rules.specs.Places.{nextIn, lastIn, isOn}
 use Rattle.net.specs.States.{atTask}
 use Rattle.net.specs.Labels.{isTransfer}
@@ -96,9 +96,9 @@ module _ (g : Program) where
     here i = rw (← next-completed g x ready) i
 
     -- goes on, is done, or waits
-    pub alike-on : isTransfer (nextIn g x) ≡ false → (w : Word) → SeenAlike g x (advanced (withWord x w))
-    alike-on i w =
-        let y = advanced (withWord x w) in
+    pub alike-on : isTransfer (nextIn g x) ≡ false → (w : Word) (b : Bool) → SeenAlike g x (advanced (withOverflow (withWord x w) b))
+    alike-on i w b =
+        let y = advanced (withOverflow (withWord x w) b) in
         alike-further x y refl refl (idle-ready x ready) (idle-ready y ready) (completed-ready y ready ∙ one-more) (here i)
 
     pub alike-done : isTransfer (nextIn g x) ≡ false → SeenAlike g x (finished x)

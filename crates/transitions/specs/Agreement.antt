@@ -40,6 +40,7 @@ pub record Agrees (m : Programs) (s : Net) (ms : List Message) (t : TaskId) (x :
   pub born : s .born t ≡ not (isIn Unborn x)
   pub completed : s .completed t ≡ completedBy x + length (comingTo (programOf m t) ms x)
   pub word : s .word t ≡ wordWith (x .word) (comingTo (programOf m t) ms x)
+  pub overflow : s .overflow t ≡ x .overflow
   -- a waiting task waits at a sync, for a child
   pub sync : isIn Waiting x ≡ true → lastIn (programOf m t) x .opcode ≡ opSync
   pub waits : isIn Waiting x ≡ true → isChildless x ≡ false

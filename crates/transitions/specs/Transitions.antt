@@ -23,12 +23,12 @@ use Rattle.rules.specs.declared.task.Task.{Task}
 use Rattle.rules.specs.declared.message.Message.the-variants.{Terminated, Migration}
 use Rattle.rules.specs.declared.rule.Received.{Received}
 use Rattle.rules.specs.declared.rule.Received.the-variants.{Nothing, Word as GotWord}
-use Rattle.rules.specs.Tasks.{isIn, isAt, isChildless, withState, withWord, advanced, born, departed, arrived, withoutChild}
+use Rattle.rules.specs.Tasks.{isIn, isAt, isChildless, withState, withWord, withOverflow, advanced, born, departed, arrived, withoutChild}
 use Rattle.rules.specs.Places.{nextIn}
 use Rattle.rules.specs.Local.{createRule}
 use Rattle.net.specs.States.{atTask}
 use Rattle.net.specs.Labels.{isCreate, isJoin, isTransfer}
-use Rattle.net.specs.Effects.{wordAfter}
+use Rattle.net.specs.Effects.{wordAfter, overflowAfter}
 use Rattle.channel.specs.Updates.{atNumber}
 use Rattle.channel.specs.Bags.{one, without}
 use Rattle.channel.specs.Views.{View}
@@ -98,9 +98,13 @@ pub record Runs (m : Programs) (x : Reading) (t : TaskId) (i : Instruction) : Ty
   pub high : x .tasks t .pc ≤ length (programOf m t)
   pub next : nextIn (programOf m t) (x .tasks t) ≡ i
 
+-- a task after an instruction of its own, as in the net: its word and its mark, one place on
+abbrev pub wentOn : Instruction → Task → Task
+wentOn i x = advanced (withOverflow (withWord x (wordAfter i (x .word))) (overflowAfter i (x .word) (x .overflow)))
+
 -- what becomes of a task by an instruction of its own that is no create and no finish: it goes on, or it waits for its children
 pub data Own (i : Instruction) (x : Task) : Task → Type 0 where
-  goes-on : isTransfer i ≡ false → (isJoin i ≡ true → isChildless x ≡ true) → Own i x (advanced (withWord x (wordAfter i (x .word))))
+  goes-on : isTransfer i ≡ false → (isJoin i ≡ true → isChildless x ≡ true) → Own i x (wentOn i x)
   waits : i .opcode ≡ opSync → isChildless x ≡ false → Own i x (advanced (withState x Waiting))
 
 -- sync, set and add
