@@ -78,11 +78,20 @@ module _ {m : Programs} {s : Net} {ms : List Message} {t : TaskId} {x : Task} (a
 
   -- the net's task and what comes to the rig's stay
   pub alike-agrees : {s' : Net} {ns : List Message} → s' .born t ≡ s .born t → s' .completed t ≡ s .completed t → s' .word t ≡ s .word t
-      → comingTo (programOf m t) ns x ≡ comingTo (programOf m t) ms x → Agrees m s' ns t x
-  alike-agrees b k w e =
-      record { born = b ∙ a .born; completed = k ∙ rw e (a .completed); word = w ∙ rw e (a .word); sync = a .sync; waits = a .waits; done = a .done }
+      → s' .overflow t ≡ s .overflow t → comingTo (programOf m t) ns x ≡ comingTo (programOf m t) ms x → Agrees m s' ns t x
+  alike-agrees b k w o e =
+      record {
+        born = b ∙ a .born;
+        completed = k ∙ rw e (a .completed);
+        word = w ∙ rw e (a .word);
+        overflow = o ∙ a .overflow;
+        sync = a .sync;
+        waits = a .waits;
+        done = a .done;
+      }
 
-module _ {m : Programs} {s : Net} {ms : List Message} {t : TaskId} {x : Task} (born : s .born t ≡ true) where
+-- a task that is born, with the net's mark
+module _ {m : Programs} {s : Net} {ms : List Message} {t : TaskId} {x : Task} (born : s .born t ≡ true) (marked : s .overflow t ≡ x .overflow) where
   agrees-by : isIn Unborn x ≡ false → isIn Waiting x ≡ false → (isIn Done x ≡ true → x .pc ≡ suc (length (programOf m t)))
       → s .completed t ≡ completedBy x + length (comingTo (programOf m t) ms x) → s .word t ≡ wordWith (x .word) (comingTo (programOf m t) ms x)
       → Agrees m s ms t x
@@ -91,6 +100,7 @@ module _ {m : Programs} {s : Net} {ms : List Message} {t : TaskId} {x : Task} (b
         born = born ∙ sym (rw b refl);
         completed = k;
         word = w;
+        overflow = marked;
         sync = λ e. absurd (tests-differ e waits);
         waits = λ e. absurd (tests-differ e waits);
         done = done;

@@ -47,7 +47,7 @@ use Rattle.transitions.specs.Agreement.{comingTo, Agrees, PassedAlike, Running}
 use Rattle.transitions.proofs.Updates.{at-task, at-other, at-elim, channel-cases, at-channel, at-other-channel}
 use Rattle.transitions.proofs.Flats.{words-length, none-of}
 use Rattle.transitions.proofs.Tasks.{state-is, Side, sends, receives, on-in, ready-off}
-use Rattle.transitions.proofs.EndSteps.{begins-on, end-step-completed, end-step-word, end-step-steady}
+use Rattle.transitions.proofs.EndSteps.{begins-on, end-step-completed, end-step-word, end-step-overflow, end-step-steady}
 use Rattle.invariant.proofs.Coming.{coming-none, coming-on, coming-alike, agrees-born, agrees-completed, agrees-word, ahead-completed, ahead-word}
 use Rattle.invariant.proofs.Coming.{alike-agrees, agrees-quiet, agrees-ahead, agrees-free}
 use Rattle.invariant.proofs.NetSteps.{Follows, stands-use, stands-on, receives-there}
@@ -77,21 +77,21 @@ module _ {g : Program} {c : ChannelId} {x : Task} (ms : List Message) where
 
 -- the ends of the channel: what agreed with the net before the step agrees after it
 module _ {m : Programs} {s s' : Net} {ms ns : List Message} {t : TaskId} {x : Task} (a : Agrees m s ms t x) (born : s' .born t ≡ s .born t)
-    (c : ChannelId) (low : 1 ≤ c .0) where
+    (marked : s' .overflow t ≡ s .overflow t) (c : ChannelId) (low : 1 ≤ c .0) where
   -- the sender, which completes n instructions
   sender-turned : {n : ℕ} {v : Word} {z : Task} → EndStep (programOf m t) opSend Sending c x n v z → v ≡ x .word → s' .completed t ≡ s .completed t + n
       → s' .word t ≡ s .word t → isIn Unborn x ≡ false → isIn Receiving x ≡ false
       → isIn Unborn z ≡ false → isIn Waiting z ≡ false → isIn Receiving z ≡ false → isIn Done z ≡ false → Agrees m s' ns t z
   sender-turned u e k w b r zb zw zr zd =
       let none = coming-none (programOf m t) x ms r in
-      agrees-quiet (born ∙ agrees-born a b) zb zw (λ d. absurd (tests-differ d zd)) (coming-none (programOf m t) _ ns zr)
+      agrees-quiet (born ∙ agrees-born a b) (marked ∙ a .overflow ∙ sym (end-step-overflow u)) zb zw (λ d. absurd (tests-differ d zd)) (coming-none (programOf m t) _ ns zr)
       (omega (arith, agrees-completed a none, end-step-completed sends low u))
       (w ∙ agrees-word a none ∙ sym (end-step-word u ∙ e))
 
   sender-agrees : {n : ℕ} {v : Word} {z : Task} → EndStep (programOf m t) opSend Sending c x n v z → v ≡ x .word
       → s' .completed t ≡ s .completed t + n
       → s' .word t ≡ s .word t → comingTo (programOf m t) ns x ≡ comingTo (programOf m t) ms x → Agrees m s' ns t z
-  sender-agrees stays e k w same = alike-agrees a born (omega arith) w same
+  sender-agrees stays e k w same = alike-agrees a born (omega arith) w marked same
   sender-agrees (begins u) e k w same =
       sender-turned (begins u) e k w (state-is Ready Unborn x (u .ready)) (state-is Ready Receiving x (u .ready)) refl refl refl refl
   sender-agrees (passes v u) e k w same =
@@ -105,11 +105,11 @@ module _ {m : Programs} {s s' : Net} {ms ns : List Message} {t : TaskId} {x : Ta
       → s' .word t ≡ s .word t
       → comingTo (programOf m t) ns x ≡ comingTo (programOf m t) ms x → (isOn Receiving (programOf m t) c x ≡ false → wordsIn (messagesOn c ns) ≡ [])
       → Agrees m s' ns t z
-  receiver-agrees stays k w same quiet = alike-agrees a born k w same
+  receiver-agrees stays k w same quiet = alike-agrees a born k w marked same
   receiver-agrees (begins u) k w same quiet =
       let g = programOf m t in
       let none = coming-none g x ms (state-is Ready Receiving x (u .ready)) in
-      agrees-quiet (born ∙ agrees-born a (state-is Ready Unborn x (u .ready))) refl refl (λ d. absurd (tests-differ d refl))
+      agrees-quiet (born ∙ agrees-born a (state-is Ready Unborn x (u .ready))) (marked ∙ a .overflow) refl refl (λ d. absurd (tests-differ d refl))
       (coming-on g _ c ns (begins-on receives g c x u) ∙ quiet (ready-off receives g c x (u .ready)))
       (k ∙ omega (arith, agrees-completed a none, end-step-completed receives low (begins u)))
       (w ∙ agrees-word a none)
@@ -122,7 +122,7 @@ module _ {m : Programs} {s s' : Net} {ms ns : List Message} {t : TaskId} {x : Ta
       let g = programOf m t in
       let q = on-in receives g c z o in
       let b = state-is Receiving Unborn z q in
-      agrees-ahead (born ∙ agrees-born a (sym (end-step-steady receives end-step .unborn) ∙ b)) b (state-is Receiving Waiting z q)
+      agrees-ahead (born ∙ agrees-born a (sym (end-step-steady receives end-step .unborn) ∙ b)) (marked ∙ a .overflow ∙ sym (end-step-overflow end-step)) b (state-is Receiving Waiting z q)
       (λ d. absurd (tests-differ d (state-is Receiving Done z q)))
       (coming-on g z c ns o ∙ e)
       (omega (arith, agrees-completed a none, end-step-completed receives low end-step))
@@ -132,10 +132,10 @@ module _ {m : Programs} {s s' : Net} {ms ns : List Message} {t : TaskId} {x : Ta
   receiver-passed : {v : Word} {z : Task} → EndStep (programOf m t) opReceive Receiving c x 1 v z → s' .completed t ≡ suc (completedBy x)
       → s' .word t ≡ v → Agrees m s' ns t z
   receiver-passed (passes v u) k w =
-      agrees-free (born ∙ agrees-born a (state-is Ready Unborn x (u .ready))) refl refl refl
+      agrees-free (born ∙ agrees-born a (state-is Ready Unborn x (u .ready))) (marked ∙ a .overflow) refl refl refl
       (omega (arith, end-step-completed receives low (passes v u))) w
   receiver-passed (ends v o) k w =
-      agrees-free (born ∙ agrees-born a (state-is Receiving Unborn x (on-in receives (programOf m t) c x o))) refl refl refl
+      agrees-free (born ∙ agrees-born a (state-is Receiving Unborn x (on-in receives (programOf m t) c x o))) (marked ∙ a .overflow) refl refl refl
       (omega (arith, end-step-completed receives low (ends v o))) w
 
 -- a word passes in the net
@@ -143,6 +143,10 @@ module _ (m : Programs) (s : Net) (c : ChannelId) where
   pass-born : (t : TaskId) → effect m s (pass c) .born t ≡ s .born t
   unfolding effect afterPass
   pass-born t = refl
+
+  pass-overflow : (t : TaskId) → effect m s (pass c) .overflow t ≡ s .overflow t
+  unfolding effect afterPass
+  pass-overflow t = refl
 
   pass-sender-word : senderOf m c .0 ≢ receiverOf m c .0 → effect m s (pass c) .word (senderOf m c) ≡ s .word (senderOf m c)
   unfolding effect afterPass
@@ -251,8 +255,8 @@ module _ (m : Programs) (accepted : planAnswer m ≡ Accepted) (s : Net) (consis
           labels = [];
           run = stop;
           agrees = ends-agree s first second tasks
-              (λ ne. sender-agrees (run .agrees (senderOf m c)) refl c low end-step refl (omega arith) refl (coming-apart (senderOf m c) ne))
-              two (λ u r q. alike-agrees (run .agrees u) refl refl refl (coming-apart u r));
+              (λ ne. sender-agrees (run .agrees (senderOf m c)) refl refl c low end-step refl (omega arith) refl (coming-apart (senderOf m c) ne))
+              two (λ u r q. alike-agrees (run .agrees u) refl refl refl refl (coming-apart u r));
           passed =
               passed-alike s [] got (sym (append-nil (s .passed c))) (λ d ne. refl) (append-nil (wordsIn (messagesOn c (x .messages))) ∙ words) none;
         }
@@ -278,14 +282,14 @@ module _ (m : Programs) (accepted : planAnswer m ≡ Accepted) (s : Net) (consis
           run = take (pass c) may stop;
           agrees = ends-agree s' first second tasks
               (λ ne.
-              sender-agrees a (pass-born m s c (senderOf m c)) c low end-step refl
+              sender-agrees a (pass-born m s c (senderOf m c)) (pass-overflow m s c (senderOf m c)) c low end-step refl
               (omega (arith, completed-grows m s (pass c) (senderOf m c) may (sender-part m c))) (pass-sender-word m s c ne)
               (coming-apart (senderOf m c) ne))
               (two (completed-grows m s (pass c) (receiverOf m c) may (receiver-part m c)) (pass-receiver-word m s c ∙ value))
               (λ u r q.
               let idle = pass-idle m s c u r q in
               alike-agrees (run .agrees u) (pass-born m s c u) (completed-stays m s (pass c) u idle) (word-stays m s (pass c) u idle)
-              (coming-apart u r));
+              (pass-overflow m s c u) (coming-apart u r));
           passed = passed-alike s' (one (x .tasks (senderOf m c) .word)) got (pass-here m s c ∙ rw value refl) (pass-elsewhere m s c) words none;
         }
 
@@ -298,27 +302,27 @@ module _ (m : Programs) (accepted : planAnswer m ≡ Accepted) (s : Net) (consis
     unfolding wordOn
     follows p q nothing e i =
         still-follows Nothing p
-        (receiver-agrees (run .agrees (receiverOf m c)) refl c low q refl refl (coming-kept e (receiverOf m c))
+        (receiver-agrees (run .agrees (receiverOf m c)) refl refl c low q refl refl (coming-kept e (receiverOf m c))
         (λ o. e ∙ words-none m h x c (run .views c low high) o))
         (sym e) (λ d ne. refl)
     follows p q (direct none) e i =
         let a = run .agrees (receiverOf m c) in
         let quiet = receiver-none (x .messages) q none in
         pass-follows (GotWord c (x .tasks (senderOf m c) .word)) p (end-step-stands receives (receiverOf m c) q quiet)
-        (λ k v. receiver-passed a (pass-born m s c (receiverOf m c)) c low q (k ∙ ap suc (agrees-completed a quiet)) v)
+        (λ k v. receiver-passed a (pass-born m s c (receiverOf m c)) (pass-overflow m s c (receiverOf m c)) c low q (k ∙ ap suc (agrees-completed a quiet)) v)
         (rw (none, e, eq-eqb (c .0) (c .0) refl) refl) (word-elsewhere c (x .tasks (senderOf m c) .word))
     follows p q (called none) e i =
         let o = rw (second-at) at (words-received m h y c i (x .tasks (senderOf m c) .word) e) in
         let (quiet, there) = receiver-there q o none in
         pass-follows Nothing p there
-        (λ k v. receiver-ahead (run .agrees (receiverOf m c)) (pass-born m s c (receiverOf m c)) c low q o quiet k v e)
+        (λ k v. receiver-ahead (run .agrees (receiverOf m c)) (pass-born m s c (receiverOf m c)) (pass-overflow m s c (receiverOf m c)) c low q o quiet k v e)
         (rw (none, e) refl) (λ d ne. refl)
     follows p q (taken v some) e i =
         let a = run .agrees (receiverOf m c) in
         let coming =
         coming-on (programOf m (receiverOf m c)) (x .tasks (receiverOf m c)) c (x .messages)
         (words-received m h x c (run .views c low high) v some) ∙ some in
-        still-follows (GotWord c v) p (receiver-passed a refl c low q (ahead-completed a coming) (ahead-word a coming))
+        still-follows (GotWord c v) p (receiver-passed a refl refl c low q (ahead-completed a coming) (ahead-word a coming))
         (rw (some, e, eq-eqb (c .0) (c .0) refl) refl) (word-elsewhere c v)
 
 -- each step about one channel

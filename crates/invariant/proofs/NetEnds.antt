@@ -50,8 +50,8 @@ use Rattle.transitions.proofs.Tasks.{state-is, blocked-in, completed-free, comp
 use Rattle.invariant.proofs.FamilyParts.{AllChildren}
 use Rattle.invariant.proofs.ChildrenKept.{kindred-finish, kindred-ended}
 use Rattle.invariant.proofs.Coming.{coming-none, agrees-born, agrees-completed, agrees-word, alike-agrees, agrees-quiet, agrees-free}
-use Rattle.invariant.proofs.NetSteps.{Follows, AtNext, own-by, own-completed, own-word, own-passed, own-bears-none, own-other, waiting-next}
-use Rattle.invariant.proofs.NetTasks.{word-same, coming-same, passed-same, own-follows, runs-next, runs-own, ran-completed, ran-word, ran-born}
+use Rattle.invariant.proofs.NetSteps.{Follows, AtNext, own-by, own-completed, own-word, own-overflow, own-passed, own-bears-none, own-other, waiting-next}
+use Rattle.invariant.proofs.NetTasks.{word-same, overflow-same, coming-same, passed-same, own-follows, runs-next, runs-own, ran-completed, ran-word, ran-overflow, ran-born}
 use Rattle.invariant.proofs.NetTasks.{childless-complete}
 
 -- a finish is the last of its program
@@ -100,6 +100,7 @@ module _ (m : Programs) (accepted : planAnswer m ≡ Accepted) {s s' : Net} {ls 
           born = old .born;
           completed = old .completed;
           word = old .word;
+          overflow = old .overflow;
           sync = old .sync;
           waits = λ q. second-fails (isIn Waiting x) (eqb k 0) e q;
           done = old .done;
@@ -115,7 +116,8 @@ module _ (m : Programs) (accepted : planAnswer m ≡ Accepted) {s s' : Net} {ls 
           let z = readied (withChildren x k) in
           let none = coming-none (programOf m p) x (y .messages) (state-is Waiting Receiving x waiting) in
           let l = last-some (programOf m p) x (omega (arith, old .sync waiting)) in
-          agrees-free (born-kept m s' (own p) p (agrees-born old (state-is Waiting Unborn x waiting))) refl refl refl
+          agrees-free (born-kept m s' (own p) p (agrees-born old (state-is Waiting Unborn x waiting)))
+          (own-overflow m s' p ∙ overflow-same (nextOf m s' p) (s' .word p) (s' .overflow p) opSync sync-next refl ∙ old .overflow) refl refl refl
           (omega (arith, own-completed m s' p, agrees-completed old none, completed-blocked x (blocked-in x Waiting waiting), completed-free z refl))
           (own-word m s' p ∙ word-same (nextOf m s' p) (s' .word p) opSync sync-next refl refl ∙ agrees-word old none)
 
@@ -170,7 +172,8 @@ module _ (m : Programs) (accepted : planAnswer m ≡ Accepted) (s : Net) (consis
         let low = r .low in
         let high = r .high in
         let last = finish-place m accepted t (x .tasks t .pc - 1) (r .number) (omega arith) (rw (r .next) (transition .finishes)) in
-        agrees-quiet (ran-born m accepted s consistent run t i r) refl refl (λ e. omega arith) (coming-none (programOf m t) z (y .messages) refl)
+        agrees-quiet (ran-born m accepted s consistent run t i r)
+        (ran-overflow m accepted s consistent run t i r ∙ overflow-same i (x .tasks t .word) (x .tasks t .overflow) opFinish finish-kind refl) refl refl (λ e. omega arith) (coming-none (programOf m t) z (y .messages) refl)
         (omega (arith, ran-completed m accepted s consistent run t i r, completed-free z refl))
         (ran-word m accepted s consistent run t i r ∙ word-same i (x .tasks t .word) opFinish finish-kind refl refl)
 
@@ -225,7 +228,7 @@ module _ (m : Programs) (accepted : planAnswer m ≡ Accepted) (s : Net) (consis
       let same : (c : ChannelId) → messagesOn c (y .messages) ≡ messagesOn c (x .messages) =
       λ c. rw (transition .messages) (flat-without (messageOn c) (x .messages) (transition .p) (transition .message) refl) in
       let stay : (u : TaskId) → Agrees m s (y .messages) u (x .tasks u) =
-      λ u. alike-agrees (run .agrees u) refl refl refl (coming-same m accepted s consistent run y same u (x .tasks u)) in
+      λ u. alike-agrees (run .agrees u) refl refl refl refl (coming-same m accepted s consistent run y same u (x .tasks u)) in
       loses-follows m accepted stop consistent y w (passed-same m accepted s consistent run y same s refl)
       (kindred-ended m accepted run transition .children)
       p t (parent-number m accepted t (transition .number))

@@ -31,10 +31,10 @@ use Rattle.rules_sound.proofs.Born.{place-few}
 use Rattle.net.specs.States.{Net}
 use Rattle.net.specs.Labels.{Label, own, isCreate, isJoin, isTransfer, takesPart}
 use Rattle.net.specs.Guards.{isComplete, isActive, nextOf, standsAt, childrenComplete, isFree, enabled}
-use Rattle.net.specs.Effects.{wordAfter, afterOwn, effect}
+use Rattle.net.specs.Effects.{wordAfter, overflowAfter, afterOwn, effect}
 use Rattle.net.specs.Nets.{net}
 use Rattle.net.specs.Consistent.{Consistent}
-use Rattle.net.proofs.Stays.{born-after, completed-stays, word-stays}
+use Rattle.net.proofs.Stays.{born-after, completed-stays, word-stays, overflow-stays}
 use Rattle.net.proofs.NextInstruction.{program-some, next-is}
 use Rattle.transitions.specs.Readings.{Reading}
 use Rattle.transitions.specs.Progress.{isBlocked, programOf}
@@ -83,6 +83,10 @@ module _ (m : Programs) (s : Net) (t : TaskId) where
   unfolding effect afterOwn
   own-word = at-task (s .word) t (wordAfter (nextOf m s t) (s .word t))
 
+  pub own-overflow : effect m s (own t) .overflow t ≡ overflowAfter (nextOf m s t) (s .word t) (s .overflow t)
+  unfolding effect afterOwn
+  own-overflow = at-task (s .overflow) t (overflowAfter (nextOf m s t) (s .word t) (s .overflow t))
+
   pub own-born : (u : TaskId) → effect m s (own t) .born u ≡ s .born u || isUse opCreate (u .0) (nextOf m s t)
   unfolding effect afterOwn
   own-born u = born-after (nextOf m s t) (s .born) u
@@ -96,13 +100,16 @@ module _ (m : Programs) (s : Net) (t : TaskId) where
   own-bears-none e u = own-born u ∙ rw e (or-false (s .born u))
 
   -- another task stays, and agrees as before
-  pub own-apart : (u : TaskId) → u .0 ≢ t .0 → (effect m s (own t) .completed u ≡ s .completed u) × (effect m s (own t) .word u ≡ s .word u)
+  pub own-apart : (u : TaskId) → u .0 ≢ t .0 → (effect m s (own t) .completed u ≡ s .completed u)
+      × ((effect m s (own t) .word u ≡ s .word u) × (effect m s (own t) .overflow u ≡ s .overflow u))
   unfolding takesPart
-  own-apart u ne = let idle = ne-eqb (u .0) (t .0) ne in (completed-stays m s (own t) u idle, word-stays m s (own t) u idle)
+  own-apart u ne =
+      let idle = ne-eqb (u .0) (t .0) ne in
+      (completed-stays m s (own t) u idle, (word-stays m s (own t) u idle, overflow-stays m s (own t) u idle))
 
   pub own-other : {ms ns : List Message} {u : TaskId} {z : Task} → u .0 ≢ t .0 → effect m s (own t) .born u ≡ s .born u
       → comingTo (programOf m u) ns z ≡ comingTo (programOf m u) ms z → Agrees m s ms u z → Agrees m (effect m s (own t)) ns u z
-  own-other {u = u} ne b e a = let (k, v) = own-apart u ne in alike-agrees a b k v e
+  own-other {u = u} ne b e a = let (k, (v, o)) = own-apart u ne in alike-agrees a b k v o e
 
 module _ (m : Programs) (accepted : planAnswer m ≡ Accepted) (s : Net) (consistent : Consistent m s) where
   -- where a task is that has completed so many instructions

@@ -1,6 +1,6 @@
 -- The steps of one task in the net: its own instruction, or nothing.
 use mathlib.Core.Path.{_≡_, refl, sym, ap, _∙_}
-use mathlib.Core.Bool.{true, false, _||_, or-false, or-true}
+use mathlib.Core.Bool.{Bool, true, false, _||_, or-false, or-true}
 use mathlib.Core.List.{List, [], _∷_, _++_, append-nil}
 use mathlib.Core.Logic.{_≢_}
 use Prim.Native.Nat.{ℕ, suc, _+_, _-_}
@@ -24,13 +24,13 @@ use Rattle.rules.specs.declared.task.Task.{Task}
 use Rattle.rules.specs.declared.message.Message.{Message}
 use Rattle.rules.specs.declared.message.Message.the-variants.{Migration}
 use Rattle.rules.specs.declared.rule.Received.the-variants.{Nothing}
-use Rattle.rules.specs.Tasks.{isIn, isChildless, withState, withWord, advanced, born, departed, arrived}
+use Rattle.rules.specs.Tasks.{isIn, isChildless, withState, advanced, born, departed, arrived}
 use Rattle.rules.specs.Local.{createRule}
 use Rattle.rules.specs.Steps.{wordOn}
 use Rattle.net.specs.States.{Net, atTask}
 use Rattle.net.specs.Labels.{own, isCreate, isJoin, isTransfer}
 use Rattle.net.specs.Guards.{nextOf, childrenComplete, enabled}
-use Rattle.net.specs.Effects.{wordAfter, effect}
+use Rattle.net.specs.Effects.{wordAfter, overflowAfter, effect}
 use Rattle.net.specs.Consistent.{Consistent}
 use Rattle.net.proofs.Stays.{born-kept}
 use Rattle.net.proofs.Children.{complete-children, next-unborn, child-within}
@@ -38,7 +38,7 @@ use Rattle.transitions.specs.Readings.{Reading}
 use Rattle.transitions.specs.Progress.{isBlocked, programOf}
 use Rattle.transitions.specs.Messages.{messageOn, wordsIn, messagesOn}
 use Rattle.transitions.specs.Views.{Histories}
-use Rattle.transitions.specs.Transitions.{Runs, Own, goes-on, waits, OwnTransition, CreateTransition, ArrivalTransition, MoveTransition}
+use Rattle.transitions.specs.Transitions.{Runs, wentOn, Own, goes-on, waits, OwnTransition, CreateTransition, ArrivalTransition, MoveTransition}
 use Rattle.transitions.specs.Agreement.{comingTo, wordWith, Agrees, PassedAlike, Running}
 use Rattle.transitions.proofs.Updates.{at-elim}
 use Rattle.transitions.proofs.Flats.{flat-post-nothing, flat-without}
@@ -46,7 +46,7 @@ use Rattle.transitions.proofs.Parents.{parent-other}
 use Rattle.transitions.proofs.Tasks.{state-is, blocked-in, not-receiving, completed-free, completed-blocked, last-after, unborn-apart}
 use Rattle.invariant.proofs.FamilyParts.{AllChildren, childless-done}
 use Rattle.invariant.proofs.Coming.{coming-none, coming-alike, agrees-born, agrees-completed, agrees-word, alike-agrees, unborn-not, agrees-free}
-use Rattle.invariant.proofs.NetSteps.{Follows, AtNext, own-by, own-completed, own-word, own-born, own-passed, own-bears-none, own-apart, own-other}
+use Rattle.invariant.proofs.NetSteps.{Follows, AtNext, own-by, own-completed, own-word, own-overflow, own-born, own-passed, own-bears-none, own-apart, own-other}
 use Rattle.invariant.proofs.NetSteps.{done-complete, ready-next}
 
 -- nothing is received
@@ -66,6 +66,11 @@ follows-nothing {w = w} f =
 pub word-same : (i : Instruction) (v : Word) (k : ℕ) → i .opcode ≡ k → eqb k opSet ≡ false → eqb k opAdd ≡ false → wordAfter i v ≡ v
 unfolding wordAfter
 word-same i v k e p q = rw (e, p, q) refl
+
+-- .. and one that is no add the mark
+pub overflow-same : (i : Instruction) (v : Word) (b : Bool) (k : ℕ) → i .opcode ≡ k → eqb k opAdd ≡ false → overflowAfter i v b ≡ b
+unfolding overflowAfter
+overflow-same i v b k e q = rw (e, q) (or-false b)
 
 -- a task with no children, in a net with which the other tasks agree
 pub childless-complete : (m : Programs) → planAnswer m ≡ Accepted → (s : Net) → Consistent m s → (y : Reading) → AllChildren m y
@@ -99,7 +104,7 @@ module _ (m : Programs) (accepted : planAnswer m ≡ Accepted) (s : Net) (consis
           agrees =
               λ u. rw e
               (at-elim (λ v a. Agrees m s (y .messages) v a) (x .tasks) t z new
-              (λ v ne. alike-agrees (run .agrees v) refl refl refl (coming-same v (x .tasks v))) u);
+              (λ v ne. alike-agrees (run .agrees v) refl refl refl refl (coming-same v (x .tasks v))) u);
           passed = passed-same s refl;
         }
 
@@ -157,15 +162,18 @@ module _ (m : Programs) (accepted : planAnswer m ≡ Accepted) (s : Net) (consis
     pub ran-word : effect m s (own t) .word t ≡ wordAfter i (x .tasks t .word)
     ran-word = own-word m s t ∙ rw (runs-next .next, runs-word) refl
 
+    pub ran-overflow : effect m s (own t) .overflow t ≡ overflowAfter i (x .tasks t .word) (x .tasks t .overflow)
+    ran-overflow = own-overflow m s t ∙ rw (runs-next .next, runs-word, run .agrees t .overflow) refl
+
     pub ran-born : effect m s (own t) .born t ≡ true
     ran-born = born-kept m s (own t) t runs-born
 
     -- it is ready again, one place on
     ran-agrees : (ns : List Message) (z : Task) → isIn Ready z ≡ true → z .pc ≡ x .tasks t .pc + 1 → z .word ≡ wordAfter i (x .tasks t .word)
-        → Agrees m (effect m s (own t)) ns t z
-    ran-agrees ns z r k v =
+        → z .overflow ≡ overflowAfter i (x .tasks t .word) (x .tasks t .overflow) → Agrees m (effect m s (own t)) ns t z
+    ran-agrees ns z r k v o =
         let f = blocked-in z Ready r in
-        agrees-free ran-born (state-is Ready Unborn z r) f (state-is Ready Done z r)
+        agrees-free ran-born (ran-overflow ∙ sym o) (state-is Ready Unborn z r) f (state-is Ready Done z r)
         (omega (arith, ran-completed, completed-free z f)) (ran-word ∙ sym v)
 
     -- it waits for its children
@@ -179,6 +187,7 @@ module _ (m : Programs) (accepted : planAnswer m ≡ Accepted) (s : Net) (consis
           born = runs-born;
           completed = rw none (omega (arith, runs-completed, completed-blocked z refl));
           word = rw none runs-word;
+          overflow = run .agrees t .overflow;
           sync = λ e. ap (λ (j : Instruction). j .opcode) (last-after (programOf m t) (x .tasks t) z (runs .low) refl ∙ runs .next) ∙ sync;
           waits = λ e. some;
           done = λ e. absurd (tests-differ e refl);
@@ -187,8 +196,8 @@ module _ (m : Programs) (accepted : planAnswer m ≡ Accepted) (s : Net) (consis
     own-case : (y : Reading) → y .messages ≡ x .messages → isCreate i ≡ false → {z : Task} → Own i (x .tasks t) z → y .tasks ≡ atTask (x .tasks) t z
         → Follows m s y w
     own-case y l none (goes-on alone join) e =
-        let z = advanced (withWord (x .tasks t) (wordAfter i (x .tasks t .word))) in
-        own-follows y (λ c. rw l refl) t z (runs-own alone join) (rw (runs-next .next) none) e (ran-agrees (y .messages) z (runs .ready) refl refl)
+        let z = wentOn i (x .tasks t) in
+        own-follows y (λ c. rw l refl) t z (runs-own alone join) (rw (runs-next .next) none) e (ran-agrees (y .messages) z (runs .ready) refl refl refl)
     own-case y l none (waits sync some) e =
         still-follows y (λ c. rw l refl) t (advanced (withState (x .tasks t) Waiting)) e (waits-agrees (y .messages) sync some)
 
@@ -226,8 +235,8 @@ module _ (m : Programs) (accepted : planAnswer m ≡ Accepted) (s : Net) (consis
     child-agrees =
         let u = transition .child in
         let b : effect m s (own (transition .task)) .born u ≡ true = created-born u ∙ rw (transition .creates) (or-true (s .born u)) in
-        let (k, v) = own-apart m s (transition .task) u child-other in
-        agrees-free b refl refl refl (k ∙ consistent .idle u child-unborn ∙ sym (completed-free (born (x .tasks (transition .task) .processor)) refl))
+        let (k, (v, o)) = own-apart m s (transition .task) u child-other in
+        agrees-free b (o ∙ consistent .unmarked u child-unborn) refl refl refl (k ∙ consistent .idle u child-unborn ∙ sym (completed-free (born (x .tasks (transition .task) .processor)) refl))
         (v ∙ consistent .wordless u child-unborn)
 
     pub create-follows : Follows m s y w
@@ -246,19 +255,20 @@ module _ (m : Programs) (accepted : planAnswer m ≡ Accepted) (s : Net) (consis
               (λ v ne.
               at-elim (λ v z. v .0 ≢ transition .child .0 → Agrees m s' (y .messages) v z) (x .tasks) t (createRule (x .tasks t) (transition .child))
               (λ q. ran-agrees t i (transition .runs) (y .messages) (createRule (x .tasks t) (transition .child)) (transition .runs .ready) refl
-              (sym (word-same i _ opCreate create-kind refl refl)))
+              (sym (word-same i _ opCreate create-kind refl refl)) (sym (overflow-same i _ _ opCreate create-kind refl)))
               (λ v q r. own-other m s t q (other-born v r) (coming-same y same v (x .tasks v)) (run .agrees v)) v ne)
               u);
           passed = passed-same y same s' (own-passed m s t);
         }
 
-  -- a task that departs or arrives keeps its place and its word
+  -- a task that departs or arrives keeps its place, its word and its mark
   free-agrees : (t : TaskId) (ns : List Message) (z : Task) → isIn Unborn (x .tasks t) ≡ false → isBlocked (x .tasks t) ≡ false
-      → isIn Unborn z ≡ false → isBlocked z ≡ false → isIn Done z ≡ false → z .pc ≡ x .tasks t .pc → z .word ≡ x .tasks t .word → Agrees m s ns t z
-  free-agrees t ns z b f zb zf zd k v =
+      → isIn Unborn z ≡ false → isBlocked z ≡ false → isIn Done z ≡ false → z .pc ≡ x .tasks t .pc → z .word ≡ x .tasks t .word
+      → z .overflow ≡ x .tasks t .overflow → Agrees m s ns t z
+  free-agrees t ns z b f zb zf zd k v o =
       let a = run .agrees t in
       let none = coming-none (programOf m t) (x .tasks t) (x .messages) (not-receiving (x .tasks t) f) in
-      agrees-free (agrees-born a b) zb zf zd (omega (arith, agrees-completed a none, completed-free (x .tasks t) f, completed-free z zf))
+      agrees-free (agrees-born a b) (a .overflow ∙ sym o) zb zf zd (omega (arith, agrees-completed a none, completed-free (x .tasks t) f, completed-free z zf))
       (agrees-word a none ∙ sym v)
 
   pub arrival-follows : {y : Reading} → ArrivalTransition m h x y → Follows m s y w
@@ -269,7 +279,7 @@ module _ (m : Programs) (accepted : planAnswer m ≡ Accepted) (s : Net) (consis
       still-follows y (λ c. rw (transition .messages) (flat-without (messageOn c) (x .messages) (transition .p) (transition .message) refl)) t (arrived z (transition .at))
       (transition .tasks)
       (free-agrees t (y .messages) (arrived z (transition .at)) (state-is Moving Unborn z (transition .moving))
-      (blocked-in z Moving (transition .moving)) refl refl refl refl refl)
+      (blocked-in z Moving (transition .moving)) refl refl refl refl refl refl)
 
   pub move-follows : {h' : Histories} {y : Reading} → MoveTransition m h h' x y → Follows m s y w
   unfolding messageOn
@@ -277,4 +287,4 @@ module _ (m : Programs) (accepted : planAnswer m ≡ Accepted) (s : Net) (consis
       let t = transition .task in
       let z = x .tasks t in
       still-follows y (λ c. rw (transition .messages) (flat-post-nothing (messageOn c) (x .messages) (Migration (transition .to) t) refl)) t (departed z) (transition .tasks)
-      (free-agrees t (y .messages) (departed z) (state-is Ready Unborn z (transition .ready)) (blocked-in z Ready (transition .ready)) refl refl refl refl refl)
+      (free-agrees t (y .messages) (departed z) (state-is Ready Unborn z (transition .ready)) (blocked-in z Ready (transition .ready)) refl refl refl refl refl refl)

@@ -242,11 +242,12 @@ module _ (m : Programs) (accepted : planAnswer m ≡ Accepted) (s : Net) (sane :
   rest-word : (t : TaskId) → s .word t ≡ x .tasks t .word
   rest-word t = agrees-word (run .agrees t) (quiet t)
 
--- state, place and word
+-- state, place, word and mark
 pub record Same (x y : Task) : Type 0 where
   pub state : x .state ≡ y .state
   pub pc : x .pc ≡ y .pc
   pub word : x .word ≡ y .word
+  pub overflow : x .overflow ≡ y .overflow
 
 module _ (m : Programs) (accepted : planAnswer m ≡ Accepted) {ls : List Label} {s : Net} (reached : Reached m ls s) where
   -- at rest the net is at its end
@@ -265,4 +266,5 @@ module _ (m : Programs) (accepted : planAnswer m ≡ Accepted) {ls : List Label}
         state = e;
         pc = rest-place m accepted s sane run none rest t n ∙ rw e (sym (rest-place m accepted s sane run' none' rest' t n));
         word = sym (rest-word m accepted s sane run none rest t) ∙ rest-word m accepted s sane run' none' rest' t;
+        overflow = sym (run .agrees t .overflow) ∙ run' .agrees t .overflow;
       }

@@ -92,13 +92,15 @@ module _ (n : ℕ) (p : Plan) where
   start-kin q u l h = absurd (tests-differ h (rw (start-childless q) (none-member (u .0))))
 
   -- a task that is not born agrees with the net, and so does the first
-  unborn-agrees : (t : TaskId) → t .0 ≢ 1 → (x : Task) → x .state ≡ Unborn → x .pc - 1 ≡ 0 → x .word ≡ zeroWord → Agrees (programs p) startNet [] t x
+  unborn-agrees : (t : TaskId) → t .0 ≢ 1 → (x : Task) → x .state ≡ Unborn → x .pc - 1 ≡ 0 → x .word ≡ zeroWord → x .overflow ≡ false
+      → Agrees (programs p) startNet [] t x
   unfolding startNet completedBy comingTo wordWith
-  unborn-agrees t ne x b k w =
+  unborn-agrees t ne x b k w o =
       record {
         born = rw b (ne-eqb 1 (t .0) (λ e. ne (sym e)));
         completed = rw (b, k) refl;
         word = rw b (sym w);
+        overflow = sym o;
         sync = λ f. absurd (true≢false (sym (rw b at f)));
         waits = λ f. absurd (true≢false (sym (rw b at f)));
         done = λ f. absurd (true≢false (sym (rw b at f)));
@@ -113,12 +115,13 @@ module _ (n : ℕ) (p : Plan) where
         born = eq-eqb 1 (t .0) (sym e);
         completed = refl;
         word = refl;
+        overflow = refl;
         sync = λ f. absurd (true≢false (sym f));
         waits = λ f. absurd (true≢false (sym f));
         done = λ f. absurd (true≢false (sym f));
       })
-      (λ ne. unborn-agrees t ne unborn refl refl refl)
-      (λ ne. unborn-agrees t ne noTask refl refl refl)
+      (λ ne. unborn-agrees t ne unborn refl refl refl refl)
+      (λ ne. unborn-agrees t ne noTask refl refl refl refl)
 
 -- 9 does not refuse the tasks
 start-tasks : (n : ℕ) (p : Plan) → 1 ≤ n → n ≤ 6 → planAnswer (programs p) ≡ Accepted → TasksOk (programs p) (reading (started n p))
