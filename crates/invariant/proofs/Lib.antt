@@ -20,6 +20,8 @@ pub mod NetChannel
 pub mod NetTasks
 pub mod NetEnds
 pub mod Simulation
+-- who is marked
+pub mod Overflows
 -- the start, and each step
 pub mod StartViews
 pub mod Starts

@@ -1,5 +1,5 @@
 -- An accepted run of a sync, a set or an add is a task's own act.
-use mathlib.Core.Path.{_≡_, refl}
+use mathlib.Core.Path.{_≡_, refl, ap}
 use mathlib.Core.Bool.{Bool, true, false, _||_, or-false}
 use Prim.Native.Nat.{ℕ}
 use lib.Dec.{eqb}
@@ -26,6 +26,7 @@ use Rattle.rules.specs.Local.{syncRule, setRule, addRule}
 use Rattle.rules.specs.Runs.{executed, nextOf, ran, runAnswer}
 use Rattle.rules.specs.Sound.{systemOk}
 use Rattle.rules_laws.specs.Shapes.{Shaped}
+use Rattle.net.specs.States.{atTask}
 use Rattle.net.specs.Labels.{isCreate, isJoin, isTransfer}
 use Rattle.net.specs.Effects.{wordAfter, overflowAfter}
 use Rattle.transitions.specs.Readings.{Reading, reading, withTaskRead}
@@ -110,13 +111,17 @@ module _ (r : System) (shaped : Shaped r) (ok : systemOk r ≡ true) (h : Histor
   read : reading (completed (ran r t)) ≡ withTaskRead (reading r) t then
   read = rw (effect, completed-changed (withTask r t then)) (read-task r shaped t then (run-is-task r shaped ok t a))
 
+  own : Own (nextOf r t) (taskAt r t) then
+  own = own-rule (nextOf r t) no-create no-finish no-transfer (r .plan .tasks) (run-instruction r shaped ok t a) (taskAt r t)
+
+  -- what becomes of the task that runs; no other changes
+  pub own-changes : (z : Task) × Own (nextOf r t) (taskAt r t) z × (reading (completed (ran r t)) .tasks ≡ atTask (reading r .tasks) t z)
+  own-changes = (then, own, ap (λ (y : Reading). y .tasks) read)
+
   pub own-transition : OwnTransition (meaning r) h (reading r) (reading (completed (ran r t)))
   unfolding reading
   own-transition =
       let runs = runs-of r shaped ok t a in
-      let fine = run-instruction r shaped ok t a in
-      let own : Own (nextOf r t) ((reading r) .tasks t) then =
-      own-rule (nextOf r t) no-create no-finish no-transfer (r .plan .tasks) fine (taskAt r t) in
       let alike = alike-at (meaning r) ((reading r) .tasks) t then (own-alike (meaning r) (reading r) t (nextOf r t) runs then own) in
       rw read
       (record {
