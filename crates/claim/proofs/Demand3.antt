@@ -129,7 +129,7 @@ module _ (p : Plan) (a : planAnswer (programs p) ≡ PlanAccepted) where
           let e =
           at-rest-same m a (l .reached) there (l .running) (no-messages k quiet) (no-messages l rests) (resting k quiet) (resting l rests) t
           (rw (tasks-of p) is) in
-          record { state = e .state; place = e .pc; word = e .word }
+          record { state = e .state; place = e .pc; word = e .word; overflow = e .overflow }
 
 -- for every accepted plan, 1 to 6 desks and every list of steps
 module _ (n : ℕ) (p : Plan) (ss : List Step) (some : 1 ≤ n) (few : n ≤ 6) (a : planAnswer (programs p) ≡ PlanAccepted) where

@@ -10,4 +10,5 @@ pub mod Demand3
 pub mod Files
 pub mod Corollaries
 pub mod Moves
+pub mod Overflows
 pub mod OneMessage
