@@ -2,8 +2,9 @@
 pub mod Edges
 -- Each run has its trace.
 pub mod Scenes
--- What demand 3 says of two runs, that its test of letters tells rigs apart, and what is said of moves.
+-- What demand 3 says of two runs, that its test of letters tells rigs apart, and what is said of moves and of marks.
 pub mod Demand3
 pub mod Bound
 pub mod Suppositions
 pub mod Moves
+pub mod Overflows

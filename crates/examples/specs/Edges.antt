@@ -61,12 +61,16 @@ refusedText n = 114 ∷ 101 ∷ 102 ∷ 117 ∷ 115 ∷ 101 ∷ 100 ∷ 32 ∷ n
 abbrev pub overTheTop : Programs
 overTheTop = (create 2 ∷ set 65535 ∷ add 1 ∷ send 1 ∷ finish ∷ []) ∷ (receive 1 ∷ finish ∷ []) ∷ []
 
--- `1 0` to `4 0`, `5 0 1 0`, `end 0 0`
+-- `over 1`
+abbrev pub overOne : List ℕ
+overOne = 111 ∷ 118 ∷ 101 ∷ 114 ∷ 32 ∷ 49 ∷ 10 ∷ []
+
+-- `1 0` to `4 0`, `5 0 1 0`, `over 1`, `end 0 0`
 abbrev pub overText : List ℕ
 overText =
     49 ∷ 32 ∷ 48 ∷ 10 ∷ 50 ∷ 32 ∷ 48 ∷ 10 ∷ 51 ∷ 32 ∷ 48 ∷ 10 ∷ 52 ∷ 32 ∷ 48 ∷ 10
     ∷ 53 ∷ 32 ∷ 48 ∷ 32 ∷ 49 ∷ 32 ∷ 48 ∷ 10
-    ∷ endText
+    ∷ overOne ++ endText
 
 -- steps with numbers over 255 and task numbers outside the plan: `1 19`, `2 15`, `3 10`, `4 10`, `5 10`, `end 0 0`
 abbrev pub oddSteps : List Step
@@ -114,12 +118,26 @@ outputEdge n steps room number after = record { processors = n; file = single; s
 abbrev pub shortText : List ℕ
 shortText = 49 ∷ 32 ∷ 49 ∷ 52 ∷ 10 ∷ endText
 
+-- a sum over the top, and an output that is too short: `1 0`, `2 0`, `over 1` and `end 0 0` are 23 bytes
+abbrev pub overEdge : ℕ → List ℕ → OutputEdge
+overEdge room after =
+    record {
+      processors = 1;
+      file = layout ((set 65535 ∷ add 1 ∷ finish ∷ []) ∷ []);
+      steps = bytesOf (run 1 ∷ run 1 ∷ []);
+      before = nines room;
+      number = 20;
+      after = 49 ∷ 32 ∷ 48 ∷ 10 ∷ 50 ∷ 32 ∷ 48 ∷ 10 ∷ after;
+    }
+
 -- "20, the lent output is too short: it holds the longest beginning of whole lines that fits. Here and after acceptance, bytes behind the last
 -- line are unchanged."; "the output is untouched"
 unfoldable pub outputEdges : List OutputEdge
 outputEdges =
     outputEdge 2 (bytesOf (deliver 0 ∷ [])) 15 0 (shortText ++ nines 2)
     ∷ outputEdge 2 (bytesOf (deliver 0 ∷ [])) 12 20 (49 ∷ 32 ∷ 49 ∷ 52 ∷ 10 ∷ nines 7)
+    ∷ overEdge 14 (nines 6)
+    ∷ overEdge 22 (overOne ++ nines 7)
     ∷ outputEdge 2 (1 ∷ 1 ∷ 0 ∷ []) 9 8 (nines 9)
     ∷ outputEdge 0 (1 ∷ 1 ∷ 0 ∷ []) 9 1 (nines 9)
     ∷ []

@@ -5,3 +5,5 @@ pub mod SystemEdges
 pub mod Scenes
 -- A plan and its steps, for demand 3.
 pub mod Demand3
+-- Tasks that add at the top and over it.
+pub mod Overflows

@@ -1,4 +1,5 @@
 -- Both sides of each condition of 9, of whole rigs.
+use mathlib.Core.Bool.{true}
 use mathlib.Core.List.{List, [], _∷_}
 use Prim.Native.Nat.{ℕ}
 use Rattle.plan.specs.Programs.{Program, canonical}
@@ -6,7 +7,7 @@ use Rattle.rules.specs.declared.channel.Cell.{Cell}
 use Rattle.rules.specs.declared.message.Message.the-variants.{Migration}
 use Rattle.rules.specs.declared.system.System.{System}
 use Rattle.rules.specs.Numbers.{taskId, processorId, channelId}
-use Rattle.rules.specs.Tasks.{noTask}
+use Rattle.rules.specs.Tasks.{noTask, unborn, born, withOverflow}
 use Rattle.rules.specs.Cells.{hint, offer, withHint, withHeld, withNoted, withGranted, withCarried, withTravelling}
 use Rattle.rules.specs.Networks.{enqueued}
 use Rattle.rules.specs.Systems.{withNetwork, withTask, cellAt, withCell}
@@ -37,6 +38,7 @@ systemSamples =
     ∷ wrong (withPlan ((create 2 ∷ finish ∷ []) ∷ (receive 1 ∷ finish ∷ []) ∷ []) pair)
     ∷ wrong (withTask small (taskId 1) noTask) ∷ fine (withTask small (taskId 2) noTask)
     ∷ fine pair ∷ wrong (withTask pair (taskId 2) noTask) ∷ fine (withTask pair (taskId 3) noTask)
+    ∷ fine (withTask pair (taskId 1) (withOverflow (born (processorId 1)) true)) ∷ wrong (withTask pair (taskId 2) (withOverflow unborn true))
     ∷ fine (withCellBy (λ x. withHint x (hint (processorId 2) 1)) small) ∷ wrong (withCellBy (λ x. withHint x (hint (processorId 3) 1)) small)
     ∷ wrong (withCellBy (λ x. withHeld x (offer (processorId 2) 65)) small)
     ∷ fine (withCellBy (λ x. withNoted x (processorId 2)) small) ∷ wrong (withCellBy (λ x. withNoted x (processorId 3)) small)
