@@ -1,7 +1,7 @@
-// The small changes of a task: its place, its state, its word.
+// The small changes of a task: its place, its state, its word, its mark.
 ghost use mathlib.Core.Path.{_≡_};
 ghost use Prim.Native.Nat.{_<_};
-ghost use Rattle.rules.specs.Tasks.{advanced, readied, taking};
+ghost use Rattle.rules.specs.Tasks.{advanced, readied, taking, marked};
 use plan::Word;
 use rules::task::Task;
 use rules::task::TaskState;
@@ -28,4 +28,12 @@ pub fn taking(mut x: Task, w: Word) -> Task
 {
     x.word = w;
     readied(x)
+}
+
+// The task after a sum that went over the top, or did not. A mark stays.
+pub fn marked(mut x: Task, over: bool) -> Task
+    ensures { λ r. ⌜ r ≡ marked x over ⌝ }
+{
+    x.overflow = x.overflow || over;
+    x
 }

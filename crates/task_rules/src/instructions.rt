@@ -80,15 +80,17 @@ pub fn set_rule(mut x: Task, i: Instruction) -> Task
     change::advanced(x)
 }
 
-// Add: the operand is added to the word.
+// Add: the operand is added to the word; a sum over the top marks the task.
 pub fn add_rule(mut x: Task, i: Instruction) -> Task
     requires { ⌜ x .pc < 255 ⌝ }
     ensures { λ r. ⌜ r ≡ addRule x i ⌝ }
 {
     let w = x.word;
     let sum = w.add(i);
-    x.word = sum;
-    change::advanced(x)
+    let stored = sum.word;
+    x.word = stored;
+    let next = change::marked(x, sum.overflow);
+    change::advanced(next)
 }
 
 // The parent's record, after an ended letter at d for child t.

@@ -1,6 +1,6 @@
 // One task's record, and the rules that use no channel.
 
-// A record with its place gone on, a word taken, or its state changed.
+// A record with its place gone on, a word taken, its state changed, or a mark.
 pub mod change;
 // Its living children.
 pub mod children;
