@@ -21,14 +21,15 @@ fn children_ok(m: u8, children: u64) -> bool
     children >> m == 0
 }
 
-// An unborn task, with any children.
+// An unborn task, with any children and no mark.
 fn unborn_ok(x: Task) -> bool
     ensures { λ b. ⌜ b ≡ unbornOk x ⌝ }
 {
     let d = x.processor;
     let w = x.word;
     let home = x.home;
-    let fresh = base::both(0 == w.0, base::both(home.0 == 0, x.moves == 0));
+    let unmoved = base::both(home.0 == 0, x.moves == 0);
+    let fresh = base::both(0 == w.0, base::both(!x.overflow, unmoved));
     base::both(d.0 == 0, base::both(x.pc == 1, fresh))
 }
 
