@@ -4,6 +4,7 @@ use mathlib.Core.Bool.{Bool, true, false}
 use mathlib.Core.List.{List}
 use Prim.Native.Nat.{ℕ, _+_, _*_, _/_, _%_, _-_, _<_, _≤_}
 use native.Mathlib.Omega.{arith}
+use lib.Dec.{eqb}
 use lib.ListN.{getD, set, length, length-set}
 use lib.Seq.{set-getD}
 use Rattle.plan.specs.declared.ProcessorId.{ProcessorId}
@@ -28,7 +29,7 @@ task-read board n {m} e one most =
     let b : 126 + 2 * m + 1 ≡ 129 + 2 * (n - 1) = omega arith in
     rw b (rw a (sym (getD-task board (n - 1) noTask (omega arith))))
 
-state-below : (s : TaskState) → stateNumber s < 256
+state-below : (s : TaskState) → stateNumber s < 128
 state-below Unborn = omega arith
 state-below Ready = omega arith
 state-below Waiting = omega arith
@@ -49,46 +50,39 @@ state-of-number Done = refl
 abbrev pub NarrowTask : Task → Type 0
 NarrowTask x = (x .processor .0 < 256) × (x .pc < 256) × (x .home .0 < 256) × (x .word .0 < 65536) × (x .moves < 65536)
 
+bit-below : (b : Bool) → bit b < 2
+bit-below true = omega arith
+bit-below false = omega arith
+
+bit-of-mark : (b : Bool) → eqb (bit b) 1 ≡ b
+bit-of-mark true = refl
+bit-of-mark false = refl
+
 same-task : (x : Task) → NarrowTask x → taskOf (taskWord x) (x .children) ≡ x
 unfolding taskOf
 same-task x n =
-    rw (at s a b d e f (state-below (x .state)), state-of-number (x .state), p1, p2, p3, p4, p5) refl
+    rw (p0, p1, p2, p3, p4, p5, p6, state-of-number (x .state), bit-of-mark (x .overflow)) refl
   where
-    s : ℕ
-    s = stateNumber (x .state)
+    p0 : taskWord x % 128 ≡ stateNumber (x .state)
+    p0 = omega (arith, state-below (x .state), bit-below (x .overflow), n)
 
-    a : ℕ
-    a = x .processor .0
+    p1 : taskWord x / 256 % 256 ≡ x .processor .0
+    p1 = omega (arith, state-below (x .state), bit-below (x .overflow), n)
 
-    b : ℕ
-    b = x .pc
+    p2 : taskWord x / 65536 % 256 ≡ x .pc
+    p2 = omega (arith, state-below (x .state), bit-below (x .overflow), n)
 
-    d : ℕ
-    d = x .home .0
+    p3 : taskWord x / 16777216 % 256 ≡ x .home .0
+    p3 = omega (arith, state-below (x .state), bit-below (x .overflow), n)
 
-    e : ℕ
-    e = x .word .0
+    p4 : taskWord x / 4294967296 % 65536 ≡ x .word .0
+    p4 = omega (arith, state-below (x .state), bit-below (x .overflow), n)
 
-    f : ℕ
-    f = x .moves
+    p5 : taskWord x / 128 % 2 ≡ bit (x .overflow)
+    p5 = omega (arith, state-below (x .state), bit-below (x .overflow), n)
 
-    at : (s a b d e f : ℕ) → s < 256 → (s + 256 * a + 65536 * b + 16777216 * d + 4294967296 * e + 281474976710656 * f) % 256 ≡ s
-    at s a b d e f h = omega arith
-
-    p1 : taskWord x / 256 % 256 ≡ a
-    p1 = omega (arith, state-below (x .state), n)
-
-    p2 : taskWord x / 65536 % 256 ≡ b
-    p2 = omega (arith, state-below (x .state), n)
-
-    p3 : taskWord x / 16777216 % 256 ≡ d
-    p3 = omega (arith, state-below (x .state), n)
-
-    p4 : taskWord x / 4294967296 % 65536 ≡ e
-    p4 = omega (arith, state-below (x .state), n)
-
-    p5 : taskWord x / 281474976710656 % 65536 ≡ f
-    p5 = omega (arith, state-below (x .state), n)
+    p6 : taskWord x / 281474976710656 % 65536 ≡ x .moves
+    p6 = omega (arith, state-below (x .state), bit-below (x .overflow), n)
 
 module _ (board : List ℕ) (n : ℕ) (x : Task) {m w : ℕ} (e : m ≡ n) (one : 1 ≤ n) (most : n ≤ 64) (long : length board ≡ 256) (we : w ≡ taskWord x) (small : NarrowTask x) where
   abbrev after : List ℕ

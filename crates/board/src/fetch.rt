@@ -22,6 +22,7 @@ pub fn no_task() -> Task
         pc: 0,
         home: ProcessorId(0),
         word: Word(0),
+        overflow: false,
         moves: 0,
         children: 0,
     }

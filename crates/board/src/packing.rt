@@ -1,5 +1,5 @@
 // Records as numbers of 64 bits: a channel's own entry, and a task with its children behind it. Each field has the width of its
-// type, so that a record is read back as it was.
+// type, but for the seven states, beside which a task's mark stands; so a record is read back as it was.
 ghost use mathlib.Core.Path.{_≡_};
 ghost use Prim.Native.Nat.{_%_, _<_};
 ghost use lib.Dec.{eqb};
@@ -11,6 +11,13 @@ use rules::channel::Hint;
 use rules::channel::Offer;
 use rules::task::Task;
 use rules::task::TaskState;
+
+// The lowest seven bits.
+fn low7(v: u64) -> u8
+    ensures { λ r. ⌜ r ≡ v % 128 ⌝ }
+{
+    (v % 128) as u8
+}
 
 // The lowest eight bits.
 fn low8(v: u64) -> u8
@@ -108,7 +115,7 @@ fn state_of(n: u8) -> TaskState
 
 // A task's state as a number.
 fn state_number(s: TaskState) -> u64
-    ensures { λ r. ⌜ (r ≡ stateNumber s) × (r < 256) ⌝ }
+    ensures { λ r. ⌜ (r ≡ stateNumber s) × (r < 128) ⌝ }
 {
     match s {
         TaskState::Unborn => 0,
@@ -126,17 +133,18 @@ pub fn task_of(v: u64, children: u64) -> Task
     ensures { λ r. ⌜ r ≡ taskOf v children ⌝ }
 {
     Task {
-        state: state_of(low8(v)),
+        state: state_of(low7(v)),
         processor: ProcessorId(low8(v / 256)),
         pc: low8(v / 65536),
         home: ProcessorId(low8(v / 16777216)),
         word: Word(low16(v / 4294967296)),
+        overflow: is_odd(v / 128),
         moves: low16(v / 281474976710656),
         children: children,
     }
 }
 
-// The first number of a task; the second is its children.
+// The first number of a task, its mark beside its state; the second is its children.
 pub fn task_word(x: Task) -> u64
     ensures { λ r. ⌜ r ≡ taskWord x ⌝ }
 {
@@ -145,6 +153,7 @@ pub fn task_word(x: Task) -> u64
     let word = x.word;
     let state = x.state;
     state_number(state)
+        + 128 * bit(x.overflow)
         + 256 * (at.0 as u64)
         + 65536 * (x.pc as u64)
         + 16777216 * (home.0 as u64)

@@ -65,19 +65,20 @@ stateNumber Receiving = 4
 stateNumber Moving = 5
 stateNumber Done = 6
 
--- a task is two numbers, the second its children
+-- a task is two numbers, the second its children; of the lowest eight bits of the first, the highest is its mark
 unfoldable pub taskOf : ℕ → ℕ → Task
 taskOf v children =
     record {
-      state = stateOf (v % 256);
+      state = stateOf (v % 128);
       processor = processorId (v / 256 % 256);
       pc = byte2 v;
       home = processorId (byte3 v);
       word = record { 0 = v / 4294967296 % 65536 };
+      overflow = eqb (v / 128 % 2) 1;
       moves = v / 281474976710656 % 65536;
       children = children;
     }
 
 abbrev pub taskWord : Task → ℕ
 taskWord x =
-    stateNumber (x .state) + 256 * (x .processor .0) + 65536 * (x .pc) + 16777216 * (x .home .0) + 4294967296 * (x .word .0) + 281474976710656 * (x .moves)
+    stateNumber (x .state) + 128 * bit (x .overflow) + 256 * (x .processor .0) + 65536 * (x .pc) + 16777216 * (x .home .0) + 4294967296 * (x .word .0) + 281474976710656 * (x .moves)
