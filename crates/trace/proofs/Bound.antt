@@ -1,4 +1,4 @@
--- The bound of a trace: at most 17 bytes a step and 10 for the last line, so at most 34,010 bytes.
+-- The bound of a trace: at most 17 bytes a step, 7 or 8 a marked task and 10 for the last line.
 use mathlib.Core.Path.{_≡_, refl}
 use mathlib.Core.Bool.{Bool, true, false}
 use mathlib.Core.List.{List, [], _∷_, _++_}
@@ -25,32 +25,39 @@ use Rattle.rules.specs.declared.system.System.{System}
 use Rattle.rules.specs.Sound.{systemOk}
 use Rattle.rules.specs.Starts.{started}
 use Rattle.rules.specs.Steps.{steps}
-use Rattle.rules.specs.Trace.{stepLines, endLine}
+use Rattle.rules.specs.Trace.{stepLines, overLines, endLine}
 use Rattle.rules.specs.StepFiles.{fileSteps, startOf, traceLines, text, stepsOk, answerAfter, runFileAnswer, fitting, writtenAfter, runFileText}
 use Rattle.rules_laws.specs.Shapes.{Shaped}
-use Rattle.rules_laws.proofs.Shapes.{started-shaped}
+use Rattle.rules_laws.proofs.Shapes.{started-shaped, steps-shaped}
 use Rattle.rules_laws.proofs.Sound.{messages-fit}
+use Rattle.rules_sound.proofs.Frames.{tasks-few}
+use Rattle.rules_sound.proofs.Sound.{sound}
 use Rattle.rules_sound.proofs.Kept.{steps-kept}
 use Rattle.rules_sound.proofs.Starts.{started-ok}
+use Rattle.trace.specs.Bounds.{longestTrace}
 use Rattle.trace.specs.Words.{FitSystem}
-use Rattle.trace.proofs.Lengths.{end-short}
+use Rattle.trace.proofs.Lengths.{overs-short, end-short}
 use Rattle.trace.proofs.Systems.{started-fits}
 use Rattle.trace.proofs.Steps.{steps-short}
-use Rattle.trace.proofs.Texts.{text-more}
+use Rattle.trace.proofs.Texts.{text-append, text-more}
 
 -- the trace of a rig whose words fit
 pub trace-short : (r : System) → Shaped r → systemOk r ≡ true → FitSystem r → (ss : List Step) → length ss ≤ 2000
-    → length (text (traceLines r ss)) ≤ 17 * length ss + 10
+    → length (text (traceLines r ss)) ≤ length ss * 17 + (9 * 7 + 55 * 8) + 10
 unfolding traceLines
 trace-short r z ok h ss l =
     let q = steps r ss .system in
+    let kept = steps-kept r ss z ok in
     let lines = stepLines 0 (steps r ss .reports) in
-    rw (text-more lines (endLine q))
+    let few = tasks-few (q .processors) (q .plan) (sound q (steps-shaped r ss z) kept .frame) in
+    rw (text-append lines (overLines q ++ (endLine q ∷ [])), text-more (overLines q) (endLine q))
     (omega (
       arith,
-      length-append (text lines) (endLine q),
+      length-append (text lines) (text (overLines q) ++ endLine q),
+      length-append (text (overLines q)) (endLine q),
       steps-short r z ok h 0 ss (omega arith),
-      end-short q (messages-fit q (steps-kept r ss z ok)),
+      overs-short q few,
+      end-short q (messages-fit q kept),
     ))
 
 -- an accepted file on desks of a right number
@@ -88,7 +95,7 @@ written-short Accepted true ls room k h = go (leb (length (text ls)) room)
     go false = omega (arith, fitting-short room ls, h refl refl)
 
 -- the trace of an accepted file
-pub start-short : (n : ℕ) (p b : List ℕ) → startAnswer n p ≡ Accepted → stepsOk b ≡ true → length (text (traceLines (startOf n p) (fileSteps b))) ≤ 34010
+pub start-short : (n : ℕ) (p b : List ℕ) → startAnswer n p ≡ Accepted → stepsOk b ≡ true → length (text (traceLines (startOf n p) (fileSteps b))) ≤ longestTrace
 unfolding startOf
 start-short n p b a s =
     let x = canonical (filePrograms p) in
@@ -96,7 +103,7 @@ start-short n p b a s =
     omega (arith, few, trace-short (started n x) (started-shaped n x) (start-ok n p a) (started-fits n x) (fileSteps b) few)
 
 -- any number of desks, plan file, step file and output
-pub run-text-short : (n : ℕ) (p b out : List ℕ) → length (runFileText n p b out) ≤ 34010
+pub run-text-short : (n : ℕ) (p b out : List ℕ) → length (runFileText n p b out) ≤ longestTrace
 unfolding runFileText runFileAnswer
 run-text-short n p b out =
-    written-short (startAnswer n p) (stepsOk b) (traceLines (startOf n p) (fileSteps b)) (length out) 34010 (start-short n p b)
+    written-short (startAnswer n p) (stepsOk b) (traceLines (startOf n p) (fileSteps b)) (length out) longestTrace (start-short n p b)

@@ -21,10 +21,10 @@ use Rattle.rules.specs.declared.step.Stepped.{Stepped}
 use Rattle.rules.specs.declared.system.System.{System}
 use Rattle.rules.specs.Answers.{isAccepted}
 use Rattle.rules.specs.Steps.{stepAnswer, step, stepsBy, steps, wordOn, receivedOn}
-use Rattle.rules.specs.Trace.{stepLines, endLine}
+use Rattle.rules.specs.Trace.{stepLines, overLines, endLine}
 use Rattle.rules.specs.StepFiles.{stepAt, fileSteps, startOf, traceLines, text, stepsOk, answerAfter, runFileAnswer, runFileText}
 use Rattle.rules_laws.proofs.Steps.{step-refused, step-answer, stepsBy-system, stepsBy-reports}
-use Rattle.trace.specs.Growing.{linesOf, TraceOfPrefix, FileOfPrefix, LeftOut, RefusedLeftOut, acceptedSteps, RefusedOut, AllRefusedLeftOut}
+use Rattle.trace.specs.Growing.{linesOf, lastText, TraceOfPrefix, FileOfPrefix, LeftOut, RefusedLeftOut, acceptedSteps, RefusedOut, AllRefusedLeftOut}
 use Rattle.trace.proofs.Texts.{text-append, text-more, step-lines-append, length-lines}
 
 -- a report a step
@@ -57,10 +57,12 @@ trace-of-prefix r ss more =
       bytes = record { rest = text (furtherLines r ss more); whole = text-grows r ss more };
     }
 
--- the text of a trace: that of the steps, and the last line
-trace-text : (r : System) (ss : List Step) → text (traceLines r ss) ≡ text (linesOf r ss) ++ endLine (steps r ss .system)
+-- the text of a trace: that of the steps, and of the lines behind them
+trace-text : (r : System) (ss : List Step) → text (traceLines r ss) ≡ text (linesOf r ss) ++ lastText (steps r ss .system)
 unfolding traceLines
-trace-text r ss = text-more (linesOf r ss) (endLine (steps r ss .system))
+trace-text r ss =
+    let q = steps r ss .system in
+    rw (text-append (linesOf r ss) (overLines q ++ (endLine q ∷ [])), text-more (overLines q) (endLine q)) refl
 
 -- a run that is answered 0: its steps are in order
 traced-steps : (a : PlanAnswer) (ok : Bool) (lines : List (List ℕ)) (room : ℕ) → answerAfter a ok lines room ≡ Traced → ok ≡ true
@@ -75,7 +77,7 @@ module _ (n : ℕ) (p b out : List ℕ) (e : runFileAnswer n p b out ≡ Traced)
       let ok = traced-steps (startAnswer n p) (stepsOk b) (traceLines (startOf n p) (fileSteps b)) (length out) e in
       eqb-true (length b % 4) 0 (and-left (eqb (length b % 4) 0) (leb (length b / 4) 2000) ok)
 
-  traced-text : runFileText n p b out ≡ text (linesOf (startOf n p) (fileSteps b)) ++ endLine (steps (startOf n p) (fileSteps b) .system)
+  traced-text : runFileText n p b out ≡ text (linesOf (startOf n p) (fileSteps b)) ++ lastText (steps (startOf n p) (fileSteps b) .system)
   unfolding runFileText
   traced-text = rw e (trace-text (startOf n p) (fileSteps b))
 
@@ -115,7 +117,7 @@ file-of-prefix n p a more out later e f =
     let r = startOf n p in
     let grow = steps-grow a more (whole-steps n p a out e) in
     let stay = trace-of-prefix r (fileSteps a) (fileSteps more) .bytes in
-    let last = endLine (steps r (fileSteps (a ++ more)) .system) in
+    let last = lastText (steps r (fileSteps (a ++ more)) .system) in
     record {
       number = lines-number r (fileSteps a) ∙ steps-number a;
       trace = traced-text n p a out e;

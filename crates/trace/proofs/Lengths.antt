@@ -1,13 +1,16 @@
 -- How long the trace's lines are.
 use mathlib.Core.Path.{_≡_, refl}
-use mathlib.Core.Bool.{true}
-use mathlib.Core.List.{List, [], _∷_}
-use Prim.Native.Nat.{ℕ, _+_, _≤_, _<_}
+use mathlib.Core.Bool.{Bool, true, false}
+use mathlib.Core.List.{List, [], _∷_, append-nil}
+use mathlib.Core.Logic.{by-cases}
+use Prim.Native.Nat.{ℕ, zero, suc, _+_, _*_, _-_, _≤_, _<_}
+use native.Mathlib.Decide.{decLt}
 use native.Mathlib.Omega.{arith}
 use lib.Dec.{leb}
 use lib.ListN.{length, length-append}
 use borrow.Author.Tests.{leb-true, ltb-true}
 use Rattle.base.specs.Choice.{pick}
+use Rattle.base.specs.Range.{fold, joined}
 use Rattle.base.proofs.Choices.{pick-either}
 use Rattle.base.proofs.Tests.{and-left, and-right}
 use Rattle.rules.specs.declared.rule.Received.{Received}
@@ -17,10 +20,15 @@ use Rattle.rules.specs.declared.step.StepAnswer.the-variants.{Accepted, BadSyst
 use Rattle.rules.specs.declared.step.Report.{Report}
 use Rattle.rules.specs.declared.system.System.{System}
 use Rattle.rules.specs.Answers.{stepNumber}
+use Rattle.rules.specs.Numbers.{taskId}
+use Rattle.rules.specs.Systems.{taskAt}
 use Rattle.rules.specs.Steps.{quiescent}
-use Rattle.rules.specs.Trace.{decimal, fields, receivedFields, stepLine, endLine}
+use Rattle.rules.specs.Trace.{decimal, fields, receivedFields, stepLine, overLine, overLines, endLine}
+use Rattle.rules.specs.StepFiles.{text}
 use Rattle.trace.specs.Words.{wordFits, receivedFits}
 use Rattle.trace.proofs.Decimals.{few-digits}
+use Rattle.trace.proofs.Lines.{over-length}
+use Rattle.trace.proofs.Texts.{text-append}
 
 -- fields behind one of at most d digits
 field-more : (n d : ℕ) (ns : List ℕ) → length (decimal n) ≤ d → length (fields (n ∷ ns)) ≤ 1 + d + length (fields ns)
@@ -70,6 +78,29 @@ accepted-short (Word c w) h =
 pub line-short : (k : ℕ) (q : Report) → k < 10000 → length (reportText q) ≤ 13 → length (stepLine k q) ≤ 17
 unfolding stepLine
 line-short k q l h = omega (arith, few-digits 3 k l, length-append (decimal k) (reportText q))
+
+-- the line of a marked task with a number of at most d digits, if it has one
+over-short : (b : Bool) (t d : ℕ) → length (decimal t) ≤ d → length (text (pick b (overLine t ∷ []) [])) ≤ d + 6
+unfolding text
+over-short true t d h = rw (append-nil (overLine t)) (omega (arith, over-length t))
+over-short false t d h = omega arith
+
+-- of the first n tasks: 9 lines of 7 bytes, the others of 8
+overs-few : (f : ℕ → Bool) (n : ℕ) → n ≤ 64 → length (text (joined n (λ k. pick (f k) (overLine (suc k) ∷ []) []))) ≤ 7 * n + (n - 9)
+unfolding fold text
+overs-few f zero l = omega arith
+overs-few f (suc n) l =
+    let before = joined n (λ k. pick (f k) (overLine (suc k) ∷ []) []) in
+    let line = pick (f n) (overLine (suc n) ∷ []) [] in
+    let fewer = overs-few f n (omega arith) in
+    rw (text-append before line)
+    (by-cases (decLt n 9)
+    (λ (h : n < 9). omega (arith, fewer, length-append (text before) (text line), over-short (f n) (suc n) 1 (few-digits 0 (suc n) (omega arith))))
+    (λ h. omega (arith, fewer, length-append (text before) (text line), over-short (f n) (suc n) 2 (few-digits 1 (suc n) (omega arith)))))
+
+pub overs-short : (r : System) → r .plan .tasks ≤ 64 → length (text (overLines r)) ≤ 9 * 7 + 55 * 8
+unfolding overLines
+overs-short r l = omega (arith, overs-few (λ k. taskAt r (taskId (suc k)) .overflow) (r .plan .tasks) l)
 
 pub end-short : (r : System) → r .network .used ≤ 256 → length (endLine r) ≤ 10
 unfolding endLine

@@ -1,4 +1,4 @@
--- The last line: put together field by field, its length, and that it is the paper's.
+-- The line of a marked task and the last line: put together field by field, and how long; that the last is the paper's.
 use mathlib.Core.Path.{_≡_, refl}
 use mathlib.Core.Bool.{Bool, true, false}
 use mathlib.Core.List.{[], _∷_, _++_, append-assoc}
@@ -8,9 +8,17 @@ use lib.ListN.{length, length-append}
 use Rattle.base.specs.Choice.{pick}
 use Rattle.rules.specs.declared.system.System.{System}
 use Rattle.rules.specs.Steps.{quiescent}
-use Rattle.rules.specs.Trace.{decimal, fields, endLine}
-use Rattle.trace.specs.Lines.{endWord, endText}
+use Rattle.rules.specs.Trace.{decimal, fields, overLine, endLine}
+use Rattle.trace.specs.Lines.{overWord, endWord, endText}
 use Rattle.trace.proofs.Putting.{one-digit}
+
+module _ (t : ℕ) where
+  pub over-text : (overWord ++ (32 ∷ decimal t)) ++ (10 ∷ []) ≡ overLine t
+  unfolding overLine fields
+  over-text = simp append-assoc
+
+  pub over-length : length (overLine t) ≡ length (decimal t) + 6
+  over-length = rw (← over-text) (simp length-append (omega arith))
 
 -- r says whether the rig is at rest, as a number
 module _ (b : Bool) (n : ℕ) {r : ℕ} (e : r ≡ pick b 1 0) where

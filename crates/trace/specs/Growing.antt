@@ -15,12 +15,16 @@ use Rattle.rules.specs.declared.step.RunAnswer.the-variants.{Traced}
 use Rattle.rules.specs.declared.system.System.{System}
 use Rattle.rules.specs.Answers.{isAccepted}
 use Rattle.rules.specs.Steps.{stepAnswer, step, steps, receivedOn}
-use Rattle.rules.specs.Trace.{stepLines, endLine}
+use Rattle.rules.specs.Trace.{stepLines, overLines, endLine}
 use Rattle.rules.specs.StepFiles.{fileSteps, startOf, text, runFileAnswer, runFileText}
 
--- the lines of the steps, without the last line of the trace
+-- the lines of the steps, without those behind them
 abbrev pub linesOf : System → List Step → List (List ℕ)
 linesOf r ss = stepLines 0 (steps r ss .reports)
+
+-- the text of those behind them: the lines of the marked tasks, and the last
+abbrev pub lastText : System → List ℕ
+lastText r = text (overLines r) ++ endLine r
 
 -- the lines of the steps ss, and of ss with further steps behind them: there is a line a step, the first lines are the same, and so are their bytes
 pub record LinesStay (r : System) (ss more : List Step) : Type 0 where
@@ -32,11 +36,11 @@ pub record LinesStay (r : System) (ss more : List Step) : Type 0 where
 abbrev pub TraceOfPrefix : Type 0
 TraceOfPrefix = (r : System) (ss more : List Step) → LinesStay r ss more
 
--- the run of step file a, and of a with the bytes `more` behind it, into two outputs: all of the first trace but its last line is a beginning of
--- the second
+-- the run of step file a, and of a with the bytes `more` behind it, into two outputs: the lines of the first file's steps are a beginning of the
+-- second trace
 pub record FileGrows (n : ℕ) (p a more out later : List ℕ) : Type 0 where
   pub number : length (linesOf (startOf n p) (fileSteps a)) ≡ length a / 4
-  pub trace : runFileText n p a out ≡ text (linesOf (startOf n p) (fileSteps a)) ++ endLine (steps (startOf n p) (fileSteps a) .system)
+  pub trace : runFileText n p a out ≡ text (linesOf (startOf n p) (fileSteps a)) ++ lastText (steps (startOf n p) (fileSteps a) .system)
   pub bytes : Beginning (text (linesOf (startOf n p) (fileSteps a))) (runFileText n p (a ++ more) later)
 
 -- `trace-of-prefix` of step files: both runs are answered 0, so that both files are within the limits and hold whole steps

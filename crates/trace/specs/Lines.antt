@@ -1,11 +1,15 @@
--- The text of the last line.
+-- The words that lines begin with, and the text of the last line.
 use mathlib.Core.Bool.{Bool}
 use mathlib.Core.List.{List, [], _∷_, _++_}
 use Prim.Native.Nat.{ℕ}
 use Rattle.base.specs.Choice.{pick}
 use Rattle.rules.specs.Trace.{fields}
 
--- the word that it begins with
+-- the word that the line of a marked task begins with
+abbrev pub overWord : List ℕ
+overWord = 111 ∷ 118 ∷ 101 ∷ 114 ∷ []
+
+-- the word that the last line begins with
 abbrev pub endWord : List ℕ
 endWord = 101 ∷ 110 ∷ 100 ∷ []
 

@@ -4,8 +4,8 @@ ghost use mathlib.Core.List.{_∷_, [], _++_};
 ghost use Prim.Native.Nat.{_+_, _<_, _≤_};
 ghost use lib.ListN.{length};
 ghost use lib.Dec.{leb};
-ghost use Rattle.rules.specs.Trace.{decimal, fields, stepLine};
-ghost use Rattle.trace.specs.Lines.{endWord, endText};
+ghost use Rattle.rules.specs.Trace.{decimal, fields, stepLine, overLine};
+ghost use Rattle.trace.specs.Lines.{overWord, endWord, endText};
 ghost use Rattle.trace.specs.Output.{Emitted, Put, PutTo};
 use super::answer_number;
 use super::digit;
@@ -191,6 +191,41 @@ pub fn emit_step(out: &mut [u8], filled: usize, k: usize, q: Report) -> usize
     ensures { λ r. ⌜ Emitted (now (out .entry)) filled (stepLine k q) r (now (out .exit)) ⌝ }
 {
     write_step(&mut out[filled..], k, q)
+}
+
+// The word that begins the line of a marked task, at the front.
+fn put_over(rest: &mut [u8]) -> usize
+    requires { ⌜ 4 ≤ length (now rest) ⌝ }
+    ensures { λ r. ⌜ PutTo (now (rest .entry)) 0 overWord r (now (rest .exit)) ⌝ }
+{
+    rest[0] = 111;
+    rest[1] = 118;
+    rest[2] = 101;
+    rest[3] = 114;
+    4
+}
+
+// The line of task t, which is marked, at the front of the rest of the output, if it fits: how many bytes were written.
+fn write_over(rest: &mut [u8], t: usize) -> usize
+    requires { ⌜ t < 100000 ⌝ }
+    ensures { λ r. ⌜ Emitted (now (rest .entry)) 0 (overLine t) r (now (rest .exit)) ⌝ }
+{
+    if rest.len() < digits(t) + 6 {
+        return 0;
+    }
+    let word = put_over(rest);
+    let end = put_field(rest, word, t);
+    rest[end] = 10;
+    end + 1
+}
+
+// The line of task t, which is marked, written into the part of the output that is not yet filled: how many bytes were
+// written, 0 where it does not fit.
+pub fn emit_over(out: &mut [u8], filled: usize, t: usize) -> usize
+    requires { ⌜ (filled ≤ length (now out)) × (t < 100000) ⌝ }
+    ensures { λ r. ⌜ Emitted (now (out .entry)) filled (overLine t) r (now (out .exit)) ⌝ }
+{
+    write_over(&mut out[filled..], t)
 }
 
 // The word that begins the last line, at the front.

@@ -1,4 +1,4 @@
-// The lines of the trace, those of steps and the last one; that a trace has at most 34,010 bytes.
+// The lines of the trace, those of steps, of marked tasks and the last one; how long a trace can be.
 
 // Lines put into the lent rest of the output.
 pub mod direct;
