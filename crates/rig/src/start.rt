@@ -38,6 +38,7 @@ fn unborn() -> Task
         pc: 1,
         home: ProcessorId(0),
         word: Word(0),
+        overflow: false,
         moves: 0,
         children: 0,
     }
