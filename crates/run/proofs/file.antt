@@ -1,6 +1,4 @@
--- One line more, the parts at the start, the trace, and the outcome of a run.
-mod Fits
-mod Ending
+-- The parts at the start, the trace, and the outcome of a run.
 mod Beginning
 mod Traces
 mod Outcomes

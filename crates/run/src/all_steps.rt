@@ -2,15 +2,13 @@
 
 // A step of the file, from its four bytes.
 mod decode;
-// The line of a step behind those that are written.
-mod lines;
 
 ghost use Rattle.board.specs.Lent.{lent};
 ghost use Rattle.board.specs.Rigs.{factsIn};
 ghost use Rattle.run.specs.all_steps.Begins.{Begins};
 ghost use Rattle.run.specs.all_steps.Writes.{RanOn};
 use crate::all_steps::decode::step_at;
-use crate::all_steps::lines::emit_next;
+use crate::lines::emit_next;
 use board::act::Size;
 use network::position;
 use rules::message::Network;

@@ -2,5 +2,7 @@
 
 // The loop: it decodes a step, takes a letter out, carries the step out, posts, and writes the line.
 pub mod all_steps;
-// The run over a plan file and a step file: start, loop, last line.
+// The run over a plan file and a step file: start, loop, the lines behind those of the steps.
 pub mod file;
+// The lines of steps, as long as they fit.
+mod lines;

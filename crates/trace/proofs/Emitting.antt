@@ -1,13 +1,13 @@
 -- A line that fits and one that does not, and what the result tells of it; a line put at the front of what is left.
-use mathlib.Core.Path.{_≡_}
+use mathlib.Core.Path.{_≡_, refl}
 use mathlib.Core.Logic.{by-cases}
 use mathlib.Core.List.{List, [], _++_, append-assoc, append-nil}
 use Prim.Native.Nat.{ℕ, _+_, _-_, _≤_, _<_}
 use native.Mathlib.Decide.{decLe}
 use native.Mathlib.Nat.{zero-add}
 use native.Mathlib.Omega.{arith}
-use lib.ListN.{length, take, drop, length-drop, drop-of-length-le}
-use lib.Seq.{take-all, drop-drop}
+use lib.ListN.{length, take, drop, length-append, length-drop, drop-of-length-le}
+use lib.Seq.{take-all, drop-drop, length-take-le}
 use borrow.Author.Tests.{le-leb, lt-leb}
 use borrow.Rule.Slice.PartMut.{midOf, putMid, put-same, mid-len}
 use Rattle.trace.specs.Output.{Emitted}
@@ -40,6 +40,13 @@ module _ {o : List ℕ} {f : ℕ} {t : List ℕ} {r : ℕ} {p : List ℕ} where
     pub fitted-not : 1 ≤ length t → r ≡ 0 → length o < f + length t
     fitted-not h z =
         by-cases (decLe (f + length t) (length o)) (λ (l : f + length t ≤ length o). absurd (omega (arith, count-fits l))) (λ n. omega arith)
+
+    -- the output stays as long
+    pub emitted-length : f ≤ length o → length p ≡ length o
+    emitted-length h =
+        by-cases (decLe (f + length t) (length o))
+        (λ (l : f + length t ≤ length o). rw (bytes-fit l) (simp (length-append, length-drop) (omega (arith, length-take-le f o h))))
+        (λ n. rw (bytes-same (omega arith)) refl)
 
 -- the part from f on, with the line put at its front, is put back
 pub put-back : (o : List ℕ) (f : ℕ) (t : List ℕ) (r : ℕ) (p : List ℕ) → f ≤ length o → Emitted (midOf f (length o - f) o) 0 t r p

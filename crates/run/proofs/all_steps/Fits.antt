@@ -1,13 +1,13 @@
 -- Lines that all fit and lines that do not, one line more and more lines behind them; the lines of one list of reports behind those of another.
 use mathlib.Core.Path.{_≡_, refl, sym}
-use mathlib.Core.Bool.{true, false}
+use mathlib.Core.Bool.{Bool, true, false}
 use mathlib.Core.List.{List, [], _∷_, _++_}
 use Prim.Native.Nat.{ℕ, suc, _+_, _-_, _≤_, _<_}
 use native.Mathlib.Nat.{add-zero, add-suc, suc-add}
 use native.Mathlib.Omega.{arith}
 use mathlib.Core.Logic.{by-cases}
 use native.Mathlib.Decide.{decLe}
-use lib.ListN.{length, length-append}
+use lib.ListN.{length, drop, length-append, length-drop}
 use borrow.Author.Tests.{leb-true, leb-false, le-leb, lt-leb}
 use Rattle.rules.specs.declared.step.Report.{Report}
 use Rattle.rules.specs.Trace.{stepLines}
@@ -71,6 +71,18 @@ written-filled {o} {ls} w =
     let room = leb-true (length (text ls)) (length o) (sym (w .all)) in
     let e = fitting-all (length o) ls room in
     record { bytes = rw e at (w .bytes); end = rw e at (w .count); room = room }
+
+-- what is filled is within the output, which stays as long
+module _ {o : List ℕ} {ls : List (List ℕ)} {f : ℕ} {b : Bool} {out : List ℕ} (w : Written ls o f b out) where
+  pub written-room : f ≤ length out
+  written-room =
+      let l = fitting (length o) ls in
+      rw (w .bytes) (omega (arith, w .count, length-append l (drop (length l) o)))
+
+  pub written-length : length out ≡ length o
+  written-length =
+      let l = fitting (length o) ls in
+      rw (w .bytes) (omega (arith, length-append l (drop (length l) o), length-drop (length l) o, fitting-room (length o) ls))
 
 -- lines behind those that do not all fit
 pub written-over : {o : List ℕ} {ls : List (List ℕ)} {f : ℕ} {out : List ℕ} (ms : List (List ℕ)) → Written ls o f false out → Written (ls ++ ms) o f false out

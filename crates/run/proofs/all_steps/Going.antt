@@ -4,8 +4,7 @@ use mathlib.Core.List.{List, [], _∷_, _++_}
 use Prim.Native.Nat.{ℕ, _+_, _≤_}
 use native.Mathlib.Nat.{zero-add}
 use native.Mathlib.Numerals.{add-one}
-use native.Mathlib.Omega.{arith}
-use lib.ListN.{length, length-append, length-drop, drop}
+use lib.ListN.{length}
 use Rattle.base.specs.Lists.{table, tableBefore}
 use Rattle.base.proofs.Tables.{table-more, length-table}
 use Rattle.rules.specs.declared.task.Task.{Task}
@@ -13,7 +12,7 @@ use Rattle.rules.specs.declared.message.Network.{Network}
 use Rattle.rules.specs.declared.step.Step.{Step}
 use Rattle.rules.specs.declared.system.Store.{Store}
 use Rattle.rules.specs.Trace.{stepLine, stepLines}
-use Rattle.rules.specs.StepFiles.{text, fitting}
+use Rattle.rules.specs.StepFiles.{text}
 use Rattle.rig_parts.specs.Facts.{Facts}
 use Rattle.rig_parts.specs.declared.turn.Turn.{Turn}
 use Rattle.rig_parts.specs.Turns.{turnOf, Rig}
@@ -21,7 +20,7 @@ use Rattle.rig_parts.proofs.Rigs.{rig-next}
 use Rattle.trace.proofs.Filling.{filled-none}
 use Rattle.trace.proofs.Texts.{step-lines-more}
 use Rattle.run.specs.all_steps.Writes.{Turns, turnsOf, RanTo, WrittenBy, LineNext, filledBy}
-use Rattle.run.proofs.all_steps.Fits.{filled-written, fitting-room}
+use Rattle.run.proofs.all_steps.Fits.{filled-written, written-room, written-length}
 use Rattle.run.proofs.all_steps.Turns.{turns-append, turns-reports}
 
 module _ (f : Facts) (n : ℕ) (ts : List Task) (k : Network) (s : Store) (at : ℕ → Step) where
@@ -48,17 +47,13 @@ module _ (f : Facts) (n : ℕ) (ts : List Task) (k : Network) (s : Store) (at : 
 
   module _ {o : List ℕ} {j : ℕ} {all : List Task} {messages : Network} {kept : Store} {progress out : List ℕ} (g : Going o j all messages kept progress out) where
     pub going-room : filledBy progress ≤ length out
-    going-room =
-        let l = fitting (length o) (firstLines j) in
-        rw (g .lines .bytes) (omega (arith, g .lines .count, length-append l (drop (length l) o)))
+    going-room = written-room (g .lines)
 
     pub going-length : length out ≡ length o
-    going-length =
-        let l = fitting (length o) (firstLines j) in
-        rw (g .lines .bytes) (omega (arith, length-append l (drop (length l) o), length-drop (length l) o, fitting-room (length o) (firstLines j)))
+    going-length = written-length (g .lines)
 
     pub going-done : RanTo (firstTurns j) o all messages kept progress out
-    going-done = record { lines = g .lines; tasks = g .tasks; network = g .network; store = g .store }
+    going-done = record { lines = g .lines; two = g .two; tasks = g .tasks; network = g .network; store = g .store }
 
     -- a step more
     module _ {t : Turn} (q : t ≡ turnOf f n all messages kept (at j)) where

@@ -2,9 +2,10 @@
 use mathlib.Core.Path.{_≡_}
 use mathlib.Core.Bool.{Bool}
 use mathlib.Core.List.{List, [], _∷_, _++_}
-use Prim.Native.Nat.{ℕ}
+use Prim.Native.Nat.{ℕ, _+_, _≤_}
 use lib.Dec.{leb, eqb}
-use lib.ListN.{length, drop, getD}
+use lib.ListN.{length, drop, getD, set}
+use Rattle.base.specs.Choice.{pick}
 use Rattle.rules.specs.declared.task.Task.{Task}
 use Rattle.rules.specs.declared.message.Network.{Network}
 use Rattle.rules.specs.declared.step.Step.{Step}
@@ -46,14 +47,25 @@ wholeBy progress = eqb (getD progress 1 0) 0
 abbrev pub WrittenBy : List (List ℕ) → List ℕ → List ℕ → List ℕ → Type 0
 WrittenBy lines before progress after = Written lines before (filledBy progress) (wholeBy progress) after
 
--- a line more, behind whatever lines were written before it
-pub record LineNext (line progress out progress' out' : List ℕ) : Type 0 where
+-- the progress after a line of which so many bytes were written, none where it did not fit
+abbrev pub noted : List ℕ → ℕ → List ℕ
+noted progress written = pick (eqb written 0) (set progress 1 1) (set progress 0 (filledBy progress + written))
+
+-- more lines, behind whatever lines were written before them, as far as they fit
+pub record LinesNext (ls : List (List ℕ)) (progress out progress' out' : List ℕ) : Type 0 where
   pub long : length progress' ≡ length progress
-  pub more : (lines : List (List ℕ)) (before : List ℕ) → WrittenBy lines before progress out → WrittenBy (lines ++ (line ∷ [])) before progress' out'
+  pub kept : length out' ≡ length out
+  pub room : filledBy progress ≤ length out → filledBy progress' ≤ length out'
+  pub more : (lines : List (List ℕ)) (before : List ℕ) → WrittenBy lines before progress out → WrittenBy (lines ++ ls) before progress' out'
+
+-- one line more
+abbrev pub LineNext : List ℕ → List ℕ → List ℕ → List ℕ → List ℕ → Type 0
+LineNext line progress out progress' out' = LinesNext (line ∷ []) progress out progress' out'
 
 -- the steps are carried out, and their lines written as far as they fit
 pub record RanTo (h : Turns) (before : List ℕ) (ts : List Task) (k : Network) (s : Store) (progress after : List ℕ) : Type 0 where
   pub lines : WrittenBy (stepLines 0 (h .reports)) before progress after
+  pub two : length progress ≡ 2
   pub tasks : ts ≡ h .tasks
   pub network : k ≡ h .network
   pub store : s ≡ h .store

@@ -1,24 +1,29 @@
--- One line more in a lent output, and the outcome of a run.
+-- The lines behind those of the steps, and the outcome of a run.
 use mathlib.Core.Path.{_≡_}
-use mathlib.Core.List.{List, _++_}
-use Prim.Native.Nat.{ℕ, _+_}
-use lib.Dec.{leb}
-use lib.ListN.{length, take, drop}
+use mathlib.Core.List.{List, [], _∷_}
+use Prim.Native.Nat.{ℕ, suc}
+use lib.ListN.{length}
 use Rattle.base.specs.Choice.{pick}
-use Rattle.rules.specs.declared.step.RunAnswer.{RunAnswer}
+use Rattle.base.specs.Range.{joined}
 use Rattle.plan.specs.declared.Plan.{Plan}
+use Rattle.rules.specs.declared.task.Task.{Task}
+use Rattle.rules.specs.declared.step.RunAnswer.{RunAnswer}
+use Rattle.rules.specs.Numbers.{taskId}
 use Rattle.rules.specs.Starts.{started}
+use Rattle.rules.specs.Systems.{taskIn}
+use Rattle.rules.specs.Trace.{overLine}
 use Rattle.rules.specs.StepFiles.{fileSteps, traceLines, runFileAnswer, runFileText, runFileOutput}
 use Rattle.rig_parts.specs.Facts.{Facts}
 use Rattle.run.specs.all_steps.Writes.{Written}
 use Rattle.run.specs.declared.file.drive.Driven.{Driven}
 use Rattle.run.specs.file.Begins.{Begins}
 
--- one line more behind what is filled, if it fits
-pub record Ended (line : List ℕ) (before : List ℕ) (filled : ℕ) (r : Driven) (after : List ℕ) : Type 0 where
-  pub all : r .whole ≡ leb (filled + length line) (length before)
-  pub count : r .filled ≡ pick (leb (filled + length line) (length before)) (filled + length line) filled
-  pub bytes : after ≡ pick (leb (filled + length line) (length before)) (take filled before ++ (line ++ drop (filled + length line) before)) before
+-- the line of task t, if it is marked; those of tasks 1 to n, by rising number
+abbrev pub markLine : List Task → ℕ → List (List ℕ)
+markLine ts t = pick (taskIn ts (taskId t) .overflow) (overLine t ∷ []) []
+
+unfoldable pub markLines : List Task → ℕ → List (List ℕ)
+markLines ts n = joined n (λ k. markLine ts (suc k))
 
 -- the trace of the plan that f is derived of, on n desks from its start
 abbrev pub TraceOf : ℕ → Facts → List ℕ → List ℕ → Driven → List ℕ → Type 0

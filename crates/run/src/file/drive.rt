@@ -2,10 +2,11 @@
 ghost use Prim.Native.Nat.{_≤_, _/_};
 ghost use lib.ListN.{length};
 ghost use Rattle.rig_parts.specs.Facts.{facts};
-ghost use Rattle.trace.specs.Lines.{endText};
 ghost use Rattle.run.specs.file.Begins.{Begun};
-ghost use Rattle.run.specs.file.Writes.{Ended, TraceOf};
+ghost use Rattle.run.specs.file.Writes.{TraceOf};
 use crate::all_steps::run_steps;
+use crate::file::last::emit_last;
+use crate::file::last::emit_marks;
 use board::act::Size;
 use board::sweeps::locate;
 use plan::ProcessorId;
@@ -16,30 +17,11 @@ use rig::start::no_messages;
 use rig::start::no_tables;
 use rig::start::start_board;
 use rules::channel::Hint;
-use trace::direct::emit_end;
 
 // How much of the output is filled, and whether every line fitted.
 pub struct Driven {
     pub filled: usize,
     pub whole: bool,
-}
-
-// The last line.
-fn write_end(rest: bool, messages: usize, out: &mut [u8], filled: usize) -> Driven
-    requires { ⌜ (messages ≤ 256) × (filled ≤ length (now out)) ⌝ }
-    ensures { λ r. ⌜ Ended (endText rest messages) (now (out .entry)) filled r (now (out .exit)) ⌝ }
-{
-    let written = emit_end(out, filled, rest, messages);
-    if written == 0 {
-        return Driven {
-            filled: filled,
-            whole: false,
-        };
-    }
-    Driven {
-        filled: filled + written,
-        whole: true,
-    }
 }
 
 // The trace of an accepted plan from its start, by what is derived of it. The birth of task 1 at desk 1 sets pointers; the other
@@ -111,14 +93,12 @@ pub fn drive<'a>(
         out,
         &mut progress,
     );
-    let filled = progress[0];
-    if progress[1] != 0 {
-        return Driven {
-            filled: filled,
-            whole: false,
-        };
-    }
+    emit_marks(out, &mut progress, &board, count);
     let messages = network.used;
     let rest = at_rest(count, opcodes, operands, &board, messages);
-    write_end(rest, messages, out, filled)
+    emit_last(out, &mut progress, rest, messages);
+    Driven {
+        filled: progress[0],
+        whole: progress[1] == 0,
+    }
 }

@@ -1,4 +1,4 @@
--- `drive` makes the table of who uses what and the parts of the start, runs the steps on them and writes the last line.
+-- `drive` makes the table of who uses what and the parts of the start, runs the steps on them and writes the lines behind them.
 use mathlib.Core.Path.{refl, sym, _∙_}
 use borrow.Author.Needs.{needs}
 use Rattle.plan.specs.declared.Plan.{Plan}
@@ -9,8 +9,10 @@ use Rattle.steps.proofs.instruction.Refusals.{placed}
 use Rattle.board.specs.Lent.{Lent, lent, tasksOf, storeOf}
 use Rattle.board.specs.Rigs.{factsIn}
 use Rattle.run.specs.file.Begins.{Begins}
+use Rattle.rig_parts.proofs.BoundsParts.{count-few}
+use Rattle.run.proofs.all_steps.Fits.{written-room}
 use Rattle.run.proofs.file.Beginning.{few-users, begun}
-use Rattle.run.proofs.file.Traces.{rig-messages, driven-short, ran-rig, ran-room, driven-end}
+use Rattle.run.proofs.file.Traces.{rig-messages, ran-rig, driven}
 use Rattle.run.proofs.file.drive.drive.Statement.{statement}
 use Rattle.run.proofs.file.drive.drive.Tie as tie
 
@@ -95,49 +97,51 @@ run-steps-requires c κs =
       blank = refl;
     }
 
-array-read-filled : tie.Need-array-read-filled
-array-read-filled c = search needs
+-- the stages behind the loop: where the steps were run, and the lines of the marked tasks written
+abbrev ran : tie.After-emit-marks → tie.After-run-steps
+ran c = c .before .before .before .before .before .before
 
-array-read-if1 : tie.Need-array-read-if1
-array-read-if1 c = search needs
+abbrev marked : tie.After-at-rest → tie.After-emit-marks
+marked c = c .before .before .before .before
+
+emit-marks-requires : tie.Need-emit-marks-requires
+emit-marks-requires c κs =
+    let after-run-steps = c .before .before .before .before .before in
+    let g = known (with-no-messages after-run-steps) in
+    let h = after-run-steps .run-steps .ensures in
+    (count-few (ran-rig g _ h .parts), h .two, written-room (h .lines))
+
+at-rest-requires : tie.Need-at-rest-requires
+at-rest-requires c κs =
+    let after-run-steps = ran (c .before .before .before) in
+    placed (ran-rig (known (with-no-messages after-run-steps)) _ (after-run-steps .run-steps .ensures) .parts)
+
+emit-last-requires : tie.Need-emit-last-requires
+emit-last-requires c κs =
+    let after-emit-marks = marked (c .before .before) in
+    let after-run-steps = ran after-emit-marks in
+    let h = after-run-steps .run-steps .ensures in
+    let lines = after-emit-marks .emit-marks .ensures in
+    (rig-messages (ran-rig (known (with-no-messages after-run-steps)) _ h), lines .long ∙ h .two, lines .room (written-room (h .lines)))
+
+array-read-t54 : tie.Need-array-read-t54
+array-read-t54 c = search needs
+
+array-read-t57 : tie.Need-array-read-t57
+array-read-t57 c = search needs
 
 same-length : tie.Need-same-length
 same-length c = search needs
 
 returns : tie.Need-returns
 returns c p b =
-    let after-run-steps = c .before .before .before in
-    let after-no-messages = with-no-messages after-run-steps in
-    driven-short (rig after-no-messages b) _ (after-run-steps .run-steps .ensures) (c .if1 .taken)
-
-at-rest-requires : tie.Need-at-rest-requires
-at-rest-requires c κs =
-    let after-run-steps = c .before .before .before .before in
-    let after-no-messages = with-no-messages after-run-steps in
-    placed (ran-rig (known after-no-messages) _ (after-run-steps .run-steps .ensures) .parts)
-
-write-end-requires : tie.Need-write-end-requires
-write-end-requires c κs =
-    let else1 = c .before .before .before in
-    let after-run-steps = else1 .before .before .before in
-    let after-no-messages = with-no-messages after-run-steps in
-    let g = known after-no-messages in
-    let ran = after-run-steps .run-steps .ensures in
-    (rig-messages (ran-rig g _ ran), ran-room g _ ran (else1 .if1 .left))
-
-same-length-2 : tie.Need-same-length-2
-same-length-2 c = search needs
-
-returns-2 : tie.Need-returns-2
-returns-2 c p b =
-    let after-write-end = c .before .before in
-    let after-at-rest = after-write-end .before .before in
-    let else1 = after-at-rest .before .before in
-    let after-run-steps = else1 .before .before .before in
-    let after-no-messages = with-no-messages after-run-steps in
-    let g = rig after-no-messages b in
-    let ran = after-run-steps .run-steps .ensures in
-    driven-end g _ ran (else1 .if1 .left) _ (after-at-rest .at-rest .ensures ∙ sym (rest-quiet (ran-rig g _ ran .parts))) (after-write-end .write-end .ensures)
+    let after-emit-last = c .before .before in
+    let after-at-rest = after-emit-last .before .before .before in
+    let after-emit-marks = marked after-at-rest in
+    let after-run-steps = ran after-emit-marks in
+    let g = rig (with-no-messages after-run-steps) b in
+    let h = after-run-steps .run-steps .ensures in
+    driven g _ h _ (after-at-rest .at-rest .ensures ∙ sym (rest-quiet (ran-rig g _ h .parts))) (after-emit-marks .emit-marks .ensures) (after-emit-last .emit-last .ensures)
 
 pub drive-spec : {M : Type 1} → statement M
 drive-spec =
@@ -149,11 +153,10 @@ drive-spec =
     locate-requires
     no-messages-requires
     run-steps-requires
-    array-read-filled
-    array-read-if1
-    same-length
-    returns
+    emit-marks-requires
     at-rest-requires
-    write-end-requires
-    same-length-2
-    returns-2)
+    emit-last-requires
+    array-read-t54
+    array-read-t57
+    same-length
+    returns)
