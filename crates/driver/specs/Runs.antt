@@ -11,15 +11,16 @@ use Rattle.rules.specs.declared.step.RunAnswer.the-variants.{Traced, OutputShor
 use Rattle.rules.specs.Answers.{runNumber}
 use Rattle.rules.specs.Trace.{stepLines, overLines, endLine}
 use Rattle.rules.specs.StepFiles.{fileSteps, text, runFileAnswer, runFileText, runFileOutput}
+use Rattle.trace.specs.Bounds.{longestTrace}
 use Rattle.claim.specs.Statement.{Demand3, from}
 
 -- 0 or the refusal's number, and 256 times the number of bytes that are filled
 abbrev pub packed : ℕ → ℕ → ℕ
 packed number filled = number + 256 * filled
 
--- as many bytes hold every trace: 2,000 lines of at most 17, 9 of 7 and 55 of 8 for marked tasks, and the last of at most 10
+-- as many bytes hold every trace
 abbrev pub enough : ℕ
-enough = 34513
+enough = longestTrace
 
 unfoldable pub runOutcome : ℕ → List ℕ → List ℕ → List ℕ → ℕ
 runOutcome n p b out = packed (runNumber (runFileAnswer n p b out)) (length (runFileText n p b out))
