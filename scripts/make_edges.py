@@ -1,6 +1,6 @@
 #!/usr/bin/env python3
 """Writes plans at the paper's limits: crates/vectors_test/data/edges.bin, in the format of the vectors, and
-three plan files in crates/edges_test/data.
+plan files and a step file in crates/edges_test/data.
 
 Each record holds desks, the lengths of plan, steps and output, and then these; the steps are empty.
 The plans are laid out here by hand, by the paper's layout, and not by the project's own code.
@@ -51,6 +51,20 @@ def channels(sent, received):
     return [[(CREATE, u) for u in range(2, 8)] + [(FINISH, 0)]] + three(SEND, sent) + three(RECEIVE, received)
 
 
+def over():
+    """Sums at the top and over it: tasks 1 and 3 pass 65,535, task 2 reaches it."""
+    return [
+        [(CREATE, 2), (CREATE, 3), (SET, 65535), (ADD, 1), (FINISH, 0)],
+        [(SET, 65535), (ADD, 0), (FINISH, 0)],
+        [(ADD, 65535), (ADD, 65535), (FINISH, 0)],
+    ]
+
+
+def runs(tasks):
+    """A run step of each of these tasks."""
+    return b"".join(struct.pack("<BBH", 1, task, 0) for task in tasks)
+
+
 def main():
     every = list(range(1, 129))
     records = [
@@ -81,6 +95,8 @@ def main():
     (data / "tasks64.plan").write_bytes(layout(created(64)))
     (data / "code64.plan").write_bytes(layout(long(64)))
     (data / "code65.plan").write_bytes(layout(long(65)))
+    (data / "over.plan").write_bytes(layout(over()))
+    (data / "over.steps").write_bytes(runs([1, 1, 1, 1, 2, 2, 2, 3, 3, 3, 1]))
 
 
 if __name__ == "__main__":

@@ -1,7 +1,9 @@
-// Those edges of the paper's list that are compared by a run: the limits of a plan file, and the
-// last move of a task.
+// Edges that are compared by a run: of the paper's list the limits of a plan file and the last move of a
+// task; sums at the top and over it, and an unborn task with a mark.
+ghost use Prim.Native.Nat.{_<_, _≤_};
 ghost use Rattle.io.specs.Counts.{Counts};
 use libc::STDOUT_FILENO;
+use plan::CREATE;
 use plan::FINISH;
 use plan::Plan;
 use plan::PlanAnswer;
@@ -61,6 +63,73 @@ fn refused(r: Ran, number: u64) -> bool {
         return false;
     }
     check::same(&out, &before)
+}
+
+// What a run of over.plan and over.steps answers, on one desk, into the first `room` bytes of an output,
+// and the output then.
+pub struct RanOver {
+    pub answer: u64,
+    pub out: [u8; 70],
+}
+
+fn run_over(room: usize) -> RanOver
+    requires { ⌜ room ≤ 70 ⌝ }
+{
+    let mut plan = io::buffer();
+    let size = load(b"over.plan", &mut plan);
+    let mut steps = io::buffer();
+    let long = load(b"over.steps", &mut steps);
+    let mut out = [165u8; 70];
+    let answer = driver::mortarsedge_run(1, &plan[..size], &steps[..long], &mut out[..room]);
+    RanOver {
+        answer: answer,
+        out: out,
+    }
+}
+
+// The number with the bytes filled, and what the output begins with.
+fn wrote(r: RanOver, answer: u64, text: &[u8]) -> bool {
+    let out = r.out;
+    let size = text.len();
+    if r.answer != answer {
+        return false;
+    }
+    if 70 < size {
+        return false;
+    }
+    check::same(&out[..size], text)
+}
+
+// Tasks 1 and 3 pass 65,535 and task 2 reaches it. The lines `over` are whole lines: with a byte less the last
+// that fits is the one before.
+fn sums_over() {
+    let all = run_over(70);
+    say(
+        b"sums over the top",
+        wrote(
+            all,
+            17408,
+            b"1 0\n2 0\n3 0\n4 0\n5 0\n6 0\n7 0\n8 0\n9 0\n10 0\n11 0\nover 1\nover 3\nend 1 0\n",
+        ),
+    );
+    let short = run_over(67);
+    say(
+        b"no room for the last line: 20",
+        wrote(
+            short,
+            15380,
+            b"1 0\n2 0\n3 0\n4 0\n5 0\n6 0\n7 0\n8 0\n9 0\n10 0\n11 0\nover 1\nover 3\n",
+        ),
+    );
+    let shorter = run_over(59);
+    say(
+        b"no room for a line over: 20",
+        wrote(
+            shorter,
+            13588,
+            b"1 0\n2 0\n3 0\n4 0\n5 0\n6 0\n7 0\n8 0\n9 0\n10 0\n11 0\nover 1\n",
+        ),
+    );
 }
 
 // A plan of one task that only finishes.
@@ -137,6 +206,51 @@ fn last_move() {
     say(b"move count 9,999: 18", is_after(c, 18, 9999));
 }
 
+// A plan of two tasks: the first creates the second, and both finish.
+fn creating() -> Plan {
+    let mut lengths = [0u8; 64];
+    lengths[0] = 2;
+    lengths[1] = 1;
+    let mut opcodes = [0u8; 4096];
+    opcodes[0] = CREATE;
+    opcodes[1] = FINISH;
+    opcodes[64] = FINISH;
+    let mut operands = [0u16; 4096];
+    operands[0] = 2;
+    Plan {
+        tasks: 2,
+        lengths: lengths,
+        opcodes: opcodes,
+        operands: operands,
+    }
+}
+
+// The rig with a mark on the task after the first k.
+fn with_mark(mut r: System, k: usize) -> System
+    requires { ⌜ k < 64 ⌝ }
+{
+    let mut x = r.tasks[k];
+    x.overflow = true;
+    r.tasks[k] = x;
+    r
+}
+
+// A mark is refused by 9 on a task that is not born, and on no other.
+fn marked_unborn() {
+    let plan = creating();
+    let answer = plan_value::check(plan);
+    let PlanAnswer::Accepted = answer else {
+        say(b"a plan of two tasks accepted", false);
+        return;
+    };
+    let e = plan_index::ends::derive(plan);
+    let r = rig::start::start(1, plan, e);
+    let a = take_step(with_mark(r, 1), 1, 1, 0);
+    say(b"an unborn task with a mark: 9", is_after(a, 9, 1));
+    let b = take_step(with_mark(r, 0), 1, 1, 0);
+    say(b"a ready task with a mark runs", is_after(b, 0, 1));
+}
+
 fn main() {
     let tasks = run_no_step(b"tasks64.plan");
     say(b"T 64 accepted", accepted(tasks));
@@ -145,4 +259,6 @@ fn main() {
     let more = run_no_step(b"code65.plan");
     say(b"65 instructions: 2", refused(more, 2));
     last_move();
+    sums_over();
+    marked_unborn();
 }
