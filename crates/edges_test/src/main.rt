@@ -1,6 +1,5 @@
 // Edges that are compared by a run: of the paper's list the limits of a plan file and the last move of a
 // task; sums at the top and over it, and an unborn task with a mark.
-ghost use Prim.Native.Nat.{_<_, _≤_};
 ghost use Rattle.io.specs.Counts.{Counts};
 use libc::STDOUT_FILENO;
 use plan::CREATE;
@@ -65,70 +64,44 @@ fn refused(r: Ran, number: u64) -> bool {
     check::same(&out, &before)
 }
 
-// What a run of over.plan and over.steps answers, on one desk, into the first `room` bytes of an output,
-// and the output then.
-pub struct RanOver {
-    pub answer: u64,
-    pub out: [u8; 70],
-}
-
-fn run_over(room: usize) -> RanOver
-    requires { ⌜ room ≤ 70 ⌝ }
-{
+// What a run of over.plan and over.steps into this output answers, on one desk.
+fn run_over(out: &mut [u8]) -> u64 {
     let mut plan = io::buffer();
     let size = load(b"over.plan", &mut plan);
     let mut steps = io::buffer();
     let long = load(b"over.steps", &mut steps);
-    let mut out = [165u8; 70];
-    let answer = driver::mortarsedge_run(1, &plan[..size], &steps[..long], &mut out[..room]);
-    RanOver {
-        answer: answer,
-        out: out,
-    }
+    driver::mortarsedge_run(1, &plan[..size], &steps[..long], out)
 }
 
-// The number with the bytes filled, and what the output begins with.
-fn wrote(r: RanOver, answer: u64, text: &[u8]) -> bool {
-    let out = r.out;
-    let size = text.len();
-    if r.answer != answer {
-        return false;
-    }
-    if 70 < size {
-        return false;
-    }
-    check::same(&out[..size], text)
-}
-
-// Tasks 1 and 3 pass 65,535 and task 2 reaches it. The lines `over` are whole lines: with a byte less the last
-// that fits is the one before.
+// Tasks 1 and 3 pass 65,535 and task 2 reaches it. The lines `over` are whole lines: one that does not fit is not
+// begun, and none is written behind it. Bytes that are not written stay dots.
 fn sums_over() {
-    let all = run_over(70);
-    say(
-        b"sums over the top",
-        wrote(
-            all,
-            17408,
-            b"1 0\n2 0\n3 0\n4 0\n5 0\n6 0\n7 0\n8 0\n9 0\n10 0\n11 0\nover 1\nover 3\nend 1 0\n",
-        ),
+    let mut all = [46u8; 69];
+    let full = run_over(&mut all);
+    let right = check::same(
+        &all,
+        b"1 0\n2 0\n3 0\n4 0\n5 0\n6 0\n7 0\n8 0\n9 0\n10 0\n11 0\nover 1\nover 3\nend 1 0\n.",
     );
-    let short = run_over(67);
+    say(b"sums over the top", base::both(full == 17408, right));
+    let mut most = [46u8; 67];
+    let short = run_over(&mut most);
+    let without = check::same(
+        &most,
+        b"1 0\n2 0\n3 0\n4 0\n5 0\n6 0\n7 0\n8 0\n9 0\n10 0\n11 0\nover 1\nover 3\n.......",
+    );
     say(
         b"no room for the last line: 20",
-        wrote(
-            short,
-            15380,
-            b"1 0\n2 0\n3 0\n4 0\n5 0\n6 0\n7 0\n8 0\n9 0\n10 0\n11 0\nover 1\nover 3\n",
-        ),
+        base::both(short == 15380, without),
     );
-    let shorter = run_over(59);
+    let mut less = [46u8; 59];
+    let shorter = run_over(&mut less);
+    let first = check::same(
+        &less,
+        b"1 0\n2 0\n3 0\n4 0\n5 0\n6 0\n7 0\n8 0\n9 0\n10 0\n11 0\nover 1\n......",
+    );
     say(
         b"no room for a line over: 20",
-        wrote(
-            shorter,
-            13588,
-            b"1 0\n2 0\n3 0\n4 0\n5 0\n6 0\n7 0\n8 0\n9 0\n10 0\n11 0\nover 1\n",
-        ),
+        base::both(shorter == 13588, first),
     );
 }
 
@@ -225,17 +198,15 @@ fn creating() -> Plan {
     }
 }
 
-// The rig with a mark on the task after the first k.
-fn with_mark(mut r: System, k: usize) -> System
-    requires { ⌜ k < 64 ⌝ }
-{
-    let mut x = r.tasks[k];
-    x.overflow = true;
-    r.tasks[k] = x;
+// The rig with a mark on task 2.
+fn with_mark(mut r: System) -> System {
+    let mut second = r.tasks[1];
+    second.overflow = true;
+    r.tasks[1] = second;
     r
 }
 
-// A mark is refused by 9 on a task that is not born, and on no other.
+// A mark on task 2 is refused by 9 before its birth, and not after it.
 fn marked_unborn() {
     let plan = creating();
     let answer = plan_value::check(plan);
@@ -245,10 +216,12 @@ fn marked_unborn() {
     };
     let e = plan_index::ends::derive(plan);
     let r = rig::start::start(1, plan, e);
-    let a = take_step(with_mark(r, 1), 1, 1, 0);
+    let a = take_step(with_mark(r), 1, 1, 0);
     say(b"an unborn task with a mark: 9", is_after(a, 9, 1));
-    let b = take_step(with_mark(r, 0), 1, 1, 0);
-    say(b"a ready task with a mark runs", is_after(b, 0, 1));
+    let b = take_step(r, 1, 1, 0);
+    let born = b.system;
+    let c = take_step(with_mark(born), 1, 2, 0);
+    say(b"a ready task with a mark runs", is_after(c, 0, 1));
 }
 
 fn main() {

@@ -1,0 +1,101 @@
+-- `marked_unborn` starts the plan only where it is accepted.
+use mathlib.Core.Path.{_≡_, sym, _∙_}
+use Rattle.plan.specs.declared.PlanAnswer.the-variants.{Accepted}
+use Rattle.plan.specs.Programs.{programs}
+use Rattle.plan.specs.Refusals.{planAnswer}
+use borrow.Author.Needs.{needs}
+use Rattle.edges_test.proofs.marked_unborn.Statement.{statement}
+use Rattle.edges_test.proofs.marked_unborn.Tie as tie
+
+creating-requires : tie.Need-creating-requires
+creating-requires c κs = search needs
+
+check-requires : tie.Need-check-requires
+check-requires c κs = search needs
+
+enum-told : tie.Need-enum-told
+enum-told c = search needs
+
+enum-told-2 : tie.Need-enum-told-2
+enum-told-2 c = search needs
+
+slice-aggregate-say : tie.Need-slice-aggregate-say
+slice-aggregate-say c = search needs
+
+say-requires : tie.Need-say-requires
+say-requires c κs = search needs
+
+returns : tie.Need-returns
+returns c = search needs
+
+-- the plan is accepted
+accepted : (c : tie.After-enum-told) → planAnswer (programs (c .before .before .before .creating .result)) ≡ Accepted
+accepted c = sym (c .before .before .check .ensures) ∙ c .enum-told .given .1
+
+derive-requires : tie.Need-derive-requires
+derive-requires c κs = accepted c
+
+start-requires : tie.Need-start-requires
+start-requires c κs = (c .derive .ensures, accepted (c .before))
+
+with-mark-requires : tie.Need-with-mark-requires
+with-mark-requires c κs = search needs
+
+take-step-requires : tie.Need-take-step-requires
+take-step-requires c κs = search needs
+
+slice-aggregate-say-2 : tie.Need-slice-aggregate-say-2
+slice-aggregate-say-2 c = search needs
+
+is-after-requires : tie.Need-is-after-requires
+is-after-requires c κs = search needs
+
+say-requires-2 : tie.Need-say-requires-2
+say-requires-2 c κs = search needs
+
+take-step-requires-2 : tie.Need-take-step-requires-2
+take-step-requires-2 c κs = search needs
+
+with-mark-requires-2 : tie.Need-with-mark-requires-2
+with-mark-requires-2 c κs = search needs
+
+take-step-requires-3 : tie.Need-take-step-requires-3
+take-step-requires-3 c κs = search needs
+
+slice-aggregate-say-3 : tie.Need-slice-aggregate-say-3
+slice-aggregate-say-3 c = search needs
+
+is-after-requires-2 : tie.Need-is-after-requires-2
+is-after-requires-2 c κs = search needs
+
+say-requires-3 : tie.Need-say-requires-3
+say-requires-3 c κs = search needs
+
+returns-2 : tie.Need-returns-2
+returns-2 c = search needs
+
+pub marked-unborn-spec : {M : Type 1} → statement M
+marked-unborn-spec =
+    tie.close
+    (tie.spec
+    creating-requires
+    check-requires
+    enum-told
+    enum-told-2
+    slice-aggregate-say
+    say-requires
+    returns
+    derive-requires
+    start-requires
+    with-mark-requires
+    take-step-requires
+    slice-aggregate-say-2
+    is-after-requires
+    say-requires-2
+    take-step-requires-2
+    with-mark-requires-2
+    take-step-requires-3
+    slice-aggregate-say-3
+    is-after-requires-2
+    say-requires-3
+    returns-2)
