@@ -1,4 +1,4 @@
-// A run that changes nothing but a word: the loop's short cut, to which the board alone is lent.
+// A run that changes nothing but a word and a mark: the loop's short cut, to which the board alone is lent.
 ghost use mathlib.Core.Path.{_≡_};
 ghost use Prim.Native.Nat.{_<_};
 ghost use Rattle.board.specs.Lent.{Whole};

@@ -87,8 +87,8 @@ pub fn add_rule(mut x: Task, i: Instruction) -> Task
 {
     let w = x.word;
     let sum = w.add(i);
-    let stored = sum.word;
-    x.word = stored;
+    let wrapped = sum.word;
+    x.word = wrapped;
     let next = change::marked(x, sum.overflow);
     change::advanced(next)
 }

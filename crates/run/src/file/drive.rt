@@ -97,8 +97,10 @@ pub fn drive<'a>(
     let messages = network.used;
     let rest = at_rest(count, opcodes, operands, &board, messages);
     emit_last(out, &mut progress, rest, messages);
+    let filled = progress[0];
+    let whole = progress[1] == 0;
     Driven {
-        filled: progress[0],
-        whole: progress[1] == 0,
+        filled: filled,
+        whole: whole,
     }
 }

@@ -124,11 +124,11 @@ emit-last-requires c κs =
     let lines = after-emit-marks .emit-marks .ensures in
     (rig-messages (ran-rig (known (with-no-messages after-run-steps)) _ h), lines .long ∙ h .two, lines .room (written-room (h .lines)))
 
-array-read-t54 : tie.Need-array-read-t54
-array-read-t54 c = search needs
+array-read-filled : tie.Need-array-read-filled
+array-read-filled c = search needs
 
-array-read-t57 : tie.Need-array-read-t57
-array-read-t57 c = search needs
+array-read-whole : tie.Need-array-read-whole
+array-read-whole c = search needs
 
 same-length : tie.Need-same-length
 same-length c = search needs
@@ -156,7 +156,7 @@ drive-spec =
     emit-marks-requires
     at-rest-requires
     emit-last-requires
-    array-read-t54
-    array-read-t57
+    array-read-filled
+    array-read-whole
     same-length
     returns)
