@@ -246,7 +246,7 @@ int main(int argc, char **argv)
     }
     tally_print(&tally);
     if (count >= FULL_COUNT && !tally_is_full(&tally)) {
-        fprintf(stderr, "differential: an answer, words, moves, rest, an end or a full mail were never reached\n");
+        fprintf(stderr, "differential: an answer, words, moves, marks, rest, an end or a full mail were never reached\n");
         return 1;
     }
     return 0;

@@ -89,11 +89,20 @@ static void transfer(struct maker *m)
     draft_add(m->d, r, RECEIVE, m->name[i]);
 }
 
+/* Any number, or one of those around which a sum goes over the top. */
+static uint32_t any_number(struct maker *m)
+{
+    static const uint32_t edges[] = {0, 1, 2, 32767, 32768, 65533, 65534, 65535};
+    if (random_chance(m->r, 40))
+        return edges[random_below(m->r, sizeof edges / sizeof edges[0])];
+    return random_below(m->r, random_chance(m->r, 50) ? 65536 : 256);
+}
+
 static void reckon(struct maker *m)
 {
     uint32_t t = random_from(m->r, 1, m->d->tasks);
     if (has_space(m, t))
-        draft_add(m->d, t, random_chance(m->r, 50) ? SET : ADD, random_below(m->r, 65536));
+        draft_add(m->d, t, random_chance(m->r, 50) ? SET : ADD, any_number(m));
 }
 
 static void close_task(struct maker *m, uint32_t t)

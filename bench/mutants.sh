@@ -52,6 +52,12 @@ done <<'RULES'
 21 a byte behind the output is written
 22 a byte behind the plan is read
 23 a channel may have one end only
+24 a sum of 65,535 marks its task
+25 a set takes the mark away
+26 a finish takes the mark away
+27 a word passed directly brings its sender's mark
+28 a move leaves the mark behind
+29 the marked tasks are named by falling number
 RULES
 
 [ "$missed" -eq 0 ] || { echo "mutants: $missed of $tried not found" >&2; exit 1; }

@@ -25,6 +25,7 @@ struct sim_task {
     uint16_t count; /* of moves, 1 at birth */
     uint8_t state;
     uint8_t desk; /* 0: unborn or moving */
+    bool over;    /* it met a sum over the top */
     uint8_t birth;
     uint8_t parent;
     uint8_t sends;    /* first of the channels it sends on, 0 is none */

@@ -11,6 +11,15 @@ void sim_birth(struct sim_rig *rig, struct sim_task *task, uint8_t d)
         point(rig, task, d, d);
 }
 
+/* The word wraps; a sum over 65,535 marks the task. */
+static void run_add(struct sim_task *task, uint32_t number)
+{
+    uint32_t sum = task->word + number;
+    if (sum > (MUTANT == 24 ? 65534 : 65535))
+        task->over = true;
+    task->word = (uint16_t)sum;
+}
+
 static uint32_t run_create(struct sim_rig *rig, struct sim_task *task, uint32_t child)
 {
     sim_birth(rig, &rig->task[child], task->desk);
@@ -38,6 +47,8 @@ static uint32_t run_finish(struct sim_rig *rig, struct sim_task *task, uint8_t t
         post(rig, (struct sim_letter){.kind = ENDED, .desk = task->birth, .subject = t});
     }
     task->state = DONE;
+    if (MUTANT == 26)
+        task->over = false;
     return 0;
 }
 
@@ -79,6 +90,7 @@ static uint32_t run_send(struct sim_rig *rig, struct sim_task *task, struct sim_
     if (receiver->desk == task->desk) {
         if (is_on(rig, receiver, RECEIVING, c) && !channel->has_called) {
             receive_word(receiver, c, task->word, received);
+            receiver->over |= MUTANT == 27 && task->over;
             channel->called = send.number;
             return 0;
         }
@@ -154,9 +166,11 @@ uint32_t sim_run_task(struct sim_rig *rig, uint8_t t, struct sim_received *recei
         break;
     case SET:
         task->word = next.argument;
+        if (MUTANT == 25)
+            task->over = false;
         break;
     case ADD:
-        task->word = (uint16_t)(task->word + next.argument);
+        run_add(task, next.argument);
         break;
     }
     if (number == 0)

@@ -44,6 +44,14 @@ static uint8_t *put_line(uint8_t *p, uint32_t step, uint32_t number, struct sim_
     return p + 1;
 }
 
+static uint8_t *put_over(uint8_t *p, uint32_t task)
+{
+    memcpy(p, "over", 4);
+    p = put_field(p + 4, task);
+    *p = '\n';
+    return p + 1;
+}
+
 static uint8_t *put_end(uint8_t *p, const struct sim_rig *rig)
 {
     memcpy(p, "end", 3);
@@ -86,6 +94,12 @@ static uint32_t write_trace(struct sim_rig *rig, const uint8_t *steps, uint32_t 
         uint32_t number = sim_step(rig, steps, &received);
         start = line_start(o);
         if (!keep_line(o, start, put_line(start, i, number, received)))
+            return 20;
+    }
+    for (uint32_t i = 1; i <= rig->tasks; i++) {
+        uint32_t t = MUTANT == 29 ? rig->tasks + 1 - i : i;
+        start = line_start(o);
+        if (rig->task[t].over && !keep_line(o, start, put_over(start, t)))
             return 20;
     }
     start = line_start(o);

@@ -64,24 +64,49 @@ static bool tally_finish(struct tally *t, const struct generated *g, const struc
     return (count->runs == sim_u16(g->plan + 2)) == finished && (count->first_runs == sim_u16(g->plan + 6)) == finished;
 }
 
+/* The lines of a trace, taken one behind the other. */
+struct lines {
+    const uint8_t *text;
+    size_t left;
+    struct mortarsedge_line line;
+};
+
+static enum mortarsedge_line_kind next_line(struct lines *l)
+{
+    size_t taken = mortarsedge_take_line(l->text, l->left, &l->line);
+    l->text += taken;
+    l->left -= taken;
+    return l->line.kind;
+}
+
+/* The lines behind those of the steps: marked tasks by rising number, and the last line. */
+static bool tally_rest(struct tally *t, struct lines *l)
+{
+    uint32_t task = 0;
+    while (next_line(l) == MORTARSEDGE_LINE_OVER) {
+        if (l->line.task <= task)
+            return false;
+        task = l->line.task;
+        t->over++;
+    }
+    t->at_rest += l->line.at_rest;
+    return l->line.kind == MORTARSEDGE_LINE_END && l->left == 0;
+}
+
 bool tally_trace(struct tally *t, const struct generated *g, const uint8_t *trace, size_t length)
 {
     static struct sim_rig rig;
-    struct mortarsedge_line line;
+    struct lines lines = {.text = trace, .left = length};
     struct count count = {0, 0};
-    size_t at = 0;
     for (uint32_t step = 1; step <= g->steps_length / 4; step++) {
-        at += mortarsedge_take_line(trace + at, length - at, &line);
-        if (line.kind != MORTARSEDGE_LINE_STEP || line.step != step)
+        if (next_line(&lines) != MORTARSEDGE_LINE_STEP || lines.line.step != step)
             return false;
-        tally_step(t, g->steps + 4 * (step - 1), &line, &count);
+        tally_step(t, g->steps + 4 * (step - 1), &lines.line, &count);
     }
-    at += mortarsedge_take_line(trace + at, length - at, &line);
-    t->at_rest += line.at_rest;
     uint32_t mail = longest_mail(g, &rig);
     if (mail > t->longest_mail)
         t->longest_mail = mail;
-    return line.kind == MORTARSEDGE_LINE_END && at == length && tally_finish(t, g, &rig, &count);
+    return tally_rest(t, &lines) && tally_finish(t, g, &rig, &count);
 }
 
 void tally_print(const struct tally *t)
@@ -93,13 +118,14 @@ void tally_print(const struct tally *t)
     printf("\nanswers of steps:");
     for (unsigned i = 0; i < STEP_ANSWERS; i++)
         printf(" %u: %" PRIu64, step_answers[i], t->steps[step_answers[i]]);
-    printf("\nwords received %" PRIu64 ", moves accepted %" PRIu64 ", runs at rest %" PRIu64
-           ", finished %" PRIu64 ", longest mail %" PRIu32 "\n", t->words, t->moves, t->at_rest, t->finished, t->longest_mail);
+    printf("\nwords received %" PRIu64 ", moves accepted %" PRIu64 ", tasks over the top %" PRIu64 ", runs at rest %" PRIu64
+           ", finished %" PRIu64 ", longest mail %" PRIu32 "\n", t->words, t->moves, t->over, t->at_rest, t->finished,
+           t->longest_mail);
 }
 
 bool tally_is_full(const struct tally *t)
 {
-    bool full = t->short_outputs > 0 && t->words > 0 && t->moves > 0 && t->at_rest > 0 && t->finished > 0
+    bool full = t->short_outputs > 0 && t->words > 0 && t->moves > 0 && t->over > 0 && t->at_rest > 0 && t->finished > 0
         && t->longest_mail == MAX_MAIL;
     for (unsigned i = 0; i < RUN_ANSWERS; i++)
         full = full && t->answers[run_answers[i]] > 0;

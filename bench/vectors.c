@@ -7,9 +7,10 @@
 #include <stdlib.h>
 #include <string.h>
 
+#include "../include/mortarsedge.h"
 #include "simulator.h"
 
-enum { ENOUGH = 34010, HEADER = 7 };
+enum { HEADER = 7 };
 
 static size_t number_at(const uint8_t *p)
 {
@@ -34,7 +35,7 @@ static uint8_t *read_file(const char *name, size_t *length)
 /* Whether the record at p, of these lengths, is what the simulator does. */
 static int record_holds(const uint8_t *p, size_t plan, size_t steps, size_t expected)
 {
-    static uint8_t out[ENOUGH];
+    static uint8_t out[MORTARSEDGE_OUTPUT_ENOUGH];
     const uint8_t *bytes = p + HEADER;
     uint64_t answer = sim_run(p[0], bytes, plan, bytes + plan, steps, out, sizeof out);
     size_t length = (size_t)(answer / 256);

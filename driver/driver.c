@@ -1,8 +1,8 @@
 /* driver DESKS PLANFILE STEPFILE: stands where a dimmer's driver stands.
  *
  * Each word that a task receives becomes a line `level CHANNEL WORD` on
- * standard output, in order. Refused steps and the end of the run are told on
- * standard error. Exit status: 0 the run was done; 1 the desks or a file are
+ * standard output, in order. Refused steps, tasks that met a sum over the top
+ * and the end of the run are told on standard error. Exit status: 0 the run was done; 1 the desks or a file are
  * refused; 2 wrong usage; 3 a file cannot be read or the levels cannot be
  * written. */
 #include <errno.h>
@@ -83,6 +83,16 @@ static void report_step(struct show *show, const struct mortarsedge_line *line)
         show->runs++;
 }
 
+static void report_line(struct show *show, const struct mortarsedge_line *line)
+{
+    if (line->kind == MORTARSEDGE_LINE_STEP)
+        report_step(show, line);
+    else if (line->kind == MORTARSEDGE_LINE_OVER)
+        fprintf(stderr, "task %u went over the top: a sum passed 65535\n", (unsigned)line->task);
+    else
+        report_end(show, line);
+}
+
 /* The lines of a trace, up to the last. */
 static int report(struct show *show, const uint8_t *trace, size_t length)
 {
@@ -91,10 +101,7 @@ static int report(struct show *show, const uint8_t *trace, size_t length)
         size_t taken = mortarsedge_take_line(trace, length, &line);
         if (line.kind == MORTARSEDGE_LINE_OTHER)
             return broken("the trace", "a line of no known form");
-        if (line.kind == MORTARSEDGE_LINE_END)
-            report_end(show, &line);
-        else
-            report_step(show, &line);
+        report_line(show, &line);
         trace += taken;
         length -= taken;
     } while (line.kind != MORTARSEDGE_LINE_END);

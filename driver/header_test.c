@@ -28,10 +28,11 @@ static void texts_differ(void)
 
 static void sizes_are_right(void)
 {
-    expect(MORTARSEDGE_OUTPUT_ENOUGH == 34010, "enough output");
+    expect(MORTARSEDGE_OUTPUT_ENOUGH == 34513, "enough output");
     expect(MORTARSEDGE_MAX_PLAN == 16644, "longest plan");
     expect(MORTARSEDGE_MAX_STEP_FILE == 8000, "longest step file");
     expect(strlen("2000 0 128 65535\n") == MORTARSEDGE_MAX_LINE, "longest line");
+    expect(strlen("over 64\n") == MORTARSEDGE_MAX_OVER_LINE, "longest line of a marked task");
     expect(strlen("end 0 256\n") == MORTARSEDGE_MAX_END_LINE, "longest last line");
 }
 
@@ -108,6 +109,8 @@ static void write_line(const struct mortarsedge_line *line, char text[32])
 {
     if (line->kind == MORTARSEDGE_LINE_END)
         sprintf(text, "end %u %u\n", (unsigned)line->at_rest, (unsigned)line->letters);
+    else if (line->kind == MORTARSEDGE_LINE_OVER)
+        sprintf(text, "over %u\n", (unsigned)line->task);
     else if (line->kind == MORTARSEDGE_LINE_STEP && line->received)
         sprintf(text, "%u %u %u %u\n", (unsigned)line->step, (unsigned)line->answer, (unsigned)line->channel,
                 (unsigned)line->word);
@@ -120,13 +123,14 @@ static void write_line(const struct mortarsedge_line *line, char text[32])
 static bool same_line(const struct mortarsedge_line *a, const struct mortarsedge_line *b)
 {
     return a->kind == b->kind && a->step == b->step && a->answer == b->answer && a->received == b->received
-        && a->channel == b->channel && a->word == b->word && a->at_rest == b->at_rest && a->letters == b->letters;
+        && a->channel == b->channel && a->word == b->word && a->at_rest == b->at_rest && a->letters == b->letters
+        && a->task == b->task;
 }
 
 /* A line is written and taken apart again, alone and with another behind it; cut short it is no line. */
 static void line_is_taken(struct mortarsedge_line line)
 {
-    static const struct mortarsedge_line none = {MORTARSEDGE_LINE_OTHER, 0, 0, false, 0, 0, false, 0};
+    static const struct mortarsedge_line none = {MORTARSEDGE_LINE_OTHER, 0, 0, false, 0, 0, false, 0, 0};
     struct mortarsedge_line got;
     char text[40];
     write_line(&line, text);
@@ -138,12 +142,15 @@ static void line_is_taken(struct mortarsedge_line line)
         expect(take((const uint8_t *)text, cut, &got) == 0 && same_line(&got, &none), "a line cut short is taken");
 }
 
-/* Every step with every answer, every channel, on channel 128 every word, and every number of letters. */
+/* Every task over the top, every step with every answer, every channel, on channel 128 every word, and every number of letters. */
 static void lines_are_taken(void)
 {
-    struct mortarsedge_line step = {MORTARSEDGE_LINE_STEP, 1, 0, false, 0, 0, false, 0};
-    struct mortarsedge_line word = {MORTARSEDGE_LINE_STEP, 9, 0, true, 3, 7, false, 0};
-    struct mortarsedge_line end = {MORTARSEDGE_LINE_END, 0, 0, false, 0, 0, true, 0};
+    struct mortarsedge_line step = {MORTARSEDGE_LINE_STEP, 1, 0, false, 0, 0, false, 0, 0};
+    struct mortarsedge_line word = {MORTARSEDGE_LINE_STEP, 9, 0, true, 3, 7, false, 0, 0};
+    struct mortarsedge_line over = {MORTARSEDGE_LINE_OVER, 0, 0, false, 0, 0, false, 0, 1};
+    struct mortarsedge_line end = {MORTARSEDGE_LINE_END, 0, 0, false, 0, 0, true, 0, 0};
+    for (over.task = 1; over.task <= MORTARSEDGE_MAX_TASKS; over.task++)
+        line_is_taken(over);
     for (step.step = 1; step.step <= MORTARSEDGE_MAX_STEPS; step.step++)
         for (step.answer = 0; step.answer <= 19; step.answer = step.answer == 0 ? 10 : step.answer + 1)
             line_is_taken(step);
@@ -167,7 +174,8 @@ static void others_are_told(void)
         "1 0 3 4294967296\n", "1 0 3 4294967303\n", "4294967297 0\n", "18446744073709551617 0\n",
         "99999999999999999999999999999999999999 0\n", "e\n", "en\n", "end\n", "end \n", "end 1\n", "end 1 \n",
         "end1 0\n", "end  1 0\n", "end 1 1\n", "end 2 0\n", "end 0 257\n", "end 0 00\n", "end 00 0\n", "end 0 0 0\n",
-        "end 0 0 \n", "End 0 0\n", "ende 0 0\n", " end 0 0\n", "end\n0 0\n", "over 3\n", "refused 2\n", "\0 1 0\n"};
+        "end 0 0 \n", "End 0 0\n", "ende 0 0\n", " end 0 0\n", "end\n0 0\n", "over\n", "over \n", "over 0\n", "over 65\n", "over 03\n", "over 3 \n", "over 3 0\n", "over  3\n", "over3\n", "Over 3\n",
+        "overs 3\n", " over 3\n", "over\n3\n", "over 65539\n", "refused 2\n", "\0 1 0\n"};
     for (size_t i = 0; i < sizeof others / sizeof others[0]; i++) {
         struct mortarsedge_line line;
         size_t length = others[i][0] == '\0' ? 6 : strlen(others[i]);
@@ -196,7 +204,7 @@ static void taken_is_written(const uint8_t *text, size_t length)
 /* Lines with every byte at every place: put instead, put between, left out. */
 static void bytes_are_told(void)
 {
-    static const char *const samples[] = {"9 0 3 7\n", "15 11\n", "end 1 0\n", "end 0 256\n", "2000 0 128 65535\n"};
+    static const char *const samples[] = {"9 0 3 7\n", "15 11\n", "end 1 0\n", "end 0 256\n", "over 64\n", "2000 0 128 65535\n"};
     for (size_t i = 0; i < sizeof samples / sizeof samples[0]; i++) {
         size_t length = strlen(samples[i]);
         for (size_t place = 0; place < length; place++) {

@@ -90,6 +90,7 @@ level 1 1
 step 9 refused, 10: no such task
 step 10 refused, 14: no letter at this position
 step 11 refused, 15: desk outside the rig
+task 1 went over the top: a sum passed 65535
 not finished, not at rest, 0 letters
 "
 

@@ -46,11 +46,13 @@ enum {
     MORTARSEDGE_MAX_STEP_FILE = MORTARSEDGE_STEP_BYTES * MORTARSEDGE_MAX_STEPS,
     /* The longest line of a step: `2000 0 128 65535` and a line feed. */
     MORTARSEDGE_MAX_LINE = 17,
+    /* The longest line of a marked task: `over 64` and a line feed. */
+    MORTARSEDGE_MAX_OVER_LINE = 8,
     /* The longest last line: `end 0 256` and a line feed. */
     MORTARSEDGE_MAX_END_LINE = 10,
-    /* An output of so many bytes is never answered 20. */
-    MORTARSEDGE_OUTPUT_ENOUGH =
-        MORTARSEDGE_MAX_STEPS * MORTARSEDGE_MAX_LINE + MORTARSEDGE_MAX_END_LINE,
+    /* An output of so many bytes is never answered 20. Tasks 1 to 9 have one digit less. */
+    MORTARSEDGE_OUTPUT_ENOUGH = MORTARSEDGE_MAX_STEPS * MORTARSEDGE_MAX_LINE
+        + MORTARSEDGE_MAX_TASKS * MORTARSEDGE_MAX_OVER_LINE - 9 + MORTARSEDGE_MAX_END_LINE,
     /* Stack for a call, with some to spare: make ctest measures what is needed. */
     MORTARSEDGE_PLAN_CHECK_STACK = 16 * 1024,
     MORTARSEDGE_RUN_STACK = 128 * 1024
@@ -144,11 +146,12 @@ uint32_t mortarsedge_plan_check(uint32_t desks, const uint8_t *plan, size_t plan
  *
  * The trace has a line a step: the step's number from 1, its answer and, if a
  * word was received, channel and word. A refused step gets its line and the run
- * goes on. The last line is `end`, 1 if the rig is at rest else 0, and the
- * letters in the mail. Fields are decimal with one space between, and a line
- * feed is behind each line: mortarsedge_take_line takes a line apart. A rig at
- * rest does nothing more; that the show has finished is another thing
- * (docs/FORMATS.md). */
+ * goes on. Behind them, each task that met a sum over 65,535 has a line: `over`
+ * and its number, by rising number. The last line is `end`, 1 if the rig is at
+ * rest else 0, and the letters in the mail. Fields are decimal with one space
+ * between, and a line feed is behind each line: mortarsedge_take_line takes a
+ * line apart. A rig at rest does nothing more; that the show has finished is
+ * another thing (docs/FORMATS.md). */
 uint64_t mortarsedge_run(uint32_t desks, const uint8_t *plan, size_t plan_length,
                          const uint8_t *steps, size_t steps_length,
                          uint8_t *out, size_t out_length);
@@ -184,7 +187,8 @@ static inline bool mortarsedge_put_step(uint8_t out[MORTARSEDGE_STEP_BYTES], uin
 enum mortarsedge_line_kind {
     MORTARSEDGE_LINE_OTHER = 0, /* no line of a trace */
     MORTARSEDGE_LINE_STEP = 1,  /* a step's line */
-    MORTARSEDGE_LINE_END = 2    /* the last line */
+    MORTARSEDGE_LINE_END = 2,   /* the last line */
+    MORTARSEDGE_LINE_OVER = 3   /* a marked task's line */
 };
 
 /* A line of a trace, taken apart. What does not belong to its kind is 0, which
@@ -198,6 +202,7 @@ struct mortarsedge_line {
     uint32_t word;    /* and the word, 0 to 65,535 */
     bool at_rest;     /* of the last line: whether the rig is at rest; */
     uint32_t letters; /* how many letters are in the mail, 0 to 256, 0 at rest */
+    uint32_t task;    /* of a marked task's line: the task, 1 to 64 */
 };
 
 /* The numbers on a line: step, answer, channel, word. */
@@ -269,6 +274,15 @@ static inline void mortarsedge_end_line(const uint32_t *fields, size_t count, st
     line->letters = fields[1];
 }
 
+/* For mortarsedge_take_line: a marked task's line, of these fields behind `over`. */
+static inline void mortarsedge_over_line(const uint32_t *fields, size_t count, struct mortarsedge_line *line)
+{
+    if (count != 1 || fields[0] < 1 || fields[0] > MORTARSEDGE_MAX_TASKS)
+        return;
+    line->kind = MORTARSEDGE_LINE_OVER;
+    line->task = fields[0];
+}
+
 /* Takes the first line of a text apart: length readable bytes, any bytes.
  * Returns how many bytes the line has, its line feed with them, which is where
  * the next line begins; 0 if there is no whole line. The line's kind is then
@@ -282,12 +296,14 @@ static inline void mortarsedge_end_line(const uint32_t *fields, size_t count, st
  */
 static inline size_t mortarsedge_take_line(const uint8_t *text, size_t length, struct mortarsedge_line *line)
 {
-    const struct mortarsedge_line none = {MORTARSEDGE_LINE_OTHER, 0, 0, false, 0, 0, false, 0};
+    const struct mortarsedge_line none = {MORTARSEDGE_LINE_OTHER, 0, 0, false, 0, 0, false, 0, 0};
     uint32_t fields[MORTARSEDGE_LINE_FIELDS] = {0, 0, 0, 0};
     size_t taken = mortarsedge_line_length(text, length);
     *line = none;
     if (taken >= 5 && text[0] == 'e' && text[1] == 'n' && text[2] == 'd' && text[3] == ' ')
         mortarsedge_end_line(fields, mortarsedge_line_fields(text + 4, taken - 5, fields), line);
+    else if (taken >= 6 && text[0] == 'o' && text[1] == 'v' && text[2] == 'e' && text[3] == 'r' && text[4] == ' ')
+        mortarsedge_over_line(fields, mortarsedge_line_fields(text + 5, taken - 6, fields), line);
     else if (taken > 0)
         mortarsedge_step_line(fields, mortarsedge_line_fields(text, taken - 1, fields), line);
     return taken;
