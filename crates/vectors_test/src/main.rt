@@ -119,6 +119,6 @@ fn report(name: &[u8]) {
 }
 
 fn main() {
-    report(b"s102.bin");
+    report(b"s106.bin");
     report(b"edges.bin");
 }
