@@ -6,7 +6,9 @@ use Prim.Native.Nat.{ℕ, _+_, _-_}
 use lib.Dec.{eqb}
 use Rattle.base.specs.Lists.{table}
 use Rattle.plan.specs.declared.Instruction.{Instruction}
+use Rattle.plan.specs.declared.Word.{Word}
 use Rattle.plan.specs.Kinds.{opCreate, opSync, opFinish, opSend, opReceive, opSet, opAdd}
+use Rattle.plan.specs.Words.{levels}
 use Rattle.plan.specs.Programs.{Program, Programs}
 use Rattle.plan.specs.Layout.{layout}
 use Rattle.plan.specs.Outcomes.{startNumber}
@@ -27,8 +29,16 @@ file b n = record { processors = 1; file = b; number = n }
 abbrev plan : Programs → ℕ → Edge
 plan m n = file (layout m) n
 
+-- an instruction of kind k with argument a on level l, and on level 0
+abbrev pub doesOn : ℕ → ℕ → ℕ → Instruction
+doesOn l k a = record { opcode = k; level = l; operand = a }
+
 abbrev pub does : ℕ → ℕ → Instruction
-does k a = record { opcode = k; operand = a }
+does k a = doesOn 0 k a
+
+-- a word whose level 0 is n, and its others 0
+abbrev pub wordOf : ℕ → Word
+wordOf n = levels n 0 0 0
 
 abbrev end : Instruction
 end = does opFinish 0
@@ -101,6 +111,15 @@ others =
     ∷ plan (alone (does opReceive 129 ∷ [])) 3
     ∷ plan (pair (does opSend 1 ∷ does opReceive 128 ∷ []) (does opReceive 1 ∷ does opSend 128 ∷ [])) 0
     ∷ plan (alone (does opSet 65535 ∷ does opAdd 65535 ∷ does opSync 0 ∷ [])) 0
+    -- second bytes: of set and add up to 3, of the other kinds 0
+    ∷ plan (alone (doesOn 1 opSet 7 ∷ doesOn 2 opAdd 7 ∷ doesOn 3 opSet 7 ∷ doesOn 3 opAdd 7 ∷ [])) 0
+    ∷ plan (alone (doesOn 4 opSet 7 ∷ [])) 3
+    ∷ plan (alone (doesOn 4 opAdd 7 ∷ [])) 3
+    ∷ plan (alone (doesOn 255 opAdd 7 ∷ [])) 3
+    ∷ plan (alone (doesOn 1 opSync 0 ∷ [])) 3
+    ∷ plan (pair (doesOn 1 opSend 1 ∷ []) (does opReceive 1 ∷ [])) 3
+    ∷ plan (pair (does opSend 1 ∷ []) (doesOn 1 opReceive 1 ∷ [])) 3
+    ∷ plan ((doesOn 1 opCreate 2 ∷ end ∷ []) ∷ (end ∷ []) ∷ []) 3
     -- 4: no finish at the end, one before it; after 3
     ∷ plan ((does opSync 0 ∷ []) ∷ []) 4
     ∷ plan (alone (end ∷ [])) 4

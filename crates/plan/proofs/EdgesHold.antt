@@ -9,19 +9,19 @@ use Rattle.base.specs.Range.{fold}
 use Rattle.base.specs.Lists.{every, any, table, tableBefore}
 use Rattle.base.proofs.Tests.{every-at}
 use Rattle.plan.specs.Users.{users}
-use Rattle.plan.specs.Refusals.{sizesOk, instructionOk, instructionsOk, finishOk, finishesOk, createsOk, channelsOk, structureAnswer, planAnswer}
+use Rattle.plan.specs.Refusals.{sizesOk, operandOk, instructionsOk, finishOk, finishesOk, createsOk, channelsOk, structureAnswer, planAnswer}
 use Rattle.plan.specs.Layout.{layout}
-use Rattle.plan.specs.Files.{layoutOk, filePrograms, secondBytesOk, fileAnswer, startAnswer}
+use Rattle.plan.specs.Files.{layoutOk, filePrograms, fileAnswer, startAnswer}
 use Rattle.plan.specs.Outcomes.{writeAnswer, writeOutput, startNumber}
 use Rattle.plan.proofs.Edges.{Edge, edgeHolds, starred, others, edges}
 use Rattle.plan.proofs.WriteEdges.{WriteEdge, sameBytes, writeHolds, writeEdges}
 
 all-start : every edgeHolds edges ≡ true
-unfolding starred others startNumber startAnswer fileAnswer layoutOk secondBytesOk filePrograms structureAnswer instructionsOk instructionOk finishesOk finishOk createsOk channelsOk users layout fold every any table tableBefore
+unfolding starred others startNumber startAnswer fileAnswer layoutOk filePrograms structureAnswer instructionsOk operandOk finishesOk finishOk createsOk channelsOk users layout fold every any table tableBefore
 all-start = refl
 
 all-write : every writeHolds writeEdges ≡ true
-unfolding writeEdges writeAnswer writeOutput sameBytes planAnswer sizesOk structureAnswer instructionsOk instructionOk finishesOk finishOk createsOk channelsOk users layout fold every any
+unfolding writeEdges writeAnswer writeOutput sameBytes planAnswer sizesOk structureAnswer instructionsOk operandOk finishesOk finishOk createsOk channelsOk users layout fold every any
 all-write = refl
 
 abbrev none : Edge

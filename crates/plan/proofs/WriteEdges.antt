@@ -29,11 +29,11 @@ writeHolds e =
     && (eqb (writeSize (writeAnswer (e .plan) (e .before))) (e .size) && sameBytes (writeOutput (e .plan) (e .before)) (e .after))
 
 abbrev end : Instruction
-end = record { opcode = opFinish; operand = 0 }
+end = record { opcode = opFinish; level = 0; operand = 0 }
 
 -- one task that sets its word to 258 and ends: 16 bytes
 abbrev setting : Programs
-setting = (record { opcode = opSet; operand = 258 } ∷ end ∷ []) ∷ []
+setting = (record { opcode = opSet; level = 0; operand = 258 } ∷ end ∷ []) ∷ []
 
 -- fifteen bytes to write into
 abbrev nines : List ℕ
@@ -58,5 +58,5 @@ writeEdges =
       after = 1 ∷ 0 ∷ 2 ∷ 0 ∷ 8 ∷ 0 ∷ 2 ∷ 0 ∷ 6 ∷ 0 ∷ 2 ∷ 1 ∷ 3 ∷ 0 ∷ 0 ∷ 0 ∷ 9 ∷ 9 ∷ [];
     }
     ∷ record { plan = []; before = nines; number = 2; size = 0; after = nines }
-    ∷ record { plan = (record { opcode = opSync; operand = 0 } ∷ []) ∷ []; before = nines; number = 4; size = 0; after = nines }
+    ∷ record { plan = (record { opcode = opSync; level = 0; operand = 0 } ∷ []) ∷ []; before = nines; number = 4; size = 0; after = nines }
     ∷ []

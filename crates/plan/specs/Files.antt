@@ -54,9 +54,10 @@ layoutOk b =
     && (below (fileTasks b) (offsetOk b)
     && eqb (length b) (4 + 4 * fileTasks b + 4 * fileTotal b)))))
 
--- "instructions of 4 bytes: kind, a zero byte, a 16-bit argument": the instruction at a place
+-- "instructions of 4 bytes: kind, a zero byte, a 16-bit argument"; "The second byte of set and add, 0 to 3, says which one is meant": the
+-- instruction at a place
 abbrev pub fileInstruction : List ℕ → ℕ → Instruction
-fileInstruction b at = record { opcode = byteAt b at; operand = word16 b (at + 2) }
+fileInstruction b at = record { opcode = byteAt b at; level = byteAt b (at + 1); operand = word16 b (at + 2) }
 
 -- the place of task k + 1's instruction i + 1
 abbrev pub placeOf : List ℕ → ℕ → ℕ → ℕ
@@ -69,15 +70,11 @@ fileProgram b k = table (fileCount b k) (λ i. fileInstruction b (placeOf b k i)
 unfoldable pub filePrograms : List ℕ → Programs
 filePrograms b = table (fileTasks b) (fileProgram b)
 
--- "3, .. second byte not zero"
-unfoldable pub secondBytesOk : List ℕ → Bool
-secondBytesOk b = below (fileTasks b) (λ k. below (fileCount b k) (λ i. eqb (byteAt b (placeOf b k i + 1)) 0))
-
 -- refusals 2 to 6 of a file
 unfoldable pub fileAnswer : List ℕ → PlanAnswer
 fileAnswer b =
     unless (layoutOk b) (Refused BadLayout)
-    (unless (secondBytesOk b && instructionsOk (filePrograms b)) (Refused BadInstruction)
+    (unless (instructionsOk (filePrograms b)) (Refused BadInstruction)
     (structureAnswer (filePrograms b)))
 
 -- "Start: 1, desks not 1..6", then 2 to 6

@@ -36,4 +36,4 @@ isUse k a i = eqb (i .opcode) k && eqb (i .operand) a
 
 -- what an unused slot of a plan value holds
 abbrev pub noInstruction : Instruction
-noInstruction = record { opcode = 0; operand = 0 }
+noInstruction = record { opcode = 0; level = 0; operand = 0 }

@@ -27,9 +27,9 @@ totalOf m = sumBelow (length m) (countOf m)
 abbrev pub headBytes : Programs → ℕ → List ℕ
 headBytes m k = bytes16 (offsetDue (length m) (countOf m) k) ++ bytes16 (countOf m k)
 
--- "instructions of 4 bytes: kind, a zero byte, a 16-bit argument"
+-- "instructions of 4 bytes: kind, a zero byte, a 16-bit argument"; "The second byte of set and add, 0 to 3, says which one is meant"
 abbrev pub instructionBytes : Instruction → List ℕ
-instructionBytes i = i .opcode ∷ 0 ∷ bytes16 (i .operand)
+instructionBytes i = i .opcode ∷ i .level ∷ bytes16 (i .operand)
 
 abbrev pub codeBytes : Program → List ℕ
 codeBytes g = joined (length g) (λ i. instructionBytes (instructionAt g i))

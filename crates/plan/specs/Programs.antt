@@ -21,9 +21,16 @@ programAt m k = getD m k []
 abbrev pub instructionAt : Program → ℕ → Instruction
 instructionAt g i = getD g i noInstruction
 
+-- an instruction as one number: its four bytes, little-endian; and the instruction of such a number
+abbrev pub codeOf : Instruction → ℕ
+codeOf i = i .opcode + 256 * i .level + 65536 * i .operand
+
+abbrev pub instructionOf : ℕ → Instruction
+instructionOf code = record { opcode = code % 256; level = code / 256 % 256; operand = code / 65536 }
+
 -- the instruction in slot s of a plan value; 64 tasks of 64 instructions: task k + 1's instruction i + 1 is in slot 64 k + i
 abbrev pub slotOf : Plan → ℕ → Instruction
-slotOf p s = record { opcode = getD (p .opcodes) s 0; operand = getD (p .operands) s 0 }
+slotOf p s = instructionOf (getD (p .codes) s 0)
 
 abbrev pub programOf : Plan → ℕ → Program
 programOf p k = table (getD (p .lengths) k 0) (λ i. slotOf p (64 * k + i))
@@ -42,6 +49,5 @@ canonical m =
     record {
       tasks = length m;
       lengths = table 64 (λ k. length (programAt m k));
-      opcodes = table 4096 (λ s. inSlot m s .opcode);
-      operands = table 4096 (λ s. inSlot m s .operand);
+      codes = table 4096 (λ s. codeOf (inSlot m s));
     }

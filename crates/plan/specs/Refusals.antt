@@ -23,9 +23,17 @@ sizeOk n = within 1 64 n
 unfoldable pub sizesOk : Programs → Bool
 sizesOk m = sizeOk (length m) && every (λ g. sizeOk (length g)) m
 
+-- "The second byte of set and add, 0 to 3, says which one is meant; for other kinds it stays zero.": the highest of an instruction of kind k
+abbrev pub highestLevel : ℕ → ℕ
+highestLevel k = pick (eqb k opSet) 3 (pick (eqb k opAdd) 3 0)
+
+-- "3, .. second byte not zero", which for set and add is "a second byte above 3"
+abbrev pub levelOk : Instruction → Bool
+levelOk i = leb (i .level) (highestLevel (i .opcode))
+
 -- "3, kind unknown .. or argument out of range", in a plan of n tasks
-unfoldable pub instructionOk : ℕ → Instruction → Bool
-instructionOk n i =
+unfoldable pub operandOk : ℕ → Instruction → Bool
+operandOk n i =
     pick (eqb (i .opcode) opCreate) (within 2 n (i .operand))
     (pick (eqb (i .opcode) opSync) (eqb (i .operand) 0)
     (pick (eqb (i .opcode) opFinish) (eqb (i .operand) 0)
@@ -34,6 +42,9 @@ instructionOk n i =
     (pick (eqb (i .opcode) opSet) (within 0 65535 (i .operand))
     (pick (eqb (i .opcode) opAdd) (within 0 65535 (i .operand))
     false))))))
+
+abbrev pub instructionOk : ℕ → Instruction → Bool
+instructionOk n i = levelOk i && operandOk n i
 
 unfoldable pub instructionsOk : Programs → Bool
 instructionsOk m = every (every (instructionOk (length m))) m

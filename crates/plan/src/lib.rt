@@ -1,7 +1,8 @@
 // The types of a plan: numbers, instructions, the plan value, and the answers about it.
 ghost use mathlib.Core.Path.{_≡_};
 ghost use Rattle.plan.specs.Answers.{answerNumber, refusalNumber};
-ghost use Rattle.plan.specs.Words.{setWord, addWord};
+ghost use Rattle.plan.specs.Programs.{codeOf, instructionOf};
+ghost use Rattle.plan.specs.Words.{levelOf, withLevel, setWord, addWord};
 
 // "Task, desk and channel numbers are separate given sets in document 001; a number of one never
 // serves as another. 0 means none."
@@ -16,14 +17,17 @@ pub struct ProcessorId(pub u8);
 pub struct ChannelId(pub u8);
 
 // "instructions of 4 bytes: kind, a zero byte, a 16-bit argument": the paper's kind is the opcode,
-// its argument the operand. A plan value can hold an unknown opcode, so the opcodes are numbers.
+// its argument the operand. "The second byte of set and add, 0 to 3, says which one is meant": the
+// level. A plan value can hold an unknown opcode, so the opcodes are numbers.
 pub struct Instruction {
     pub opcode: u8,
+    pub level: u8,
     pub operand: u16,
 }
 
-// "A word is 16 bits": what a task stores and channels pass on. Its operations are in specs/Words.
-pub struct Word(pub u16);
+// "A task's word .. hold four numbers, level 0 first", of 16 bits each: what a task stores and channels
+// pass on. Its operations are in specs/Words.
+pub struct Word(pub u16, pub u16, pub u16, pub u16);
 
 // What an add gives: the wrapped word, and whether the sum passed 65,535.
 pub struct Sum {
@@ -52,9 +56,8 @@ pub struct Plan {
     pub tasks: u8,
     // how many instructions task t has, at t - 1
     pub lengths: [u8; 64],
-    // the opcode and the operand of task t's i-th instruction, at 64 (t - 1) + (i - 1)
-    pub opcodes: [u8; 4096],
-    pub operands: [u16; 4096],
+    // task t's i-th instruction, as its four bytes in one number, at 64 (t - 1) + (i - 1)
+    pub codes: [u32; 4096],
 }
 
 // The refusals of "Start" and of "Writing a plan"; specs/Answers gives each its number.
@@ -115,23 +118,76 @@ impl PlanAnswer {
     }
 }
 
+impl Instruction {
+    // The instruction of these four bytes.
+    pub fn of(code: u32) -> Instruction
+        ensures { λ r. ⌜ r ≡ instructionOf code ⌝ }
+    {
+        Instruction {
+            opcode: (code % 256) as u8,
+            level: (code / 256 % 256) as u8,
+            operand: (code / 65536) as u16,
+        }
+    }
+
+    // Its four bytes, as one number.
+    pub fn code(self) -> u32
+        ensures { λ r. ⌜ r ≡ codeOf self ⌝ }
+    {
+        self.opcode as u32 + 256 * (self.level as u32) + 65536 * (self.operand as u32)
+    }
+}
+
 impl Word {
-    // "Set stores the task's word".
+    // Level k, 0 to 3.
+    fn level(self, k: u8) -> u16
+        ensures { λ r. ⌜ r ≡ levelOf self k ⌝ }
+    {
+        if k == 0 {
+            return self.0;
+        }
+        if k == 1 {
+            return self.1;
+        }
+        if k == 2 {
+            return self.2;
+        }
+        self.3
+    }
+
+    // The word with n at level k.
+    fn with_level(self, k: u8, n: u16) -> Word
+        ensures { λ r. ⌜ r ≡ withLevel self k n ⌝ }
+    {
+        if k == 0 {
+            return Word(n, self.1, self.2, self.3);
+        }
+        if k == 1 {
+            return Word(self.0, n, self.2, self.3);
+        }
+        if k == 2 {
+            return Word(self.0, self.1, n, self.3);
+        }
+        Word(self.0, self.1, self.2, n)
+    }
+
+    // "Set stores the task's word": one level of it.
     pub fn set(self, i: Instruction) -> Word
         ensures { λ r. ⌜ r ≡ setWord self i ⌝ }
     {
-        Word(i.operand)
+        self.with_level(i.level, i.operand)
     }
 
     // "add is taken modulo 65,536"; a sum that wrapped is below what was added to.
     pub fn add(self, i: Instruction) -> Sum
         ensures { λ r. ⌜ r ≡ addWord self i ⌝ }
     {
-        let sum = std::num::wrapping_add_u16(self.0, i.operand);
-        let word = Word(sum);
+        let old = self.level(i.level);
+        let sum = std::num::wrapping_add_u16(old, i.operand);
+        let word = self.with_level(i.level, sum);
         Sum {
             word: word,
-            overflow: sum < self.0,
+            overflow: sum < old,
         }
     }
 }

@@ -4,13 +4,13 @@ use Rattle.plan.proofs.WriteEdges.{sameBytes}
 use Rattle.base.specs.Lists.{every, everyPair, any, tableBefore, table}
 use Rattle.base.specs.Range.{fold}
 use Rattle.base.specs.Sets.{member, inserted, removed}
-use Rattle.plan.specs.Files.{layoutOk, filePrograms, secondBytesOk, fileAnswer, startAnswer}
+use Rattle.plan.specs.Files.{layoutOk, filePrograms, fileAnswer, startAnswer}
 use Rattle.plan.specs.Layout.{layout}
 use Rattle.plan.specs.Outcomes.{planRead, writeAnswer, writeOutput, startNumber}
 use Rattle.plan.specs.Programs.{programs, canonical}
-use Rattle.plan.specs.Refusals.{sizesOk, instructionOk, instructionsOk, finishOk, finishesOk, createsOk, channelsOk, structureAnswer, planAnswer}
+use Rattle.plan.specs.Refusals.{sizesOk, operandOk, instructionsOk, finishOk, finishesOk, createsOk, channelsOk, structureAnswer, planAnswer}
 use Rattle.plan.specs.Users.{users}
-use Rattle.plan.specs.Words.{setWord, addWord}
+use Rattle.plan.specs.Words.{levelOf, withLevel, setWord, addWord}
 use Rattle.rules.specs.Arrivals.{terminatedRule, takenOver, arrival}
 use Rattle.rules.specs.Calls.{callRule, dataRule}
 use Rattle.rules.specs.Cells.{newer, larger, firstNoted}
@@ -35,5 +35,5 @@ use Rattle.rules.specs.Tasks.{woken}
 use Rattle.rules.specs.Trace.{digits, fields, stepLine, overLine, overLines, endLine, stepLines, refusedLine}
 
 unfoldable pub evaluated : Unit {0}
-unfolding sameBytes every everyPair any tableBefore table fold member inserted removed layoutOk filePrograms secondBytesOk fileAnswer startAnswer layout planRead writeAnswer writeOutput startNumber programs canonical sizesOk instructionOk instructionsOk finishOk finishesOk createsOk structureAnswer planAnswer users setWord addWord terminatedRule takenOver arrival callRule dataRule newer larger firstNoted gotTerminated gotMigration opened delivered deliverAnswer completed siteAt withOutcome forCells forChannels syncRule finishRule moved moveAnswer messages messageAt enqueued enqueuedAll dequeued messagesOf offerRule advertRule nextIn lastIn isOn sendNumber receivePasses receiveWaits receiveRule ranCreate ranFinish ranSend ranReceive executed ran fits runAnswer sameBool linesHold startOn historyHolds sendPasses sendWaits sendRule tablesOk messageOk networkOk unbornOk bornOk taskOk systemOk birth blank started fileSteps startOf traceLines text stepsOk runFileAnswer fitting runFileText runFileOutput printed wellFormed kindAnswer ruledAnswer stepAnswer performed answered step ruledStep quiescent stepsBy wordOn receivedOn taskIn taskStored withTask entryAt channelAt withCell woken digits fields stepLine overLine overLines endLine stepLines refusedLine channelEntriesOk channelsOk plain
+unfolding sameBytes every everyPair any tableBefore table fold member inserted removed layoutOk filePrograms fileAnswer startAnswer layout planRead writeAnswer writeOutput startNumber programs canonical sizesOk operandOk instructionsOk finishOk finishesOk createsOk structureAnswer planAnswer users levelOf withLevel setWord addWord terminatedRule takenOver arrival callRule dataRule newer larger firstNoted gotTerminated gotMigration opened delivered deliverAnswer completed siteAt withOutcome forCells forChannels syncRule finishRule moved moveAnswer messages messageAt enqueued enqueuedAll dequeued messagesOf offerRule advertRule nextIn lastIn isOn sendNumber receivePasses receiveWaits receiveRule ranCreate ranFinish ranSend ranReceive executed ran fits runAnswer sameBool linesHold startOn historyHolds sendPasses sendWaits sendRule tablesOk messageOk networkOk unbornOk bornOk taskOk systemOk birth blank started fileSteps startOf traceLines text stepsOk runFileAnswer fitting runFileText runFileOutput printed wellFormed kindAnswer ruledAnswer stepAnswer performed answered step ruledStep quiescent stepsBy wordOn receivedOn taskIn taskStored withTask entryAt channelAt withCell woken digits fields stepLine overLine overLines endLine stepLines refusedLine channelEntriesOk channelsOk plain
 evaluated = tt

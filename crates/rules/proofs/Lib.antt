@@ -18,6 +18,8 @@ pub mod MessageCases
 pub mod TaskCases
 -- each refusal of a run, a delivery and a move, in their order where several hold; whole steps
 pub mod StepCases
+-- the four levels of a word
+pub mod LevelCases
 -- the mark of a sum over the top
 pub mod OverflowCases
 -- numbers in a line, lines, and what fits into an output

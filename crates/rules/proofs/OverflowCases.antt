@@ -2,7 +2,8 @@
 use mathlib.Core.Path.{_≡_, refl}
 use mathlib.Core.Bool.{true, false}
 use mathlib.Core.List.{[], _∷_}
-use Rattle.plan.specs.Words.{wordOf, addWord}
+use Rattle.plan.specs.Words.{addWord}
+use Rattle.plan.proofs.Edges.{wordOf}
 use Rattle.rules.specs.declared.task.Task.{Task}
 use Rattle.rules.specs.declared.task.TaskState.the-variants.{Receiving}
 use Rattle.rules.specs.declared.system.System.{System}

@@ -57,12 +57,12 @@ pub record Line : Type 0 where
   pub step : Step
   pub fields : List ℕ
 
--- accepted; accepted with the word w received on channel c; refused by n
+-- accepted; accepted with a word received on channel c, whose level 0 is w and whose others are 0; refused by n
 abbrev pub ok : Step → Line
 ok s = record { step = s; fields = 0 ∷ [] }
 
 abbrev pub word : ℕ → ℕ → Step → Line
-word c w s = record { step = s; fields = 0 ∷ c ∷ w ∷ [] }
+word c w s = record { step = s; fields = 0 ∷ c ∷ w ∷ 0 ∷ 0 ∷ 0 ∷ [] }
 
 abbrev pub refuses : ℕ → Step → Line
 refuses n s = record { step = s; fields = n ∷ [] }

@@ -8,7 +8,7 @@ use Rattle.plan.specs.declared.ProcessorId.{ProcessorId}
 use Rattle.plan.specs.declared.ChannelId.{ChannelId}
 use Rattle.plan.specs.declared.Word.{Word}
 use Rattle.plan.specs.Programs.{Programs, canonical}
-use Rattle.plan.specs.Words.{wordOf}
+use Rattle.plan.proofs.Edges.{wordOf}
 use Rattle.rules.specs.declared.task.Task.{Task}
 use Rattle.rules.specs.declared.task.TaskState.the-variants.{Ready, Sending}
 use Rattle.rules.specs.declared.channel.Cell.{Cell}

@@ -4,7 +4,8 @@ use mathlib.Core.List.{List, [], _∷_}
 use Prim.Native.Nat.{ℕ}
 use Rattle.plan.specs.declared.Word.{Word}
 use Rattle.plan.specs.Programs.{Program}
-use Rattle.plan.specs.Words.{wordOf, zeroWord}
+use Rattle.plan.specs.Words.{zeroWord}
+use Rattle.plan.proofs.Edges.{wordOf}
 use Rattle.rules.specs.declared.task.Task.{Task}
 use Rattle.rules.specs.declared.task.TaskState.{TaskState}
 use Rattle.rules.specs.declared.task.TaskState.the-variants.{Unborn, Ready, Waiting, Sending, Receiving, Moving, Done}

@@ -4,9 +4,9 @@ use mathlib.Core.Bool.{true, false}
 use mathlib.Core.List.{List, [], _∷_, map}
 use Prim.Native.Nat.{ℕ}
 use Rattle.plan.specs.declared.Refusal.the-variants.{BadFinish}
-use Rattle.plan.proofs.Edges.{single}
+use Rattle.plan.proofs.Edges.{single, wordOf}
 use Rattle.plan.specs.Programs.{canonical}
-use Rattle.plan.specs.Words.{zeroWord, wordOf}
+use Rattle.plan.specs.Words.{zeroWord}
 use Rattle.rules.specs.declared.task.Task.{Task}
 use Rattle.rules.specs.declared.task.TaskState.the-variants.{Unborn, Ready, Waiting, Sending, Receiving, Moving}
 use Rattle.rules.specs.declared.message.Message.the-variants.{Terminated, Migration}

@@ -28,8 +28,8 @@ greatest : decimal 65535 ≡ 54 ∷ 53 ∷ 53 ∷ 51 ∷ 53 ∷ []
 unfolding evaluated
 greatest = refl
 
--- `12 0 1 7` and `2000 19`
-word-line : stepLine 12 (record { answer = Ok; received = Word one seven }) ≡ 49 ∷ 50 ∷ 32 ∷ 48 ∷ 32 ∷ 49 ∷ 32 ∷ 55 ∷ 10 ∷ []
+-- `12 0 1 7 0 0 0` and `2000 19`
+word-line : stepLine 12 (record { answer = Ok; received = Word one seven }) ≡ 49 ∷ 50 ∷ 32 ∷ 48 ∷ 32 ∷ 49 ∷ 32 ∷ 55 ∷ 32 ∷ 48 ∷ 32 ∷ 48 ∷ 32 ∷ 48 ∷ 10 ∷ []
 unfolding evaluated
 word-line = refl
 

@@ -63,7 +63,7 @@ impl Task {
         self.processor = at;
         self.pc = 1;
         self.home = at;
-        let zero = Word(0);
+        let zero = Word(0, 0, 0, 0);
         self.word = zero;
         self.overflow = false;
         self.moves = 1;
