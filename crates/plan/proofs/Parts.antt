@@ -13,24 +13,24 @@ use Rattle.plan.specs.Layout.{countOf}
 use Rattle.plan.specs.Files.{fileTasks, fileCount, fileInstruction, placeOf, fileProgram, filePrograms}
 
 -- n programs, of which the k-th from 0 has count k instructions
-abbrev ruled : ℕ → (ℕ → ℕ) → (ℕ → ℕ → Instruction) → Programs
+abbrev pub ruled : ℕ → (ℕ → ℕ) → (ℕ → ℕ → Instruction) → Programs
 ruled n count at = table n (λ k. table (count k) (at k))
 
 module _ (n : ℕ) (count : ℕ → ℕ) (at : ℕ → ℕ → Instruction) where
-  tasks : length (ruled n count at) ≡ n
-  tasks = length-table n (λ k. table (count k) (at k))
+  pub ruled-tasks : length (ruled n count at) ≡ n
+  ruled-tasks = length-table n (λ k. table (count k) (at k))
 
-  program : (k : ℕ) → k < n → programAt (ruled n count at) k ≡ table (count k) (at k)
-  program k h = getD-table n (λ k. table (count k) (at k)) k [] h
+  ruled-program : (k : ℕ) → k < n → programAt (ruled n count at) k ≡ table (count k) (at k)
+  ruled-program k h = getD-table n (λ k. table (count k) (at k)) k [] h
 
-  no-program : (k : ℕ) → n ≤ k → programAt (ruled n count at) k ≡ []
-  no-program k h = List·getD-eq-default (ruled n count at) [] (rw tasks h)
+  pub ruled-none : (k : ℕ) → n ≤ k → programAt (ruled n count at) k ≡ []
+  ruled-none k h = List·getD-eq-default (ruled n count at) [] (rw ruled-tasks h)
 
-  size : (k : ℕ) → k < n → countOf (ruled n count at) k ≡ count k
-  size k h = rw (program k h) (length-table (count k) (at k))
+  pub ruled-count : (k : ℕ) → k < n → countOf (ruled n count at) k ≡ count k
+  ruled-count k h = rw (ruled-program k h) (length-table (count k) (at k))
 
-  instruction : (k i : ℕ) → k < n → i < count k → instructionAt (programAt (ruled n count at) k) i ≡ at k i
-  instruction k i h q = rw (program k h) (getD-table (count k) (at k) i noInstruction q)
+  pub ruled-instruction : (k i : ℕ) → k < n → i < count k → instructionAt (programAt (ruled n count at) k) i ≡ at k i
+  ruled-instruction k i h q = rw (ruled-program k h) (getD-table (count k) (at k) i noInstruction q)
 
 -- of a plan value's meaning
 module _ (p : Plan) where
@@ -42,23 +42,23 @@ module _ (p : Plan) where
 
   pub tasks-of : length (programs p) ≡ p .tasks
   unfolding programs
-  tasks-of = tasks (p .tasks) size-in slot-in
+  tasks-of = ruled-tasks (p .tasks) size-in slot-in
 
   pub program-of : (k : ℕ) → k < p .tasks → programAt (programs p) k ≡ programOf p k
   unfolding programs
-  program-of = program (p .tasks) size-in slot-in
+  program-of = ruled-program (p .tasks) size-in slot-in
 
   pub no-program-of : (k : ℕ) → p .tasks ≤ k → programAt (programs p) k ≡ []
   unfolding programs
-  no-program-of = no-program (p .tasks) size-in slot-in
+  no-program-of = ruled-none (p .tasks) size-in slot-in
 
   pub count-of : (k : ℕ) → k < p .tasks → countOf (programs p) k ≡ getD (p .lengths) k 0
   unfolding programs
-  count-of = size (p .tasks) size-in slot-in
+  count-of = ruled-count (p .tasks) size-in slot-in
 
   pub instruction-of : (k i : ℕ) → k < p .tasks → i < getD (p .lengths) k 0 → instructionAt (programAt (programs p) k) i ≡ slotOf p (64 * k + i)
   unfolding programs
-  instruction-of = instruction (p .tasks) size-in slot-in
+  instruction-of = ruled-instruction (p .tasks) size-in slot-in
 
 -- of a file's programs
 module _ (b : List ℕ) where
@@ -67,20 +67,20 @@ module _ (b : List ℕ) where
 
   pub tasks-in : length (filePrograms b) ≡ fileTasks b
   unfolding filePrograms
-  tasks-in = tasks (fileTasks b) (fileCount b) placed
+  tasks-in = ruled-tasks (fileTasks b) (fileCount b) placed
 
   pub program-in : (k : ℕ) → k < fileTasks b → programAt (filePrograms b) k ≡ fileProgram b k
   unfolding filePrograms
-  program-in = program (fileTasks b) (fileCount b) placed
+  program-in = ruled-program (fileTasks b) (fileCount b) placed
 
   pub no-program-in : (k : ℕ) → fileTasks b ≤ k → programAt (filePrograms b) k ≡ []
   unfolding filePrograms
-  no-program-in = no-program (fileTasks b) (fileCount b) placed
+  no-program-in = ruled-none (fileTasks b) (fileCount b) placed
 
   pub count-in : (k : ℕ) → k < fileTasks b → countOf (filePrograms b) k ≡ fileCount b k
   unfolding filePrograms
-  count-in = size (fileTasks b) (fileCount b) placed
+  count-in = ruled-count (fileTasks b) (fileCount b) placed
 
   pub instruction-in : (k i : ℕ) → k < fileTasks b → i < fileCount b k → instructionAt (programAt (filePrograms b) k) i ≡ fileInstruction b (placeOf b k i)
   unfolding filePrograms
-  instruction-in = instruction (fileTasks b) (fileCount b) placed
+  instruction-in = ruled-instruction (fileTasks b) (fileCount b) placed

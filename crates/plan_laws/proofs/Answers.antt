@@ -19,7 +19,7 @@ use Rattle.plan.specs.declared.PlanAnswer.the-variants.{Accepted, Refused}
 use Rattle.plan.specs.Programs.{Program, Programs, programAt}
 use Rattle.plan.specs.Layout.{offsetDue, countOf}
 use Rattle.plan.specs.Refusals.{sizeOk, sizesOk, instructionsOk, structureAnswer, planAnswer}
-use Rattle.plan.specs.Files.{fileTasks, fileTotal, fileOffset, fileCount, countOk, offsetOk, layoutOk, secondBytesOk, filePrograms, fileAnswer}
+use Rattle.plan.specs.Files.{fileTasks, fileTotal, fileOffset, fileCount, countOk, offsetOk, layoutOk, filePrograms, fileAnswer}
 
 -- an answer that accepts has passed the test and what comes behind it
 pub unless-accepted : (ok : Bool) (r : Refusal) (rest : PlanAnswer) → unless ok (Refused r) rest ≡ Accepted → (ok ≡ true) × (rest ≡ Accepted)
@@ -53,7 +53,6 @@ plan-accepted m h =
 -- an accepted file
 pub record FilePassed (b : List ℕ) : Type 0 where
   pub layout : layoutOk b ≡ true
-  pub second : secondBytesOk b ≡ true
   pub instructions : instructionsOk (filePrograms b) ≡ true
   pub structure : structureAnswer (filePrograms b) ≡ Accepted
 
@@ -61,17 +60,14 @@ pub file-passed : (b : List ℕ) → fileAnswer b ≡ Accepted → FilePassed b
 unfolding fileAnswer
 file-passed b h =
     let (l, r) = unless-accepted (layoutOk b) BadLayout _ h in
-    let (i, t) = unless-accepted (secondBytesOk b && instructionsOk (filePrograms b)) BadInstruction _ r in
-    let (z, o) = and-parts (secondBytesOk b) (instructionsOk (filePrograms b)) i in
-    record { layout = l; second = z; instructions = o; structure = t }
+    let (i, t) = unless-accepted (instructionsOk (filePrograms b)) BadInstruction _ r in
+    record { layout = l; instructions = i; structure = t }
 
 pub file-accepted : (b : List ℕ) → FilePassed b → fileAnswer b ≡ Accepted
 unfolding fileAnswer
 file-accepted b h =
     unless-passed (layoutOk b) BadLayout _ (h .layout)
-    (unless-passed (secondBytesOk b && instructionsOk (filePrograms b)) BadInstruction _
-    (and-both (secondBytesOk b) (instructionsOk (filePrograms b)) (h .second) (h .instructions))
-    (h .structure))
+    (unless-passed (instructionsOk (filePrograms b)) BadInstruction _ (h .instructions) (h .structure))
 
 -- a number of tasks, or of a task's instructions
 pub record InRange (n : ℕ) : Type 0 where

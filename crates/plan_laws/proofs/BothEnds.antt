@@ -12,7 +12,7 @@ use Rattle.plan.specs.Kinds.{opSend, opReceive, isUse}
 use Rattle.plan.specs.Programs.{programAt, instructionAt}
 use Rattle.plan.specs.Users.{users}
 use Rattle.plan.specs.Files.{filePrograms}
-use Rattle.plan.specs.Refusals.{sizesOk, instructionOk, instructionsOk, finishOk, finishesOk, createsOk, channelsOk, structureAnswer, planAnswer}
+use Rattle.plan.specs.Refusals.{sizesOk, operandOk, instructionsOk, finishOk, finishesOk, createsOk, channelsOk, structureAnswer, planAnswer}
 use Rattle.plan.proofs.Edges.{worked}
 use Rattle.plan_laws.specs.BothEnds.{BothEnds, UsedHasBothEnds}
 use Rattle.plan_laws.proofs.Ends.{sends-on, receives-on, sender-both, receiver-both}
@@ -25,7 +25,7 @@ used-has-both-ends m a c k i l q used =
     (λ e. receiver-both m a (channelId c) (omega (arith, ap (λ (t : TaskId). t .0) (receives-on m a c k i l q e))))
 
 worked-accepted : planAnswer (filePrograms worked) ≡ Accepted
-unfolding filePrograms planAnswer sizesOk instructionsOk instructionOk finishesOk finishOk createsOk channelsOk structureAnswer users fold every any table tableBefore
+unfolding filePrograms planAnswer sizesOk instructionsOk operandOk finishesOk finishOk createsOk channelsOk structureAnswer users fold every any table tableBefore
 worked-accepted = refl
 
 -- task 1's third instruction is a send on channel 3

@@ -40,11 +40,8 @@ pub held-word : (b : List ℕ) (at n : ℕ) → Held b at (bytes16 n) → word16
 held-word b at n h = omega (arith, held-first b at (bytes16 n) (omega arith) h, h 1 (omega arith))
 
 -- an instruction
-module _ (b : List ℕ) (at : ℕ) (i : Instruction) (h : Held b at (instructionBytes i)) where
-  pub held-second : byteAt b (at + 1) ≡ 0
-  held-second = h 1 (omega arith)
-
-  pub held-instruction : fileInstruction b at ≡ i
-  held-instruction =
-      let operand : word16 b (at + 2) ≡ i .operand = held-word b (at + 2) (i .operand) (held-right b at (i .opcode ∷ 0 ∷ []) (bytes16 (i .operand)) h) in
-      rw (held-first b at (instructionBytes i) (omega arith) h, operand) refl
+pub held-instruction : (b : List ℕ) (at : ℕ) (i : Instruction) → Held b at (instructionBytes i) → fileInstruction b at ≡ i
+held-instruction b at i h =
+    let operand : word16 b (at + 2) ≡ i .operand =
+    held-word b (at + 2) (i .operand) (held-right b at (i .opcode ∷ i .level ∷ []) (bytes16 (i .operand)) h) in
+    rw (held-first b at (instructionBytes i) (omega arith) h, h 1 (omega arith), operand) refl

@@ -1,25 +1,23 @@
 -- Each entry of the layout of an accepted plan is a byte.
-use mathlib.Core.Path.{_≡_, refl}
-use mathlib.Core.Bool.{Bool, true, false}
+use mathlib.Core.Path.{_≡_}
+use mathlib.Core.Bool.{Bool, true}
 use mathlib.Core.List.{List, [], _∷_, _++_}
-use Prim.Native.Nat.{ℕ, zero, suc, _+_, _*_, _/_, _%_, _<_, _≤_}
+use Prim.Native.Nat.{ℕ, zero, suc, _+_, _*_, _/_, _%_, _<_}
 use native.Mathlib.Omega.{arith}
 use lib.ListN.{length}
-use lib.Dec.{eqb}
-use borrow.Author.Tests.{eqb-true}
-use Rattle.base.specs.Choice.{pick, within}
 use Rattle.base.specs.Range.{fold, joined}
 use Rattle.base.specs.Lists.{every}
 use Rattle.base.proofs.Joins.{part-of-sum}
-use Rattle.base.proofs.Tests.{within-high, every-at}
+use Rattle.base.proofs.Tests.{every-at}
 use Rattle.plan.specs.declared.Instruction.{Instruction}
 use Rattle.plan.specs.declared.PlanAnswer.the-variants.{Accepted}
-use Rattle.plan.specs.Kinds.{opCreate, opSync, opFinish, opSend, opReceive, opSet, opAdd, noInstruction}
+use Rattle.plan.specs.Kinds.{noInstruction}
 use Rattle.plan.specs.Programs.{Programs, programAt, instructionAt}
 use Rattle.plan.specs.Layout.{bytes16, offsetDue, countOf, totalOf, headBytes, instructionBytes, codeBytes, layout}
 use Rattle.plan.specs.Refusals.{instructionOk, instructionsOk, planAnswer}
 use Rattle.plan_laws.specs.Bytes.{Bytes}
 use Rattle.base.proofs.Sums.{sum-at-most}
+use Rattle.plan_laws.proofs.Codes.{Small, instruction-small}
 use Rattle.plan_laws.proofs.ReadLayout.{start, heads, codes}
 use Rattle.plan_laws.proofs.Answers.{PlanPassed, plan-passed, sized}
 
@@ -47,40 +45,9 @@ bytes-two x y xs h q hs = bytes-cons x (y ∷ xs) h (bytes-cons y xs q hs)
 bytes-word : (n : ℕ) → n < 65536 → Bytes (bytes16 n)
 bytes-word n h = bytes-two (n % 256) (n / 256) [] (omega arith) (omega arith) bytes-none
 
--- an instruction in range
-record Small (i : Instruction) : Type 0 where
-  opcode-small : i .opcode < 256
-  operand-small : i .operand < 65536
-
-module _ (n : ℕ) (few : n ≤ 64) (i : Instruction) where
-  small-kind : (k : ℕ) (ok rest : Bool) → k < 256 → (ok ≡ true → i .operand < 65536) → (rest ≡ true → Small i)
-      → pick (eqb (i .opcode) k) ok rest ≡ true → Small i
-  small-kind k ok rest l f g h = go (eqb (i .opcode) k) refl h
-    where
-      go : (t : Bool) → eqb (i .opcode) k ≡ t → pick t ok rest ≡ true → Small i
-      go true e q = record { opcode-small = omega (arith, eqb-true (i .opcode) k e); operand-small = f q }
-      go false e q = g q
-
-  small-up-to : (low high : ℕ) → high < 65536 → within low high (i .operand) ≡ true → i .operand < 65536
-  small-up-to low high l h = omega (arith, within-high low high (i .operand) h)
-
-  small-zero : eqb (i .operand) 0 ≡ true → i .operand < 65536
-  small-zero h = omega (arith, eqb-true (i .operand) 0 h)
-
-  instruction-small : instructionOk n i ≡ true → Small i
-  unfolding instructionOk
-  instruction-small =
-      small-kind opCreate _ _ (omega arith) (small-up-to 2 n (omega arith))
-      (small-kind opSync _ _ (omega arith) small-zero
-      (small-kind opFinish _ _ (omega arith) small-zero
-      (small-kind opSend _ _ (omega arith) (small-up-to 1 128 (omega arith))
-      (small-kind opReceive _ _ (omega arith) (small-up-to 1 128 (omega arith))
-      (small-kind opSet _ _ (omega arith) (small-up-to 0 65535 (omega arith))
-      (small-kind opAdd _ _ (omega arith) (small-up-to 0 65535 (omega arith))
-      (λ h. let z : _≡_ {A = ℕ} 0 1 = cc in absurd (omega arith))))))))
-
 bytes-instruction : (i : Instruction) → Small i → Bytes (instructionBytes i)
-bytes-instruction i h = bytes-two (i .opcode) 0 (bytes16 (i .operand)) (h .opcode-small) (omega arith) (bytes-word (i .operand) (h .operand-small))
+bytes-instruction i h =
+    bytes-two (i .opcode) (i .level) (bytes16 (i .operand)) (h .opcode-small) (h .level-small) (bytes-word (i .operand) (h .operand-small))
 
 -- the parts of the layout
 module _ (m : Programs) (p : PlanPassed m) where

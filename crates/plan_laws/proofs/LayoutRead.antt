@@ -1,20 +1,17 @@
 -- A file that is accepted is the layout of the programs that it holds, and they are an accepted plan.
 use mathlib.Core.Path.{_≡_, refl, _∙_, ap}
-use mathlib.Core.Bool.{true}
 use mathlib.Core.List.{List, [], _++_}
 use Prim.Native.Nat.{ℕ, _+_, _*_, _/_, _%_, _<_, _≤_}
 use native.Mathlib.Omega.{arith}
 use lib.ListN.{length, take, drop}
-use borrow.Author.Tests.{eqb-true}
 use Rattle.base.specs.Range.{joined, sumBelow}
 use Rattle.base.proofs.Folds.{fold-same}
 use Rattle.base.proofs.Joins.{part-of-sum}
-use Rattle.base.proofs.Tests.{below-at}
 use Rattle.plan.specs.declared.PlanAnswer.the-variants.{Accepted}
 use Rattle.plan.specs.Programs.{programAt, instructionAt}
 use Rattle.plan.specs.Layout.{bytes16, countOf, totalOf, headBytes, instructionBytes, codeBytes, layout}
 use Rattle.plan.specs.Refusals.{planAnswer}
-use Rattle.plan.specs.Files.{byteAt, word16, fileTasks, fileTotal, fileOffset, fileCount, fileInstruction, placeOf, filePrograms, secondBytesOk, fileAnswer}
+use Rattle.plan.specs.Files.{byteAt, word16, fileTasks, fileTotal, fileOffset, fileCount, fileInstruction, placeOf, filePrograms, fileAnswer}
 use Rattle.plan.proofs.Parts.{tasks-in, count-in, instruction-in}
 use Rattle.plan_laws.specs.Bytes.{Bytes}
 use Rattle.base.proofs.Sums.{sum-const, sum-scaled}
@@ -40,10 +37,10 @@ module _ (b : List ℕ) (bytes : Bytes b) where
       let e : at + 2 + 1 ≡ at + 3 = omega arith in
       rw (low at, high at, low (at + 2), high (at + 2), four b at 0 h, e) refl
 
-  code : (at : ℕ) → at + 4 ≤ length b → byteAt b (at + 1) ≡ 0 → instructionBytes (fileInstruction b at) ≡ take 4 (drop at b)
-  code at h z =
+  code : (at : ℕ) → at + 4 ≤ length b → instructionBytes (fileInstruction b at) ≡ take 4 (drop at b)
+  code at h =
       let e : at + 2 + 1 ≡ at + 3 = omega arith in
-      rw (low (at + 2), high (at + 2), four b at 0 h, e, z) refl
+      rw (low (at + 2), high (at + 2), four b at 0 h, e) refl
 
 -- the file's three parts
 module _ (b : List ℕ) (bytes : Bytes b) (laid : Laid b) where
@@ -64,41 +61,36 @@ module _ (b : List ℕ) (bytes : Bytes b) (laid : Laid b) where
       ∙ joined-pieces b 4 (λ i. 4) (fileTasks b)
       ∙ ap (λ (n : ℕ). take n (drop 4 b)) (sum-const 4 (fileTasks b))
 
-  module _ (zero-second : secondBytesOk b ≡ true) where
-    second : (k i : ℕ) → k < fileTasks b → i < fileCount b k → byteAt b (placeOf b k i + 1) ≡ 0
-    unfolding secondBytesOk
-    second k i l q = eqb-true _ _ (below-at _ (fileCount b k) i q (below-at _ (fileTasks b) k l zero-second))
+  inside : (k i : ℕ) → k < fileTasks b → i < fileCount b k → placeOf b k i + 4 ≤ length b
+  inside k i l q = omega (arith, part-of-sum (fileTasks b) (fileCount b) k l, laid .offsets k l, laid .total, laid .size)
 
-    inside : (k i : ℕ) → k < fileTasks b → i < fileCount b k → placeOf b k i + 4 ≤ length b
-    inside k i l q = omega (arith, part-of-sum (fileTasks b) (fileCount b) k l, laid .offsets k l, laid .total, laid .size)
+  codes : (k : ℕ) → k < fileTasks b → codeBytes (programAt (filePrograms b) k) ≡ take (4 * fileCount b k) (drop (fileOffset b k) b)
+  codes k l =
+      rw (count-in b k l)
+      (fold-same _++_ [] (fileCount b k) (λ i. instructionBytes (instructionAt (programAt (filePrograms b) k) i))
+      (λ i. take 4 (drop (fileOffset b k + sumBelow i (λ i. 4)) b))
+      (λ i q. rw (sum-const 4 i) (ap instructionBytes (instruction-in b k i l q) ∙ code b bytes (placeOf b k i) (inside k i l q)))
+      ∙ joined-pieces b (fileOffset b k) (λ i. 4) (fileCount b k)
+      ∙ ap (λ (n : ℕ). take n (drop (fileOffset b k) b)) (sum-const 4 (fileCount b k)))
 
-    codes : (k : ℕ) → k < fileTasks b → codeBytes (programAt (filePrograms b) k) ≡ take (4 * fileCount b k) (drop (fileOffset b k) b)
-    codes k l =
-        rw (count-in b k l)
-        (fold-same _++_ [] (fileCount b k) (λ i. instructionBytes (instructionAt (programAt (filePrograms b) k) i))
-        (λ i. take 4 (drop (fileOffset b k + sumBelow i (λ i. 4)) b))
-        (λ i q. rw (sum-const 4 i) (ap instructionBytes (instruction-in b k i l q) ∙ code b bytes (placeOf b k i) (inside k i l q) (second k i l q)))
-        ∙ joined-pieces b (fileOffset b k) (λ i. 4) (fileCount b k)
-        ∙ ap (λ (n : ℕ). take n (drop (fileOffset b k) b)) (sum-const 4 (fileCount b k)))
+  body : joined (fileTasks b) (λ k. codeBytes (programAt (filePrograms b) k)) ≡ take (4 * fileTotal b) (drop (4 + 4 * fileTasks b) b)
+  body =
+      fold-same _++_ [] (fileTasks b) (λ k. codeBytes (programAt (filePrograms b) k))
+      (λ k. take (4 * fileCount b k) (drop (4 + 4 * fileTasks b + sumBelow k (λ i. 4 * fileCount b i)) b))
+      (λ k l. rw (sum-scaled 4 k (fileCount b), ← laid .offsets k l) (codes k l))
+      ∙ joined-pieces b (4 + 4 * fileTasks b) (λ i. 4 * fileCount b i) (fileTasks b)
+      ∙ rw (sum-scaled 4 (fileTasks b) (fileCount b), ← laid .total) refl
 
-    body : joined (fileTasks b) (λ k. codeBytes (programAt (filePrograms b) k)) ≡ take (4 * fileTotal b) (drop (4 + 4 * fileTasks b) b)
-    body =
-        fold-same _++_ [] (fileTasks b) (λ k. codeBytes (programAt (filePrograms b) k))
-        (λ k. take (4 * fileCount b k) (drop (4 + 4 * fileTasks b + sumBelow k (λ i. 4 * fileCount b i)) b))
-        (λ k l. rw (sum-scaled 4 k (fileCount b), ← laid .offsets k l) (codes k l))
-        ∙ joined-pieces b (4 + 4 * fileTasks b) (λ i. 4 * fileCount b i) (fileTasks b)
-        ∙ rw (sum-scaled 4 (fileTasks b) (fileCount b), ← laid .total) refl
-
-    whole-file : layout (filePrograms b) ≡ b
-    unfolding layout
-    whole-file =
-        let m = filePrograms b in
-        let h : joined (length m) (headBytes m) ≡ take (4 * fileTasks b) (drop 4 b) = ap (λ (n : ℕ). joined n (headBytes m)) (tasks-in b) ∙ heads in
-        let c : joined (length m) (λ k. codeBytes (programAt m k)) ≡ take (4 * fileTotal b) (drop (4 + 4 * fileTasks b) b) =
-        ap (λ (n : ℕ). joined n (λ k. codeBytes (programAt m k))) (tasks-in b) ∙ body in
-        let parts : layout m ≡ take 4 b ++ (take (4 * fileTasks b) (drop 4 b) ++ take (4 * fileTotal b) (drop (4 + 4 * fileTasks b) b)) =
-        λ i. start i ++ (h i ++ c i) in
-        parts ∙ three-pieces b 4 (4 * fileTasks b) (4 * fileTotal b) (laid .size)
+  whole-file : layout (filePrograms b) ≡ b
+  unfolding layout
+  whole-file =
+      let m = filePrograms b in
+      let h : joined (length m) (headBytes m) ≡ take (4 * fileTasks b) (drop 4 b) = ap (λ (n : ℕ). joined n (headBytes m)) (tasks-in b) ∙ heads in
+      let c : joined (length m) (λ k. codeBytes (programAt m k)) ≡ take (4 * fileTotal b) (drop (4 + 4 * fileTasks b) b) =
+      ap (λ (n : ℕ). joined n (λ k. codeBytes (programAt m k))) (tasks-in b) ∙ body in
+      let parts : layout m ≡ take 4 b ++ (take (4 * fileTasks b) (drop 4 b) ++ take (4 * fileTotal b) (drop (4 + 4 * fileTasks b) b)) =
+      λ i. start i ++ (h i ++ c i) in
+      parts ∙ three-pieces b 4 (4 * fileTasks b) (4 * fileTotal b) (laid .size)
 
 pub file-plan : (b : List ℕ) → fileAnswer b ≡ Accepted → planAnswer (filePrograms b) ≡ Accepted
 file-plan b h =
@@ -109,4 +101,4 @@ file-plan b h =
     plan-accepted (filePrograms b) (record { sizes = sized-ok (filePrograms b) s; instructions = p .instructions; structure = p .structure })
 
 pub layout-read : (b : List ℕ) → Bytes b → fileAnswer b ≡ Accepted → (layout (filePrograms b) ≡ b) × (planAnswer (filePrograms b) ≡ Accepted)
-layout-read b bytes h = let p = file-passed b h in (whole-file b bytes (laid b (p .layout)) (p .second), file-plan b h)
+layout-read b bytes h = let p = file-passed b h in (whole-file b bytes (laid b (p .layout)), file-plan b h)

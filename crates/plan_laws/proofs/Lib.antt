@@ -2,6 +2,7 @@
 -- instructions.
 pub mod Answers
 pub mod Pieces
+pub mod Codes
 pub mod Canonical
 pub mod LayoutRead
 pub mod Held

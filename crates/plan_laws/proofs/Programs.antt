@@ -16,7 +16,7 @@ use Rattle.plan.specs.declared.Refusal.the-variants.{BadFinish}
 use Rattle.plan.specs.Kinds.{opCreate, opSend, opReceive, isFinish, isUse, noInstruction}
 use Rattle.plan.specs.Programs.{Program, Programs, programAt, instructionAt}
 use Rattle.plan.specs.Users.{usesIn, users, firstOf}
-use Rattle.plan.specs.Refusals.{instructionOk, instructionsOk, finishOk, finishesOk, structureAnswer, planAnswer}
+use Rattle.plan.specs.Refusals.{levelOk, operandOk, instructionOk, instructionsOk, finishOk, finishesOk, structureAnswer, planAnswer}
 use Rattle.plan_laws.proofs.Answers.{unless-accepted, InRange, sized, plan-passed}
 
 -- an instruction that is no finish is not the last of a program that ends in its only one
@@ -46,17 +46,20 @@ module _ (m : Programs) (a : planAnswer m ≡ Accepted) (k : ℕ) (h : k < lengt
 
 -- the arguments of a create, and of a send or a receive
 module _ (n : ℕ) (i : Instruction) (h : instructionOk n i ≡ true) where
+  operand-fine : operandOk n i ≡ true
+  operand-fine = and-right (levelOk i) (operandOk n i) h
+
   pub create-operand : i .opcode ≡ opCreate → within 2 n (i .operand) ≡ true
-  unfolding instructionOk
-  create-operand e = rw e at h
+  unfolding operandOk
+  create-operand e = rw e at operand-fine
 
   pub send-operand : i .opcode ≡ opSend → within 1 128 (i .operand) ≡ true
-  unfolding instructionOk
-  send-operand e = rw e at h
+  unfolding operandOk
+  send-operand e = rw e at operand-fine
 
   pub receive-operand : i .opcode ≡ opReceive → within 1 128 (i .operand) ≡ true
-  unfolding instructionOk
-  receive-operand e = rw e at h
+  unfolding operandOk
+  receive-operand e = rw e at operand-fine
 
 -- the tasks that have an instruction of a kind with an argument are tasks of the plan, and the first is none or one of them
 pub users-within : (m : Programs) (k a : ℕ) → every (within 1 (length m)) (users m k a) ≡ true

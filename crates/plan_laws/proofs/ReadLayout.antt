@@ -1,24 +1,21 @@
 -- The layout of a plan that is accepted is a file that is accepted, and holds that plan's programs.
 use mathlib.Core.Path.{_≡_, sym, _∙_}
-use mathlib.Core.Bool.{true}
 use mathlib.Core.List.{List, [], _++_}
 use Prim.Native.Nat.{ℕ, _+_, _*_, _<_, _≤_}
 use native.Mathlib.Omega.{arith}
 use lib.ListN.{length, length-append}
-use borrow.Author.Tests.{eq-eqb}
 use Rattle.base.specs.Range.{joined, sumBelow}
 use Rattle.base.proofs.Folds.{fold-same}
 use Rattle.base.proofs.Joins.{length-joined}
-use Rattle.base.proofs.Tests.{below-all}
 use Rattle.plan.specs.declared.PlanAnswer.the-variants.{Accepted}
 use Rattle.plan.specs.Kinds.{noInstruction}
 use Rattle.plan.specs.Programs.{Program, Programs, programAt, instructionAt}
 use Rattle.plan.specs.Layout.{bytes16, offsetDue, countOf, totalOf, headBytes, instructionBytes, codeBytes, layout}
 use Rattle.plan.specs.Refusals.{planAnswer}
-use Rattle.plan.specs.Files.{fileTasks, fileTotal, fileOffset, fileCount, fileInstruction, placeOf, fileProgram, filePrograms, secondBytesOk, fileAnswer}
+use Rattle.plan.specs.Files.{fileTasks, fileTotal, fileOffset, fileCount, fileInstruction, placeOf, fileProgram, filePrograms, fileAnswer}
 use Rattle.base.proofs.Sums.{sum-const, sum-scaled}
 use Rattle.plan_laws.proofs.Pieces.{whole}
-use Rattle.plan_laws.proofs.Held.{Held, held-all, held-left, held-right, held-joined, held-word, held-second, held-instruction}
+use Rattle.plan_laws.proofs.Held.{Held, held-all, held-left, held-right, held-joined, held-word, held-instruction}
 use Rattle.plan_laws.proofs.Answers.{Sized, Laid, plan-passed, sized, laid-ok, file-accepted}
 
 -- the layout's parts
@@ -120,22 +117,12 @@ module _ (m : Programs) where
         size = rw (tasks-read, total-read) length-layout;
       }
 
-  seconds-ok : secondBytesOk (layout m) ≡ true
-  unfolding secondBytesOk
-  seconds-ok =
-      below-all _ (fileTasks (layout m))
-      (λ k q.
-      let l : k < length m = rw tasks-read at q in
-      below-all _ (fileCount (layout m) k)
-      (λ i r. eq-eqb _ _ (held-second (layout m) (placeOf (layout m) k i) (instructionAt (programAt m k) i) (instruction-held k l i (rw (count-read k l) at r)))))
-
 pub read-layout : (m : Programs) → planAnswer m ≡ Accepted → (fileAnswer (layout m) ≡ Accepted) × (filePrograms (layout m) ≡ m)
 read-layout m h =
     let p = plan-passed m h in (
       file-accepted (layout m)
           (record {
             layout = laid-ok (layout m) (layout-laid m (sized m (p .sizes)));
-            second = seconds-ok m;
             instructions = rw (programs-read m) (p .instructions);
             structure = rw (programs-read m) (p .structure);
           }),

@@ -31,7 +31,6 @@ use Rattle.plan.specs.Files.{filePrograms, fileAnswer}
 use Rattle.plan.specs.Outcomes.{planRead, writeAnswerAfter, writeAnswer, writeOutput}
 use Rattle.plan_laws.specs.Bytes.{Bytes}
 use Rattle.plan_laws.specs.Clear.{Clear}
-use Rattle.plan_laws.proofs.Answers.{plan-passed}
 use Rattle.plan_laws.proofs.Canonical.{meaning-canonical, canonical-clear, canonical-none-clear, clear-canonical}
 use Rattle.plan_laws.proofs.LayoutRead.{file-plan, layout-read}
 use Rattle.plan_laws.proofs.ReadLayout.{read-layout}
@@ -86,7 +85,7 @@ write-after-read b out bytes h room =
     let a : fileAnswer b ≡ Accepted = sym (read-answer b) ∙ h in
     let m = filePrograms b in
     let (l, p) = layout-read b bytes a in
-    let same : programs (planRead b .plan) ≡ m = ap (λ (r : PlanRead). programs (r .plan)) (read-accepted b a) ∙ meaning-canonical m (plan-passed m p .sizes) in
+    let same : programs (planRead b .plan) ≡ m = ap (λ (r : PlanRead). programs (r .plan)) (read-accepted b a) ∙ meaning-canonical m p in
     let w : writeAnswer m out ≡ Written (length b) = rw l at (written m out p (rw l room)) in
     rw same (w, output-of m out (length b) w ∙ ap (λ (f : List ℕ). f ++ drop (length b) out) l)
 
@@ -107,5 +106,5 @@ unfolding planRead
 read-clear b = go (fileAnswer b) refl
   where
     go : (a : PlanAnswer) → fileAnswer b ≡ a → Clear (canonical (pick (isAccepted a) (filePrograms b) []))
-    go Accepted e = canonical-clear (filePrograms b) (plan-passed (filePrograms b) (file-plan b e) .sizes)
+    go Accepted e = canonical-clear (filePrograms b) (file-plan b e)
     go (Refused r) e = canonical-none-clear

@@ -10,9 +10,7 @@ pub record Clear (p : Plan) : Type 0 where
   pub short : (k : ℕ) → getD (p .lengths) k 0 ≤ 64
   -- the sizes of the fields
   pub lengths-size : length (p .lengths) ≡ 64
-  pub opcodes-size : length (p .opcodes) ≡ 4096
-  pub operands-size : length (p .operands) ≡ 4096
+  pub codes-size : length (p .codes) ≡ 4096
   -- no length behind the last task, nothing behind a task's last instruction
   pub no-length : (k : ℕ) → p .tasks ≤ k → getD (p .lengths) k 0 ≡ 0
-  pub no-opcode : (s : ℕ) → s < 4096 → getD (p .lengths) (s / 64) 0 ≤ s % 64 → getD (p .opcodes) s 0 ≡ 0
-  pub no-operand : (s : ℕ) → s < 4096 → getD (p .lengths) (s / 64) 0 ≤ s % 64 → getD (p .operands) s 0 ≡ 0
+  pub no-code : (s : ℕ) → s < 4096 → getD (p .lengths) (s / 64) 0 ≤ s % 64 → getD (p .codes) s 0 ≡ 0
