@@ -25,17 +25,17 @@ use Rattle.plan.specs.Users.{firstOf, users, oneTask, share, oneEnd}
 use Rattle.plan.specs.Refusals.{sizesOk, instructionOk, instructionsOk, finishOk, finishesOk, createOk, createsOk, channelOk, channelsOk, structureAnswer}
 use Rattle.plan_laws.proofs.Answers.{sized}
 use Rattle.plan_value.specs.declared.pass.Pass.{Pass}
-use Rattle.plan_value.specs.Editions.{presentEdition, secondOk, allowed}
+use Rattle.plan_value.specs.Editions.{presentEdition}
 use Rattle.plan_value.specs.Marks.{sameTest}
 use Rattle.plan_value.specs.Firsts.{firstUsers, Firsts, hasParent, allCreated}
 use Rattle.plan_value.specs.Ends.{oneThere, unpairedIn}
-use Rattle.plan_value.specs.Pass.{seen, entryOk, finishFits, usesOf, firstsOf, createFine, endsFit, Passed, entries, PassOf, passAnswer, zerosIn}
+use Rattle.plan_value.specs.Pass.{seen, entryOk, finishFits, usesOf, firstsOf, createFine, endsFit, Passed, entries, PassOf, passAnswer}
 use Rattle.plan_value.proofs.Changes.{below-both, every-below}
 use Rattle.plan_value.proofs.Marked.{create-whole}
 use Rattle.plan_value.proofs.Unpaired.{there-none}
 use Rattle.plan_value.proofs.Uses.{uses-some}
 use Rattle.plan_value.proofs.Entries.{every-entries, uses-entries}
-use Rattle.plan_value.proofs.Present.{second-present, allowed-present}
+use Rattle.plan_value.proofs.Present.{allowed-present}
 
 -- one task more behind the others is in order where none of them is a finish and it is one
 finish-last : (g : Program) (x : Instruction) → finishOk (g ++ (x ∷ [])) ≡ every (λ i. not (isFinish i)) g && isFinish x
@@ -69,32 +69,23 @@ finish-of g h =
     let e : length g - 1 + 1 ≡ length g = omega arith in
     ap finishOk (sym (as-table g noInstruction)) ∙ rw e at (finish-more (length g - 1) (instructionAt g))
 
-both-present : (n : ℕ) (x : Instruction) (z : ℕ) → secondOk presentEdition (x .opcode) z && allowed presentEdition n x ≡ eqb z 0 && instructionOk n x
-both-present n x z =
-    ap (λ (b : Bool). b && allowed presentEdition n x) (second-present (x .opcode) z) ∙ ap (λ (b : Bool). eqb z 0 && b) (allowed-present n x)
-
-module _ (m : Programs) (second : ℕ → ℕ → ℕ) where
-  pub instructions-are : every (entryOk presentEdition (length m)) (entries m second) ≡ zerosIn m second && instructionsOk m
+module _ (m : Programs) where
+  pub instructions-are : every (entryOk presentEdition (length m)) (entries m) ≡ instructionsOk m
   unfolding instructionsOk
   instructions-are =
       let n = length m in
-      let zero : ℕ → ℕ → Bool = λ k i. eqb (second k i) 0 in
       let fine : ℕ → ℕ → Bool = λ k i. instructionOk n (instructionAt (programAt m k) i) in
-      every-entries m second (entryOk presentEdition n)
-      ∙ fold-same _&&_ true n _ (λ k. below (countOf m k) (zero k) && below (countOf m k) (fine k))
-      (λ k h.
-      fold-same _&&_ true (countOf m k) _ (λ i. zero k i && fine k i) (λ i q. both-present n (instructionAt (programAt m k) i) (second k i))
-      ∙ below-both (countOf m k) (zero k) (fine k))
-      ∙ below-both n (λ k. below (countOf m k) (zero k)) (λ k. below (countOf m k) (fine k))
-      ∙ ap (λ (b : Bool). zerosIn m second && b)
-      (sym
+      every-entries m (entryOk presentEdition n)
+      ∙ fold-same _&&_ true n _ (λ k. below (countOf m k) (fine k))
+      (λ k h. fold-same _&&_ true (countOf m k) _ (fine k) (λ i q. allowed-present n (instructionAt (programAt m k) i)))
+      ∙ sym
       (every-below (every (instructionOk n)) m []
-      ∙ fold-same _&&_ true n _ (λ k. below (countOf m k) (fine k)) (λ k h. every-below (instructionOk n) (programAt m k) noInstruction)))
+      ∙ fold-same _&&_ true n _ (λ k. below (countOf m k) (fine k)) (λ k h. every-below (instructionOk n) (programAt m k) noInstruction))
 
-  first-users : (k : ℕ) → firstsOf k (entries m second) ≡ firstUsers m k
-  first-users k = table-same 129 _ _ (λ a h. ap firstOf (uses-entries m second k a))
+  first-users : (k : ℕ) → firstsOf k (entries m) ≡ firstUsers m k
+  first-users k = table-same 129 _ _ (λ a h. ap firstOf (uses-entries m k a))
 
-  pub firsts-are : {p : Pass} {x y z : List ℕ} → Passed presentEdition (length m) (entries m second) (seen p x y z) → Firsts m x y z
+  pub firsts-are : {p : Pass} {x y z : List ℕ} → Passed presentEdition (length m) (entries m) (seen p x y z) → Firsts m x y z
   firsts-are so =
       record {
         parents = so .parents ∙ first-users opCreate;
@@ -102,23 +93,23 @@ module _ (m : Programs) (second : ℕ → ℕ → ℕ) where
         receivers = so .receivers ∙ first-users opReceive;
       }
 
-  first-at : (k c : ℕ) {f : List ℕ} → f ≡ firstsOf k (entries m second) → c < 128 → getD f (suc c) 0 ≡ firstOf (usesOf k (suc c) (entries m second))
-  first-at k c e h = rw e (getD-table 129 (λ a. firstOf (usesOf k a (entries m second))) (suc c) 0 (omega arith))
+  first-at : (k c : ℕ) {f : List ℕ} → f ≡ firstsOf k (entries m) → c < 128 → getD f (suc c) 0 ≡ firstOf (usesOf k (suc c) (entries m))
+  first-at k c e h = rw e (getD-table 129 (λ a. firstOf (usesOf k a (entries m))) (suc c) 0 (omega arith))
 
   module _ (sizes : sizesOk m ≡ true) where
-    finishes-are : every finishFits (entries m second) ≡ finishesOk m
+    finishes-are : every finishFits (entries m) ≡ finishesOk m
     unfolding finishesOk
     finishes-are =
-        every-entries m second finishFits
+        every-entries m finishFits
         ∙ fold-same _&&_ true (length m) _ (λ k. finishOk (programAt m k)) (λ k h. sym (finish-of (programAt m k) (sized m sizes .counts k h .some)))
         ∙ sym (every-below finishOk m [])
 
-    module _ {p : Pass} {x y z : List ℕ} (so : Passed presentEdition (length m) (entries m second) (seen p x y z)) where
+    module _ {p : Pass} {x y z : List ℕ} (so : Passed presentEdition (length m) (entries m) (seen p x y z)) where
       creates-are : p .creates && allCreated (p .tasks) x ≡ createsOk m
       unfolding createsOk
       creates-are =
           let n = length m in
-          let l = entries m second in
+          let l = entries m in
           ap (λ (t : ℕ). p .creates && allCreated t x) (so .size)
           ∙ ap (λ (b : Bool). b && allCreated n x) (so .creates)
           ∙ sym (below-both n (λ k. leb (suc k) 1 || createFine (suc k) (usesOf opCreate (suc k) l)) (hasParent x))
@@ -129,7 +120,7 @@ module _ (m : Programs) (second : ℕ → ℕ → ℕ) where
           rw (parent, add-one k)
           (go (leb (suc k) 1) (createFine (suc k) (usesOf opCreate (suc k) l)) (not (eqb (firstOf (usesOf opCreate (suc k) l)) 0))
           ∙ ap (λ (b : Bool). leb (suc k) 1 || b) (sym (create-whole (suc k) (usesOf opCreate (suc k) l) (uses-some opCreate (suc k) l (so .tasks))))
-          ∙ rw (uses-entries m second opCreate (suc k)) refl))
+          ∙ rw (uses-entries m opCreate (suc k)) refl))
         where
           go : (b c d : Bool) → (b || c) && (b || d) ≡ b || (c && d)
           go true c d = refl
@@ -138,7 +129,7 @@ module _ (m : Programs) (second : ℕ → ℕ → ℕ) where
       channels-are : p .channels && eqb (p .unpaired) 0 ≡ channelsOk m
       unfolding channelsOk unpairedIn
       channels-are =
-          let l = entries m second in
+          let l = entries m in
           let ss : ℕ → List ℕ = λ k. usesOf opSend (suc k) l in
           let rs : ℕ → List ℕ = λ k. usesOf opReceive (suc k) l in
           rw (so .channels, so .unpaired, sum-none 128 (λ k. oneThere (getD y (suc k) 0) (getD z (suc k) 0)))
@@ -149,8 +140,8 @@ module _ (m : Programs) (second : ℕ → ℕ → ℕ) where
             first-at opSend k (so .senders) h,
             first-at opReceive k (so .receivers) h,
             there-none (ss k) (rs k) (uses-some opSend (suc k) l (so .tasks)) (uses-some opReceive (suc k) l (so .tasks)),
-            uses-entries m second opSend (suc k),
-            uses-entries m second opReceive (suc k),
+            uses-entries m opSend (suc k),
+            uses-entries m opReceive (suc k),
           )
           (go (users m opSend (suc k)) (users m opReceive (suc k)))))
         where
@@ -160,13 +151,13 @@ module _ (m : Programs) (second : ℕ → ℕ → ℕ) where
               ∙ ap (λ (b : Bool). oneTask s && b) (and-assoc (oneTask r) (not (share s r)) (not (oneEnd s r)))
 
     -- 3 to 6
-    pub answer-is : {p : Pass} {x y z : List ℕ} → PassOf presentEdition m second p x y z
-        → passAnswer p x ≡ unless (zerosIn m second && instructionsOk m) (Refused BadInstruction) (structureAnswer m)
+    pub answer-is : {p : Pass} {x y z : List ℕ} → PassOf presentEdition m p x y z
+        → passAnswer p x ≡ unless (instructionsOk m) (Refused BadInstruction) (structureAnswer m)
     unfolding structureAnswer
     answer-is {p} {x} {y} {z} q = go (p .instructions) refl
       where
         go : (b : Bool) → p .instructions ≡ b
-            → passAnswer p x ≡ unless (zerosIn m second && instructionsOk m) (Refused BadInstruction) (structureAnswer m)
+            → passAnswer p x ≡ unless (instructionsOk m) (Refused BadInstruction) (structureAnswer m)
         go false e = rw (← instructions-are, ← q .instructions, e) refl
         go true e =
             let so = q .passed e in

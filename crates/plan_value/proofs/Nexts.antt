@@ -15,7 +15,6 @@ use Rattle.plan.specs.Refusals.{instructionOk}
 use Rattle.plan_value.specs.declared.instruction.Edition.{Edition}
 use Rattle.plan_value.specs.declared.pass.Entry.{Entry}
 use Rattle.plan_value.specs.declared.pass.Pass.{Pass}
-use Rattle.plan_value.specs.Editions.{secondOk, allowed}
 use Rattle.plan_value.specs.declared.pass.End.{End}
 use Rattle.plan_value.specs.Marks.{createMark, Entered}
 use Rattle.plan_value.specs.Ends.{unpairedIn, EndEntered}
@@ -31,8 +30,7 @@ argumentOf x = x .instruction .operand
 -- an instruction that is not refused: its argument is an entry of the tables
 module _ (e : Edition) (n : ℕ) (x : Entry) (fine : entryOk e n x ≡ true) where
   pub argument-fine : instructionOk n (x .instruction) ≡ true
-  argument-fine =
-      and-right (leb (kindOf x) (e .kinds)) (instructionOk n (x .instruction)) (and-right (secondOk e (kindOf x) (x .second)) (allowed e n (x .instruction)) fine)
+  argument-fine = and-right (leb (kindOf x) (e .kinds)) (instructionOk n (x .instruction)) fine
 
   pub create-fits : n ≤ 64 → kindOf x ≡ opCreate → argumentOf x < 129
   create-fits few o = omega (arith, within-high 2 n (argumentOf x) (create-operand n (x .instruction) argument-fine o))

@@ -1,10 +1,9 @@
 -- 2 to 6 of a plan value, by its sizes and by the pass over its slots.
 use mathlib.Core.Path.{_≡_, refl, sym, _∙_, ap}
-use mathlib.Core.Bool.{Bool, true, false, _&&_}
+use mathlib.Core.Bool.{Bool, true, false}
 use mathlib.Core.List.{List}
 use Prim.Native.Nat.{ℕ}
 use Rattle.base.specs.Choice.{unless}
-use Rattle.base.proofs.Tests.{and-both, below-all}
 use Rattle.plan.specs.declared.Plan.{Plan}
 use Rattle.plan.specs.declared.PlanAnswer.the-variants.{Refused}
 use Rattle.plan.specs.declared.Refusal.the-variants.{BadLayout, BadInstruction}
@@ -13,9 +12,8 @@ use Rattle.plan.specs.Refusals.{instructionsOk, structureAnswer, planAnswer}
 use Rattle.plan_value.specs.declared.pass.Pass.{Pass}
 use Rattle.plan_value.specs.Editions.{presentEdition}
 use Rattle.plan_value.specs.Firsts.{Firsts}
-use Rattle.plan_value.specs.Pass.{zerosIn, PassOf, passAnswer}
+use Rattle.plan_value.specs.Pass.{PassOf, passAnswer}
 use Rattle.plan_value.specs.Sizes.{sizesIn}
-use Rattle.plan_value.specs.Slots.{noSecond}
 use Rattle.plan_value.proofs.Sized.{sizes-of}
 use Rattle.plan_value.proofs.Meaning.{instructions-are, answer-is, firsts-are}
 
@@ -24,17 +22,13 @@ module _ (p : Plan) where
   unfolding planAnswer
   answer-unsized h = rw (sizes-of p, h) refl
 
-  zeros : zerosIn (programs p) noSecond ≡ true
-  zeros = below-all _ _ (λ k h. below-all _ _ (λ i q. refl))
-
-  module _ {q : Pass} {x y z : List ℕ} (pass : PassOf presentEdition (programs p) noSecond q x y z) where
+  module _ {q : Pass} {x y z : List ℕ} (pass : PassOf presentEdition (programs p) q x y z) where
     pub answer-of : sizesIn (p .tasks) (p .lengths) ≡ true → passAnswer q x ≡ planAnswer (programs p)
     unfolding planAnswer
     answer-of h =
         let m = programs p in
-        answer-is m noSecond (sizes-of p ∙ h) pass
-        ∙ ap (λ (b : Bool). unless (b && instructionsOk m) (Refused BadInstruction) (structureAnswer m)) zeros
+        answer-is m (sizes-of p ∙ h) pass
         ∙ sym (ap (λ (b : Bool). unless b (Refused BadLayout) (unless (instructionsOk m) (Refused BadInstruction) (structureAnswer m))) (sizes-of p ∙ h))
 
     pub firsts-of : instructionsOk (programs p) ≡ true → Firsts (programs p) x y z
-    firsts-of h = firsts-are (programs p) noSecond (pass .passed (pass .instructions ∙ instructions-are (programs p) noSecond ∙ and-both (zerosIn (programs p) noSecond) (instructionsOk (programs p)) zeros h))
+    firsts-of h = firsts-are (programs p) (pass .passed (pass .instructions ∙ instructions-are (programs p) ∙ h))

@@ -6,7 +6,7 @@ use Prim.Native.Nat.{ℕ, suc, _-_}
 use lib.ListN.{length, getD, set}
 use lib.Dec.{eqb, ltb, leb}
 use Rattle.base.specs.Choice.{pick, unless}
-use Rattle.base.specs.Range.{below, joined, upTo}
+use Rattle.base.specs.Range.{joined, upTo}
 use Rattle.base.specs.Lists.{every, table}
 use Rattle.plan.specs.declared.PlanAnswer.{PlanAnswer}
 use Rattle.plan.specs.declared.PlanAnswer.the-variants.{Accepted, Refused}
@@ -18,7 +18,7 @@ use Rattle.plan.specs.Users.{firstOf, oneTask, share}
 use Rattle.plan_value.specs.declared.instruction.Edition.{Edition}
 use Rattle.plan_value.specs.declared.pass.Entry.{Entry}
 use Rattle.plan_value.specs.declared.pass.Pass.{Pass}
-use Rattle.plan_value.specs.Editions.{secondOk, allowed}
+use Rattle.plan_value.specs.Editions.{allowed}
 use Rattle.plan_value.specs.Marks.{keptOf, createMark, endMark, sameTest}
 use Rattle.plan_value.specs.Firsts.{allCreated}
 use Rattle.plan_value.specs.Ends.{unpairedIn}
@@ -37,7 +37,7 @@ abbrev pub startPass : ℕ → Bool → Pass
 startPass n b = record { tasks = n; instructions = b; finishes = b; creates = b; channels = b; unpaired = 0 }
 
 abbrev pub entryOk : Edition → ℕ → Entry → Bool
-entryOk e n x = secondOk e (x .instruction .opcode) (x .second) && allowed e n (x .instruction)
+entryOk e n x = allowed e n (x .instruction)
 
 -- it is a finish exactly where it is the last
 abbrev pub finishFits : Entry → Bool
@@ -115,34 +115,24 @@ pub record Passed (e : Edition) (n : ℕ) (l : List Entry) (s : Seen) : Type 0 w
   pub receivers : s .receivers ≡ firstsOf opReceive l
   pub tasks : every (λ x. leb 1 (x .task)) l ≡ true
 
--- the instructions of some programs, where they stand, with these second bytes: those of the first k and i of the next, and all
-abbrev pub entryAt : Programs → (ℕ → ℕ → ℕ) → ℕ → ℕ → Entry
-entryAt m second k i =
-    record {
-      task = suc k;
-      last = eqb i (countOf m k - 1);
-      second = second k i;
-      instruction = instructionAt (programAt m k) i;
-    }
+-- the instructions of some programs, where they stand: those of the first k and i of the next, and all
+abbrev pub entryAt : Programs → ℕ → ℕ → Entry
+entryAt m k i = record { task = suc k; last = eqb i (countOf m k - 1); instruction = instructionAt (programAt m k) i }
 
-abbrev pub entriesOf : Programs → (ℕ → ℕ → ℕ) → ℕ → List Entry
-entriesOf m second k = table (countOf m k) (entryAt m second k)
+abbrev pub entriesOf : Programs → ℕ → List Entry
+entriesOf m k = table (countOf m k) (entryAt m k)
 
-abbrev pub entriesTo : Programs → (ℕ → ℕ → ℕ) → ℕ → ℕ → List Entry
-entriesTo m second k i = joined k (entriesOf m second) ++ table i (entryAt m second k)
+abbrev pub entriesTo : Programs → ℕ → ℕ → List Entry
+entriesTo m k i = joined k (entriesOf m) ++ table i (entryAt m k)
 
-abbrev pub entries : Programs → (ℕ → ℕ → ℕ) → List Entry
-entries m second = joined (length m) (entriesOf m second)
-
--- every second byte is zero
-abbrev pub zerosIn : Programs → (ℕ → ℕ → ℕ) → Bool
-zerosIn m second = below (length m) (λ k. below (countOf m k) (λ i. eqb (second k i) 0))
+abbrev pub entries : Programs → List Entry
+entries m = joined (length m) (entriesOf m)
 
 -- the pass over all of them
-pub record PassOf (e : Edition) (m : Programs) (second : ℕ → ℕ → ℕ) (p : Pass) (x y z : List ℕ) : Type 0 where
+pub record PassOf (e : Edition) (m : Programs) (p : Pass) (x y z : List ℕ) : Type 0 where
   pub size : p .tasks ≡ length m
-  pub instructions : p .instructions ≡ every (entryOk e (length m)) (entries m second)
-  pub passed : p .instructions ≡ true → Passed e (length m) (entries m second) (seen p x y z)
+  pub instructions : p .instructions ≡ every (entryOk e (length m)) (entries m)
+  pub passed : p .instructions ≡ true → Passed e (length m) (entries m) (seen p x y z)
 
 -- 3 to 6 by the pass over a plan
 abbrev pub passAnswer : Pass → List ℕ → PlanAnswer

@@ -20,13 +20,8 @@ use plan::PlanAnswer;
 use plan::Refusal;
 
 // The answer about the plan with these slots: each number is tested over the whole plan before the next.
-pub fn check_slots<'a>(
-    tasks: u8,
-    lengths: &'a [u8; 64],
-    opcodes: &'a [u8; 4096],
-    operands: &'a [u16; 4096],
-) -> PlanAnswer
-    ensures { λ r. ⌜ r ≡ planAnswer (programs (planIn tasks (now (lengths .entry)) (now (opcodes .entry)) (now (operands .entry)))) ⌝ }
+pub fn check_slots<'a>(tasks: u8, lengths: &'a [u8; 64], codes: &'a [u32; 4096]) -> PlanAnswer
+    ensures { λ r. ⌜ r ≡ planAnswer (programs (planIn tasks (now (lengths .entry)) (now (codes .entry)))) ⌝ }
 {
     if !sizes::sizes_ok(tasks, lengths) {
         return PlanAnswer::Refused(Refusal::BadLayout);
@@ -37,8 +32,7 @@ pub fn check_slots<'a>(
     let p = slots::pass_slots(
         tasks,
         lengths,
-        opcodes,
-        operands,
+        codes,
         &mut parents,
         &mut senders,
         &mut receivers,
@@ -50,5 +44,5 @@ pub fn check_slots<'a>(
 pub fn check(p: Plan) -> PlanAnswer
     ensures { λ r. ⌜ r ≡ planAnswer (programs p) ⌝ }
 {
-    check_slots(p.tasks, &p.lengths, &p.opcodes, &p.operands)
+    check_slots(p.tasks, &p.lengths, &p.codes)
 }

@@ -8,7 +8,6 @@ ghost use Rattle.plan_value.specs.Ends.{Counted, EndEntered};
 ghost use Rattle.plan_value.specs.Pass.{seen, startPass, nextSeen, passAnswer};
 use crate::instruction::Edition;
 use crate::instruction::is_allowed;
-use crate::instruction::second_ok;
 use crate::marks::create_fits;
 use crate::marks::end_fits;
 use crate::marks::kept;
@@ -22,11 +21,10 @@ use plan::RECEIVE;
 use plan::Refusal;
 use plan::SEND;
 
-// An instruction where it stands: its task, whether it is the last one there, and its second byte.
+// An instruction where it stands: its task, and whether it is the last one there.
 pub struct Entry {
     pub task: u8,
     pub last: bool,
-    pub second: u8,
     pub instruction: Instruction,
 }
 
@@ -97,7 +95,7 @@ fn enter_end<'a>(t: u8, a: usize, n: usize, ends: &'a mut [u8; 129], others: &'a
 }
 
 // One instruction more. The tables take, by argument, the first task that creates, sends and receives. Its
-// kind is told apart before its argument is tested, once for both.
+// kind is told apart before it is tested, once for both.
 pub fn next<'a>(
     p: Pass,
     e: Edition,
@@ -113,9 +111,6 @@ pub fn next<'a>(
 {
     let i = x.instruction;
     let opcode = i.opcode;
-    if !second_ok(e, opcode, x.second) {
-        return Pass::new(p.tasks, false);
-    }
     let a = base::wide16(i.operand);
     let t = x.task;
     let finish = opcode == FINISH;

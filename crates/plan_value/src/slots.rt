@@ -6,7 +6,7 @@ ghost use Rattle.plan_value.specs.Editions.{presentEdition};
 ghost use Rattle.plan_value.specs.Firsts.{NoFirsts};
 ghost use Rattle.plan_value.specs.Pass.{PassOf};
 ghost use Rattle.plan_value.specs.Sizes.{sizesIn};
-ghost use Rattle.plan_value.specs.Slots.{planIn, noSecond};
+ghost use Rattle.plan_value.specs.Slots.{planIn};
 use crate::instruction::present;
 use crate::pass::Entry;
 use crate::pass::Pass;
@@ -18,15 +18,14 @@ use plan::Instruction;
 pub fn pass_slots<'a>(
     tasks: u8,
     lengths: &'a [u8; 64],
-    opcodes: &'a [u8; 4096],
-    operands: &'a [u16; 4096],
+    codes: &'a [u32; 4096],
     parents: &'a mut [u8; 129],
     senders: &'a mut [u8; 129],
     receivers: &'a mut [u8; 129],
 ) -> Pass
     requires { ⌜ (sizesIn tasks (now lengths) ≡ true) × NoFirsts (now parents) (now senders) (now receivers) ⌝ }
     ensures { λ r. ⌜
-        PassOf presentEdition (programs (planIn tasks (now (lengths .entry)) (now (opcodes .entry)) (now (operands .entry)))) noSecond r
+        PassOf presentEdition (programs (planIn tasks (now (lengths .entry)) (now (codes .entry)))) r
         (now (parents .exit)) (now (senders .exit)) (now (receivers .exit)) ⌝ }
 {
     let n = base::wide8(tasks);
@@ -39,14 +38,10 @@ pub fn pass_slots<'a>(
         let mut i: usize = 0;
         while i < count {
             let s = 64 * k + i;
-            let x = Instruction {
-                opcode: opcodes[s],
-                operand: operands[s],
-            };
+            let x = Instruction::of(codes[s]);
             let entry = Entry {
                 task: t,
                 last: i == count - 1,
-                second: 0,
                 instruction: x,
             };
             p = next(p, edition, entry, parents, senders, receivers);

@@ -14,7 +14,7 @@ use Rattle.plan_value.proofs.check_slots.Tie as tie
 
 -- the plan
 abbrev plan : tie.Start → Plan
-plan c = planIn (c .args .tasks) (c .args .lengths .now) (c .args .opcodes .now) (c .args .operands .now)
+plan c = planIn (c .args .tasks) (c .args .lengths .now) (c .args .codes .now)
 
 -- where the sizes have passed
 sized : (c : tie.Else1) → let p = plan (c .before .before) in sizesIn (p .tasks) (p .lengths) ≡ true

@@ -8,14 +8,14 @@ use borrow.Author.Tests.{not-true, not-false}
 use lib.ListN.{length, getD}
 use lib.Dec.{eqb}
 use Rattle.plan.specs.declared.Plan.{Plan}
-use Rattle.plan.specs.Programs.{slotOf, programs}
+use Rattle.plan.specs.Programs.{programs}
 use Rattle.plan.specs.Layout.{countOf}
 use Rattle.plan.proofs.Parts.{tasks-of, count-of, instruction-of}
 use Rattle.plan_value.specs.declared.instruction.Edition.{Edition}
 use Rattle.plan_value.specs.declared.pass.Entry.{Entry}
 use Rattle.plan_value.specs.Editions.{presentEdition}
 use Rattle.plan_value.specs.Pass.{Seen, seen, nextSeen, entryAt, entriesTo, Passed}
-use Rattle.plan_value.specs.Slots.{planIn, noSecond}
+use Rattle.plan_value.specs.Slots.{planIn}
 use Rattle.plan_value.proofs.Sized.{few-tasks, count-few}
 use Rattle.plan_value.proofs.Taken.{pass-counted}
 use Rattle.plan_value.proofs.Entries.{entry-is, pass-start, pass-row, pass-more, pass-stops, pass-ends}
@@ -23,28 +23,28 @@ use Rattle.plan_value.proofs.slots.pass_slots.Statement.{statement}
 use Rattle.plan_value.proofs.slots.pass_slots.Tie as tie
 
 abbrev Inv-loop2 : tie.InvT-loop2
-Inv-loop2 tasks lengths opcodes operands parents₀ senders₀ receivers₀ n edition p₀ k count t i₀ parents senders receivers p i =
+Inv-loop2 tasks lengths codes parents₀ senders₀ receivers₀ n edition p₀ k count t i₀ parents senders receivers p i =
     (i ≤ count)
     × (count ≤ 64)
     × (k < n)
     × (n ≤ 64)
     × (n ≡ tasks)
     × (count ≡ getD lengths k 0)
-    × Passed presentEdition tasks (entriesTo (programs (planIn tasks lengths opcodes operands)) noSecond k i) (seen p parents senders receivers)
+    × Passed presentEdition tasks (entriesTo (programs (planIn tasks lengths codes)) k i) (seen p parents senders receivers)
 
 abbrev μ-loop2 : tie.MeasureT-loop2
-μ-loop2 tasks lengths opcodes operands parents₀ senders₀ receivers₀ n edition p₀ k count t i₀ parents senders receivers p i =
+μ-loop2 tasks lengths codes parents₀ senders₀ receivers₀ n edition p₀ k count t i₀ parents senders receivers p i =
     count - i
 
 abbrev Inv-loop : tie.InvT-loop
-Inv-loop tasks lengths opcodes operands parents₀ senders₀ receivers₀ n edition p₀ k₀ parents senders receivers p k =
+Inv-loop tasks lengths codes parents₀ senders₀ receivers₀ n edition p₀ k₀ parents senders receivers p k =
     (k ≤ n)
     × (n ≤ 64)
     × (n ≡ tasks)
-    × Passed presentEdition tasks (entriesTo (programs (planIn tasks lengths opcodes operands)) noSecond k 0) (seen p parents senders receivers)
+    × Passed presentEdition tasks (entriesTo (programs (planIn tasks lengths codes)) k 0) (seen p parents senders receivers)
 
 abbrev μ-loop : tie.MeasureT-loop
-μ-loop tasks lengths opcodes operands parents₀ senders₀ receivers₀ n edition p₀ k₀ parents senders receivers p k =
+μ-loop tasks lengths codes parents₀ senders₀ receivers₀ n edition p₀ k₀ parents senders receivers p k =
     n - k
 
 -- an instruction is taken into the pass: the plan, the place, the instruction, and what is kept then
@@ -59,7 +59,7 @@ module _ (c : tie.After-next Inv-loop2 μ-loop2 Inv-loop μ-loop) where
   start = out .before .before .before .before
 
   abbrev plan : Plan
-  plan = let a = start .args in planIn (a .tasks) (a .lengths .now) (a .opcodes .now) (a .operands .now)
+  plan = let a = start .args in planIn (a .tasks) (a .lengths .now) (a .codes .now)
 
   abbrev k : ℕ
   k = out .loop .k
@@ -79,11 +79,14 @@ module _ (c : tie.After-next Inv-loop2 μ-loop2 Inv-loop μ-loop) where
   place : i < getD (plan .lengths) k 0
   place = omega arith
 
-  abbrev x : Entry
-  x = record { task = k + 1; last = eqb i (at2 .before .wide82 .result - 1); second = 0; instruction = slotOf plan (64 * k + i) }
+  abbrev of : tie.After-of Inv-loop2 μ-loop2 Inv-loop μ-loop
+  of = c .before .before .before .before
 
-  here : x ≡ entryAt (programs plan) noSecond k i
-  here = entry-is (programs plan) noSecond refl (at2 .loop2 .inv .5 ∙ sym (count-of plan k task)) refl (sym (instruction-of plan k i task place))
+  abbrev x : Entry
+  x = record { task = k + 1; last = eqb i (at2 .before .wide82 .result - 1); instruction = of .of .result }
+
+  here : x ≡ entryAt (programs plan) k i
+  here = entry-is (programs plan) k i refl (at2 .loop2 .inv .5 ∙ sym (count-of plan k task)) (of .of .ensures ∙ sym (instruction-of plan k i task place))
 
   next : after ≡ nextSeen presentEdition x before
   next = c .next .ensures ∙ ap (λ (e : Edition). nextSeen e x before) (out .before .before .present .ensures)
@@ -102,8 +105,8 @@ loop-holds c =
     let s = c .before .before .before in
     let a = s .args in
     let n = c .before .before .wide8 .ensures in
-    let p = planIn (a .tasks) (a .lengths .now) (a .opcodes .now) (a .operands .now) in
-    (omega arith, rw n (few-tasks (a .tasks) (a .lengths .now) (s .pre .0)), n, rw (c .new .ensures) (pass-start (programs p) noSecond presentEdition (a .tasks) (s .pre .1)))
+    let p = planIn (a .tasks) (a .lengths .now) (a .codes .now) in
+    (omega arith, rw n (few-tasks (a .tasks) (a .lengths .now) (s .pre .0)), n, rw (c .new .ensures) (pass-start (programs p) presentEdition (a .tasks) (s .pre .1)))
 
 element-copy-out-wide8 : tie.Need-element-copy-out-wide8 Inv-loop2 μ-loop2 Inv-loop μ-loop
 element-copy-out-wide8 c = omega arith
@@ -131,14 +134,14 @@ mul-s c = omega arith
 add-s : tie.Need-add-s Inv-loop2 μ-loop2 Inv-loop μ-loop
 add-s c = omega arith
 
-element-copy-out-t26 : tie.Need-element-copy-out-t26 Inv-loop2 μ-loop2 Inv-loop μ-loop
-element-copy-out-t26 c = omega arith
+mul-of : tie.Need-mul-of Inv-loop2 μ-loop2 Inv-loop μ-loop
+mul-of c = omega arith
 
-mul-t23 : tie.Need-mul-t23 Inv-loop2 μ-loop2 Inv-loop μ-loop
-mul-t23 c = omega arith
+element-copy-out-of : tie.Need-element-copy-out-of Inv-loop2 μ-loop2 Inv-loop μ-loop
+element-copy-out-of c = omega arith
 
-element-copy-out-t29 : tie.Need-element-copy-out-t29 Inv-loop2 μ-loop2 Inv-loop μ-loop
-element-copy-out-t29 c = omega arith
+of-requires : tie.Need-of-requires Inv-loop2 μ-loop2 Inv-loop μ-loop
+of-requires c κs = search needs
 
 sub-if1 : tie.Need-sub-if1 Inv-loop2 μ-loop2 Inv-loop μ-loop
 sub-if1 c = omega arith
@@ -153,7 +156,7 @@ returns : tie.Need-returns Inv-loop2 μ-loop2 Inv-loop μ-loop
 returns c =
     let n = c .before .before in
     let p = plan n in
-    pass-stops (programs p) noSecond presentEdition (p .tasks) (k n) (i n) (at2 n .loop2 .inv .6) (x n) (here n) (after n) (next n) refl
+    pass-stops (programs p) presentEdition (p .tasks) (k n) (i n) (at2 n .loop2 .inv .6) (x n) (here n) (after n) (next n) refl
     (sym (tasks-of p)) (rw (tasks-of p) (task n)) (rw (count-of p (k n) (task n)) (place n)) (not-true (n .next .result .instructions) (c .if1 .taken))
 
 add-i : tie.Need-add-i Inv-loop2 μ-loop2 Inv-loop μ-loop
@@ -173,7 +176,7 @@ loop2-again c =
       inv .3,
       inv .4,
       inv .5,
-      pass-more (programs p) noSecond presentEdition (p .tasks) (k n) (i n) (inv .6) (x n) (here n) (after n) (next n) (omega arith)
+      pass-more (programs p) presentEdition (p .tasks) (k n) (i n) (inv .6) (x n) (here n) (after n) (next n) (omega arith)
           (not-false (n .next .result .instructions) (c .if1 .left)),
     )
 
@@ -188,18 +191,18 @@ loop-again c =
     let l = c .before in
     let o = l .before .before .before .before in
     let a = o .before .before .before .before .args in
-    let p = planIn (a .tasks) (a .lengths .now) (a .opcodes .now) (a .operands .now) in
+    let p = planIn (a .tasks) (a .lengths .now) (a .codes .now) in
     let inv = l .loop2 .inv in
     let e : l .loop2 .i ≡ countOf (programs p) (o .loop .k) = omega (arith, count-of p (o .loop .k) (omega arith)) in
-    (omega arith, inv .3, inv .4, pass-row (programs p) noSecond presentEdition (a .tasks) (o .loop .k) (rw e at (inv .6)))
+    (omega arith, inv .3, inv .4, pass-row (programs p) presentEdition (a .tasks) (o .loop .k) (rw e at (inv .6)))
 
 returns-2 : tie.Need-returns-2 Inv-loop2 μ-loop2 Inv-loop μ-loop
 returns-2 c =
     let l = c .before in
     let a = l .before .before .before .before .args in
-    let p = planIn (a .tasks) (a .lengths .now) (a .opcodes .now) (a .operands .now) in
+    let p = planIn (a .tasks) (a .lengths .now) (a .codes .now) in
     let e : l .loop .k ≡ length (programs p) = omega (arith, tasks-of p) in
-    pass-ends (programs p) noSecond presentEdition (a .tasks) (sym (tasks-of p)) (rw e at (l .loop .inv .3))
+    pass-ends (programs p) presentEdition (a .tasks) (sym (tasks-of p)) (rw e at (l .loop .inv .3))
 
 pub pass-slots-spec : {M : Type 1} → statement M
 pass-slots-spec =
@@ -220,9 +223,9 @@ pass-slots-spec =
     loop2-holds
     mul-s
     add-s
-    element-copy-out-t26
-    mul-t23
-    element-copy-out-t29
+    mul-of
+    element-copy-out-of
+    of-requires
     sub-if1
     next-requires
     returns
