@@ -2,8 +2,7 @@
 pub mod Filling
 mod Entries
 mod Headers
-pub mod Rows
-pub mod Slots
+mod Instructions
 -- What the stages of reading give together is the paper's reading of a file; what a reader owns.
 mod Empty
 mod Answers

@@ -1,3 +1,2 @@
--- The pass over the instructions of a file: where they stand, and what is then answered.
-mod Places
+-- The pass over the instructions of a file: what is then answered.
 mod Answers

@@ -4,16 +4,15 @@ use mathlib.Core.Bool.{true}
 use mathlib.Core.List.{List, []}
 use Prim.Native.Nat.{ℕ}
 use Rattle.base.specs.Choice.{unless}
-use Rattle.plan.specs.declared.Plan.{Plan}
 use Rattle.plan.specs.declared.Refusal.{Refusal}
-use Rattle.plan.specs.declared.Refusal.the-variants.{BadLayout, BadInstruction}
+use Rattle.plan.specs.declared.Refusal.the-variants.{BadLayout}
 use Rattle.plan.specs.declared.PlanAnswer.{PlanAnswer}
 use Rattle.plan.specs.declared.PlanAnswer.the-variants.{Accepted, Refused}
 use Rattle.plan.specs.declared.PlanRead.{PlanRead}
-use Rattle.plan.specs.Programs.{programs, canonical}
+use Rattle.plan.specs.Programs.{Programs, programs, canonical}
 use Rattle.plan.specs.Refusals.{planAnswer}
 use Rattle.plan_file.specs.declared.header.Header.{Header}
-use Rattle.plan_file.specs.Code.{Code, codeOf}
+use Rattle.plan_file.specs.Code.{programsIn}
 use Rattle.plan_value.specs.Firsts.{Firsts}
 use Rattle.plan_file.specs.scan.Code.{Whole}
 use Rattle.plan_file.specs.declared.Loaded.{Loaded}
@@ -22,16 +21,16 @@ use Rattle.plan_file.specs.declared.Loaded.{Loaded}
 abbrev pub readRefused : Refusal → PlanRead
 readRefused r = record { answer = Refused r; plan = canonical [] }
 
--- what a plan gives that is answered so
-abbrev pub answered : Plan → PlanAnswer → PlanRead
-answered p Accepted = record { answer = Accepted; plan = p }
-answered p (Refused r) = readRefused r
+-- what programs give that are answered so
+abbrev pub answered : Programs → PlanAnswer → PlanRead
+answered m Accepted = record { answer = Accepted; plan = canonical m }
+answered m (Refused r) = readRefused r
 
-abbrev pub ofCode : Code → PlanRead
-ofCode c = unless (c .zeros) (readRefused BadInstruction) (answered (c .plan) (planAnswer (programs (c .plan))))
+abbrev pub ofPrograms : Programs → PlanRead
+ofPrograms m = answered m (planAnswer m)
 
 unfoldable pub planOf : Header → List ℕ → PlanRead
-planOf h b = unless (h .ok) (readRefused BadLayout) (ofCode (codeOf b (h .tasks) (h .lengths)))
+planOf h b = unless (h .ok) (readRefused BadLayout) (ofPrograms (programsIn b (h .tasks) (h .lengths)))
 
 -- behind a header that is in order stand the instructions of its tasks
 abbrev pub Fits : Header → List ℕ → Type 0

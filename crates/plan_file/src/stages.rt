@@ -3,7 +3,7 @@ ghost use mathlib.Core.Path.{_≡_};
 ghost use lib.ListN.{drop};
 ghost use Rattle.plan_file.specs.Stages.{readRefused, planOf, Fits, Loads};
 use crate::Loaded;
-use crate::code::code_at;
+use crate::code::read_code;
 use crate::fields::rest_at;
 use crate::header::Header;
 use crate::scan::check_code;
@@ -18,8 +18,7 @@ fn refused(r: Refusal) -> Loaded
     let plan = Plan {
         tasks: 0,
         lengths: [0; 64],
-        opcodes: [0; 4096],
-        operands: [0; 4096],
+        codes: [0; 4096],
     };
     Loaded {
         answer: PlanAnswer::Refused(r),
@@ -63,13 +62,14 @@ pub fn load_at(file: &[u8], at: usize, h: Header) -> Loaded
     if !h.ok {
         return refused(Refusal::BadLayout);
     }
+    let rest = rest_at(file, at);
     let tasks = h.tasks;
     let lengths = h.lengths;
     let mut parents = [0u8; 129];
     let mut senders = [0u8; 129];
     let mut receivers = [0u8; 129];
     let answer = check_code(
-        rest_at(file, at),
+        rest,
         tasks,
         &lengths,
         &mut parents,
@@ -78,14 +78,12 @@ pub fn load_at(file: &[u8], at: usize, h: Header) -> Loaded
     );
     match answer {
         PlanAnswer::Accepted => {
-            let mut opcodes = [0u8; 4096];
-            let mut operands = [0u16; 4096];
-            let zeros = code_at(file, at, tasks, &lengths, &mut opcodes, &mut operands);
+            let mut codes = [0u32; 4096];
+            read_code(rest, tasks, &lengths, &mut codes);
             let plan = Plan {
                 tasks: tasks,
                 lengths: lengths,
-                opcodes: opcodes,
-                operands: operands,
+                codes: codes,
             };
             Loaded {
                 answer: PlanAnswer::Accepted,

@@ -17,12 +17,12 @@ use Rattle.base.proofs.Sums.{sum-none}
 use Rattle.base.proofs.Tables.{as-table, table-more, table-same, getD-table, every-table}
 use Rattle.plan.specs.declared.Instruction.{Instruction}
 use Rattle.plan.specs.declared.PlanAnswer.the-variants.{Refused}
-use Rattle.plan.specs.declared.Refusal.the-variants.{BadInstruction}
+use Rattle.plan.specs.declared.Refusal.the-variants.{BadLayout, BadInstruction}
 use Rattle.plan.specs.Kinds.{opCreate, opSend, opReceive, isFinish, noInstruction}
 use Rattle.plan.specs.Programs.{Program, Programs, programAt, instructionAt}
 use Rattle.plan.specs.Layout.{countOf}
 use Rattle.plan.specs.Users.{firstOf, users, oneTask, share, oneEnd}
-use Rattle.plan.specs.Refusals.{sizesOk, instructionOk, instructionsOk, finishOk, finishesOk, createOk, createsOk, channelOk, channelsOk, structureAnswer}
+use Rattle.plan.specs.Refusals.{sizesOk, instructionOk, instructionsOk, finishOk, finishesOk, createOk, createsOk, channelOk, channelsOk, structureAnswer, planAnswer}
 use Rattle.plan_laws.proofs.Answers.{sized}
 use Rattle.plan_value.specs.declared.pass.Pass.{Pass}
 use Rattle.plan_value.specs.Editions.{presentEdition}
@@ -151,7 +151,7 @@ module _ (m : Programs) where
               ∙ ap (λ (b : Bool). oneTask s && b) (and-assoc (oneTask r) (not (share s r)) (not (oneEnd s r)))
 
     -- 3 to 6
-    pub answer-is : {p : Pass} {x y z : List ℕ} → PassOf presentEdition m p x y z
+    answer-is : {p : Pass} {x y z : List ℕ} → PassOf presentEdition m p x y z
         → passAnswer p x ≡ unless (instructionsOk m) (Refused BadInstruction) (structureAnswer m)
     unfolding structureAnswer
     answer-is {p} {x} {y} {z} q = go (p .instructions) refl
@@ -162,3 +162,9 @@ module _ (m : Programs) where
         go true e =
             let so = q .passed e in
             rw (← instructions-are, ← q .instructions, e, ← finishes-are, ← so .finishes, ← creates-are so, ← channels-are so) refl
+
+    -- 2 to 6
+    pub answer-sized : {p : Pass} {x y z : List ℕ} → PassOf presentEdition m p x y z → passAnswer p x ≡ planAnswer m
+    unfolding planAnswer
+    answer-sized q =
+        answer-is q ∙ sym (ap (λ (b : Bool). unless b (Refused BadLayout) (unless (instructionsOk m) (Refused BadInstruction) (structureAnswer m))) sizes)

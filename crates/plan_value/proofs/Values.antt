@@ -1,21 +1,20 @@
 -- 2 to 6 of a plan value, by its sizes and by the pass over its slots.
-use mathlib.Core.Path.{_≡_, refl, sym, _∙_, ap}
-use mathlib.Core.Bool.{Bool, true, false}
+use mathlib.Core.Path.{_≡_, refl, _∙_}
+use mathlib.Core.Bool.{true, false}
 use mathlib.Core.List.{List}
 use Prim.Native.Nat.{ℕ}
-use Rattle.base.specs.Choice.{unless}
 use Rattle.plan.specs.declared.Plan.{Plan}
 use Rattle.plan.specs.declared.PlanAnswer.the-variants.{Refused}
-use Rattle.plan.specs.declared.Refusal.the-variants.{BadLayout, BadInstruction}
+use Rattle.plan.specs.declared.Refusal.the-variants.{BadLayout}
 use Rattle.plan.specs.Programs.{programs}
-use Rattle.plan.specs.Refusals.{instructionsOk, structureAnswer, planAnswer}
+use Rattle.plan.specs.Refusals.{instructionsOk, planAnswer}
 use Rattle.plan_value.specs.declared.pass.Pass.{Pass}
 use Rattle.plan_value.specs.Editions.{presentEdition}
 use Rattle.plan_value.specs.Firsts.{Firsts}
 use Rattle.plan_value.specs.Pass.{PassOf, passAnswer}
 use Rattle.plan_value.specs.Sizes.{sizesIn}
 use Rattle.plan_value.proofs.Sized.{sizes-of}
-use Rattle.plan_value.proofs.Meaning.{instructions-are, answer-is, firsts-are}
+use Rattle.plan_value.proofs.Meaning.{instructions-are, answer-sized, firsts-are}
 
 module _ (p : Plan) where
   pub answer-unsized : sizesIn (p .tasks) (p .lengths) ≡ false → planAnswer (programs p) ≡ Refused BadLayout
@@ -24,11 +23,7 @@ module _ (p : Plan) where
 
   module _ {q : Pass} {x y z : List ℕ} (pass : PassOf presentEdition (programs p) q x y z) where
     pub answer-of : sizesIn (p .tasks) (p .lengths) ≡ true → passAnswer q x ≡ planAnswer (programs p)
-    unfolding planAnswer
-    answer-of h =
-        let m = programs p in
-        answer-is m (sizes-of p ∙ h) pass
-        ∙ sym (ap (λ (b : Bool). unless b (Refused BadLayout) (unless (instructionsOk m) (Refused BadInstruction) (structureAnswer m))) (sizes-of p ∙ h))
+    answer-of h = answer-sized (programs p) (sizes-of p ∙ h) pass
 
     pub firsts-of : instructionsOk (programs p) ≡ true → Firsts (programs p) x y z
     firsts-of h = firsts-are (programs p) (pass .passed (pass .instructions ∙ instructions-are (programs p) ∙ h))

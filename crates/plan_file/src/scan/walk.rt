@@ -1,12 +1,10 @@
 // The pass over the instructions of a plan file.
-ghost use Rattle.plan.specs.Programs.{programs};
-ghost use Rattle.plan_file.specs.Code.{codeOf};
+ghost use Rattle.plan_file.specs.Code.{programsIn};
 ghost use Rattle.plan_value.specs.Editions.{presentEdition};
 ghost use Rattle.plan_value.specs.Firsts.{NoFirsts};
 ghost use Rattle.plan_value.specs.Pass.{PassOf};
-ghost use Rattle.plan_file.specs.scan.Code.{Whole, secondIn};
+ghost use Rattle.plan_file.specs.scan.Code.{Whole};
 use crate::code::fetch;
-use plan::Instruction;
 use plan_value::instruction::present;
 use plan_value::pass::Entry;
 use plan_value::pass::Pass;
@@ -24,7 +22,7 @@ pub fn walk<'a>(
 ) -> Pass
     requires { ⌜ Whole (now file) tasks (now lengths) × NoFirsts (now parents) (now senders) (now receivers) ⌝ }
     ensures { λ r. ⌜
-        PassOf presentEdition (programs (codeOf (now (file .entry)) tasks (now (lengths .entry)) .plan)) (secondIn (now (file .entry)) (now (lengths .entry))) r
+        PassOf presentEdition (programsIn (now (file .entry)) tasks (now (lengths .entry))) r
         (now (parents .exit)) (now (senders .exit)) (now (receivers .exit)) ⌝ }
 {
     let n = base::wide8(tasks);
@@ -37,15 +35,10 @@ pub fn walk<'a>(
         let t = k as u8 + 1;
         let mut i: usize = 0;
         while i < count {
-            let f = fetch(file, true, at);
-            let x = Instruction {
-                opcode: f.opcode,
-                operand: f.operand,
-            };
+            let x = fetch(file, at);
             let entry = Entry {
                 task: t,
                 last: i == count - 1,
-                second: f.second,
                 instruction: x,
             };
             p = next(p, edition, entry, parents, senders, receivers);

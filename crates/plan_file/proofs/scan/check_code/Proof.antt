@@ -1,9 +1,8 @@
 -- `check_code` answers as the paper asks of the plan: it makes the pass and asks what it says.
 use mathlib.Core.Path.{_∙_}
 use borrow.Author.Needs.{needs}
-use Rattle.plan.proofs.Parts.{tasks-of}
-use Rattle.plan_file.specs.Code.{codeOf}
 use Rattle.plan_value.proofs.Sized.{some-tasks, few-tasks}
+use Rattle.plan_file.proofs.Instructions.{code-tasks}
 use Rattle.plan_file.proofs.scan.Answers.{checked}
 use Rattle.plan_file.proofs.scan.check_code.Statement.{statement}
 use Rattle.plan_file.proofs.scan.check_code.Tie as tie
@@ -19,7 +18,7 @@ answer-requires c κs =
     let w = c .before in
     let s = start w in
     let a = s .args in
-    rw (w .walk .ensures .size ∙ tasks-of (codeOf (a .file .now) (a .tasks) (a .lengths .now) .plan))
+    rw (w .walk .ensures .size ∙ code-tasks (a .file .now) (a .tasks) (a .lengths .now))
     (some-tasks (a .tasks) (a .lengths .now) (s .pre .0 .sizes), few-tasks (a .tasks) (a .lengths .now) (s .pre .0 .sizes))
 
 returns : tie.Need-returns

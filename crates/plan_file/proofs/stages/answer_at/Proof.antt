@@ -7,8 +7,8 @@ use lib.ListN.{drop}
 use borrow.Author.Needs.{needs}
 use borrow.Author.Tests.{not-true, not-false}
 use Rattle.plan.specs.declared.PlanRead.{PlanRead}
-use Rattle.plan_file.specs.Code.{codeOf}
-use Rattle.plan_file.specs.scan.Code.{codeAnswer}
+use Rattle.plan.specs.Refusals.{planAnswer}
+use Rattle.plan_file.specs.Code.{programsIn}
 use Rattle.plan_file.proofs.Answers.{bad-header, answer-read}
 use Rattle.plan_file.proofs.stages.answer_at.Statement.{statement}
 use Rattle.plan_file.proofs.stages.answer_at.Tie as tie
@@ -38,7 +38,7 @@ returns-2 c =
     let r = c .before .before .before .before .before in
     let a = start r .args in
     answer-read (a .h) (drop (a .at) (a .file .now)) (passed r)
-    (c .check-code .ensures .answer ∙ ap (λ (b : List ℕ). codeAnswer (codeOf b (a .h .tasks) (a .h .lengths))) (r .rest-at .ensures))
+    (c .check-code .ensures .answer ∙ ap (λ (b : List ℕ). planAnswer (programsIn b (a .h .tasks) (a .h .lengths))) (r .rest-at .ensures))
 
 pub answer-at-spec : {M : Type 1} → statement M
 answer-at-spec = tie.close (tie.spec returns rest-at-requires check-code-requires returns-2)

@@ -6,29 +6,41 @@ use Prim.Native.Nat.{ℕ}
 use lib.ListN.{drop}
 use borrow.Author.Needs.{needs}
 use borrow.Author.Tests.{not-true, not-false}
-use Rattle.plan_file.specs.Code.{Code}
+use Rattle.plan.specs.declared.Plan.{Plan}
+use Rattle.plan.specs.Programs.{canonical}
+use Rattle.plan_laws.proofs.Canonical.{meaning-canonical}
+use Rattle.plan_file.specs.Code.{programsIn}
 use Rattle.plan_file.specs.scan.Code.{Whole, CodeChecked}
-use Rattle.plan_value.proofs.Sized.{few-tasks}
-use Rattle.plan_file.proofs.Answers.{bad-header, bad-plan, good-plan, firsts-read}
+use Rattle.plan_file.proofs.Instructions.{code-tasks}
+use Rattle.plan_file.proofs.Answers.{bad-header, bad-plan, good-plan}
 use Rattle.plan_file.proofs.stages.load_at.Statement.{statement}
 use Rattle.plan_file.proofs.stages.load_at.Tie as tie
 
 -- the file from the place on; where the header has passed
 abbrev start : tie.After-rest-at → tie.Start
-start c = c .before .before .before .before .before
+start c = c .before .before .before .before
 
 abbrev rest : tie.After-rest-at → List ℕ
 rest c = drop (start c .args .at) (start c .args .file .now)
 
 passed : (c : tie.After-rest-at) → start c .args .h .ok ≡ true
-passed c = not-false (start c .args .h .ok) (c .before .before .if1 .left)
+passed c = not-false (start c .args .h .ok) (c .before .if1 .left)
 
 whole : (c : tie.After-rest-at) → Whole (rest c) (start c .args .h .tasks) (start c .args .h .lengths)
 whole c = start c .pre (passed c)
 
+-- the plan value, of its fields
+plan-is : (b : List ℕ) (n : ℕ) (lengths : List ℕ) {codes : List ℕ} → Whole b n lengths → codes ≡ canonical (programsIn b n lengths) .codes
+    → _≡_ {A = Plan} (record { tasks = n; lengths = lengths; codes = codes }) (canonical (programsIn b n lengths))
+unfolding canonical
+plan-is b n lengths w e =
+    let t = sym (code-tasks b n lengths) in
+    let l = w .counts in
+    λ i. record { tasks = t i; lengths = l i; codes = e i }
+
 -- what was checked
 abbrev cut : tie.After-check-code → tie.After-rest-at
-cut c = c .before .before .before .before .before
+cut c = c .before .before .before .before .before .before
 
 checked : (c : tie.After-check-code) → let h = start (cut c) .args .h in
     CodeChecked (rest (cut c)) (h .tasks) (h .lengths) (c .check-code .result) (c .check-code .last .1 .1 .1 .0) (c .check-code .last .1 .1 .1 .1 .0) (c .check-code .last .1 .1 .1 .1 .1 .0)
@@ -47,16 +59,16 @@ rest-at-requires c κs = search needs
 
 check-code-requires : tie.Need-check-code-requires
 check-code-requires c κs =
-    let r = c .before .before .before .before in
+    let r = c .before .before .before .before .before in
     (rw (r .rest-at .ensures) (whole r), record { parents = refl; senders = refl; receivers = refl })
 
 enum-told : tie.Need-enum-told
 enum-told c = search needs
 
-code-at-requires : tie.Need-code-at-requires
-code-at-requires c κs =
-    let r = cut (c .before .before .before .before .before) in
-    (few-tasks (start r .args .h .tasks) (start r .args .h .lengths) (whole r .sizes), record { kinds = refl; arguments = refl })
+read-code-requires : tie.Need-read-code-requires
+read-code-requires c κs =
+    let r = cut (c .before .before .before .before) in
+    (rw (r .rest-at .ensures) (whole r), refl)
 
 enum-known-answer : tie.Need-enum-known-answer
 enum-known-answer c = search needs
@@ -66,16 +78,19 @@ refused-requires-2 c κs = search needs
 
 returns-2 : tie.Need-returns-2
 returns-2 c =
-    let told = c .before .before .before .before in
+    let told = c .before .before .before in
     let k = told .before .before in
     let r = cut k in
     let h = start r .args .h in
     let q = checked k in
-    let plan = ap (λ (x : Code). x .plan) (c .code-at .ensures) in
     let accepted = told .enum-told .given .1 in
+    let m = programsIn (rest r) (h .tasks) (h .lengths) in
+    let codes = c .read-code .ensures ∙ ap (λ (b : List ℕ). canonical (programsIn b (h .tasks) (h .lengths)) .codes) (r .rest-at .ensures) in
+    let plan : record { tasks = h .tasks; lengths = h .lengths; codes = c .read-code .last .1 .1 .1 .0 } ≡ canonical m =
+    plan-is (rest r) (h .tasks) (h .lengths) (whole r) codes in
     record {
       read = good-plan h (rest r) (passed r) plan (sym accepted ∙ q .answer);
-      firsts = λ e. firsts-read plan (q .firsts accepted);
+      firsts = λ e. rw (plan, meaning-canonical m (sym (q .answer) ∙ accepted)) (q .firsts accepted);
     }
 
 returns-3 : tie.Need-returns-3
@@ -93,7 +108,7 @@ load-at-spec =
     rest-at-requires
     check-code-requires
     enum-told
-    code-at-requires
+    read-code-requires
     enum-known-answer
     refused-requires-2
     returns-2

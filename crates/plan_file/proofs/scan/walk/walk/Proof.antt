@@ -8,10 +8,9 @@ use borrow.Author.Needs.{needs}
 use borrow.Author.Tests.{not-true, not-false}
 use lib.ListN.{length, getD}
 use lib.Dec.{eqb}
-use Rattle.plan.specs.declared.Plan.{Plan}
-use Rattle.plan.specs.Programs.{programs}
+use Rattle.plan.specs.Programs.{Programs}
 use Rattle.plan.specs.Layout.{countOf}
-use Rattle.plan.proofs.Parts.{tasks-of, count-of, instruction-of}
+use Rattle.plan.specs.Files.{fileInstruction}
 use Rattle.plan_value.specs.declared.instruction.Edition.{Edition}
 use Rattle.plan_value.specs.declared.pass.Entry.{Entry}
 use Rattle.plan_value.specs.Editions.{presentEdition}
@@ -19,11 +18,8 @@ use Rattle.plan_value.specs.Pass.{Seen, seen, nextSeen, entryAt, entriesTo, Pas
 use Rattle.plan_value.proofs.Sized.{few-tasks, count-few}
 use Rattle.plan_value.proofs.Taken.{pass-counted}
 use Rattle.plan_value.proofs.Entries.{entry-is, pass-start, pass-row, pass-more, pass-stops, pass-ends}
-use Rattle.plan_file.specs.declared.code.Fetched.{Fetched}
-use Rattle.plan_file.specs.Code.{fetchedFrom, slotPlace, codeOf}
-use Rattle.plan_file.proofs.Slots.{first-place}
-use Rattle.plan_file.specs.scan.Code.{secondIn}
-use Rattle.plan_file.proofs.scan.Places.{place-grows, place-rest, place-next, slot-fetched}
+use Rattle.plan_file.specs.Code.{codePlace, programsIn}
+use Rattle.plan_file.proofs.Instructions.{code-tasks, code-count, code-instruction, place-first, place-row, place-inside}
 use Rattle.plan_file.proofs.scan.walk.walk.Statement.{statement}
 use Rattle.plan_file.proofs.scan.walk.walk.Tie as tie
 
@@ -36,8 +32,8 @@ Inv-loop2 file tasks lengths parents₀ senders₀ receivers₀ n edition p₀ a
     × (n ≡ tasks)
     × (count ≡ getD lengths k 0)
     × (at ≤ 4 * (64 * k + i))
-    × (at ≡ slotPlace lengths (64 * k + i))
-    × Passed presentEdition tasks (entriesTo (programs (codeOf file tasks lengths .plan)) (secondIn file lengths) k i) (seen p parents senders receivers)
+    × (at ≡ codePlace lengths k i)
+    × Passed presentEdition tasks (entriesTo (programsIn file tasks lengths) k i) (seen p parents senders receivers)
 
 abbrev μ-loop2 : tie.MeasureT-loop2
 μ-loop2 file tasks lengths parents₀ senders₀ receivers₀ n edition p₀ at₀ k count t i₀ parents senders receivers p at i =
@@ -49,8 +45,8 @@ Inv-loop file tasks lengths parents₀ senders₀ receivers₀ n edition p₀ at
     × (n ≤ 64)
     × (n ≡ tasks)
     × (at ≤ 4 * (64 * k))
-    × (at ≡ slotPlace lengths (64 * k))
-    × Passed presentEdition tasks (entriesTo (programs (codeOf file tasks lengths .plan)) (secondIn file lengths) k 0) (seen p parents senders receivers)
+    × (at ≡ codePlace lengths k 0)
+    × Passed presentEdition tasks (entriesTo (programsIn file tasks lengths) k 0) (seen p parents senders receivers)
 
 abbrev μ-loop : tie.MeasureT-loop
 μ-loop file tasks lengths parents₀ senders₀ receivers₀ n edition p₀ at₀ k₀ parents senders receivers p at k =
@@ -79,8 +75,8 @@ module _ (c : tie.After-next Inv-loop2 μ-loop2 Inv-loop μ-loop) where
   abbrev lengths : List ℕ
   lengths = start .args .lengths .now
 
-  abbrev plan : Plan
-  plan = codeOf b n lengths .plan
+  abbrev m : Programs
+  m = programsIn b n lengths
 
   abbrev k : ℕ
   k = out .loop .k
@@ -100,19 +96,13 @@ module _ (c : tie.After-next Inv-loop2 μ-loop2 Inv-loop μ-loop) where
   place : i < getD lengths k 0
   place = omega arith
 
-  abbrev f : Fetched
-  f = fetched .fetch .result
-
   abbrev x : Entry
-  x = record { task = k + 1; last = eqb i (at2 .before .wide82 .result - 1); second = f .second; instruction = record { opcode = f .opcode; operand = f .operand } }
+  x = record { task = k + 1; last = eqb i (at2 .before .wide82 .result - 1); instruction = fetched .fetch .result }
 
-  found : f ≡ fetchedFrom b (slotPlace lengths (64 * k + i))
-  found = fetched .fetch .ensures ∙ ap (fetchedFrom b) (at2 .loop2 .inv .7)
-
-  here : x ≡ entryAt (programs plan) (secondIn b lengths) k i
+  here : x ≡ entryAt m k i
   here =
-      entry-is (programs plan) (secondIn b lengths) refl (at2 .loop2 .inv .5 ∙ sym (count-of plan k task)) (ap (λ (w : Fetched). w .second) found)
-      (slot-fetched b n lengths (start .pre .0 .sizes) k task i place f found ∙ sym (instruction-of plan k i task place))
+      entry-is m k i refl (at2 .loop2 .inv .5 ∙ sym (code-count b n lengths k task))
+      (fetched .fetch .ensures ∙ ap (fileInstruction b) (at2 .loop2 .inv .7) ∙ sym (code-instruction b n lengths k i task place))
 
   next : after ≡ nextSeen presentEdition x before
   next = c .next .ensures ∙ ap (λ (e : Edition). nextSeen e x before) (out .before .before .present .ensures)
@@ -136,8 +126,8 @@ loop-holds c =
       rw n (few-tasks (s .args .tasks) lengths (s .pre .0 .sizes)),
       n,
       omega arith,
-      first-place b lengths,
-      rw (c .new .ensures) (pass-start (programs (codeOf b (s .args .tasks) lengths .plan)) (secondIn b lengths) presentEdition (s .args .tasks) (s .pre .1)),
+      place-first lengths,
+      rw (c .new .ensures) (pass-start (programsIn b (s .args .tasks) lengths) presentEdition (s .args .tasks) (s .pre .1)),
     )
 
 element-copy-out-wide8 : tie.Need-element-copy-out-wide8 Inv-loop2 μ-loop2 Inv-loop μ-loop
@@ -158,8 +148,7 @@ loop2-holds c =
     let s = l .before .before .before .before .before in
     let inv = l .loop .inv in
     let few : c .wide82 .result ≤ 64 = rw (c .wide82 .ensures) (count-few (s .args .tasks) (s .args .lengths .now) (s .pre .0 .sizes) (l .loop .k) (omega arith)) in
-    let e : 64 * l .loop .k + 0 ≡ 64 * l .loop .k = omega arith in
-    (omega arith, few, omega arith, inv .1, inv .2, c .wide82 .ensures, omega arith, rw e (inv .4), inv .5)
+    (omega arith, few, omega arith, inv .1, inv .2, c .wide82 .ensures, omega arith, inv .4, inv .5)
 
 fetch-requires : tie.Need-fetch-requires Inv-loop2 μ-loop2 Inv-loop μ-loop
 fetch-requires c κs =
@@ -169,10 +158,8 @@ fetch-requires c κs =
     let lengths = s .args .lengths .now in
     let k = o .loop .k in
     let i = l .loop2 .i in
-    let file = s .args .file .now in
-    let next = place-next file (s .args .tasks) lengths (s .pre .0 .sizes) k (omega arith) i (omega arith) (fetchedFrom file (slotPlace lengths (64 * k + i))) refl _ (l .loop2 .inv .7) in
-    let grows = place-grows lengths (64 * k + (i + 1)) (64 * s .args .tasks) (omega arith) in
-    (omega arith, λ e. omega (arith, next, grows, s .pre .0 .bytes))
+    let inside = place-inside lengths (s .args .tasks) k i (omega arith) (omega arith) in
+    omega (arith, inside, l .loop2 .inv .7, s .pre .0 .bytes)
 
 sub-if1 : tie.Need-sub-if1 Inv-loop2 μ-loop2 Inv-loop μ-loop
 sub-if1 c = omega arith
@@ -185,10 +172,10 @@ next-requires c κs =
 
 returns : tie.Need-returns Inv-loop2 μ-loop2 Inv-loop μ-loop
 returns c =
-    let m = c .before .before in
-    let p = plan m in
-    pass-stops (programs p) (secondIn (b m) (lengths m)) presentEdition (n m) (k m) (i m) (at2 m .loop2 .inv .8) (x m) (here m) (after m) (next m) refl
-    (sym (tasks-of p)) (rw (tasks-of p) (task m)) (rw (count-of p (k m) (task m)) (place m)) (not-true (m .next .result .instructions) (c .if1 .taken))
+    let q = c .before .before in
+    let tasks = code-tasks (b q) (n q) (lengths q) in
+    pass-stops (m q) presentEdition (n q) (k q) (i q) (at2 q .loop2 .inv .8) (x q) (here q) (after q) (next q) refl
+    (sym tasks) (rw tasks (task q)) (rw (code-count (b q) (n q) (lengths q) (k q) (task q)) (place q)) (not-true (q .next .result .instructions) (c .if1 .taken))
 
 add-at : tie.Need-add-at Inv-loop2 μ-loop2 Inv-loop μ-loop
 add-at c = omega arith
@@ -201,8 +188,8 @@ loop2-less c = omega arith
 
 loop2-again : tie.Need-loop2-again Inv-loop2 μ-loop2 Inv-loop μ-loop
 loop2-again c =
-    let m = c .before .before in
-    let inv = at2 m .loop2 .inv in (
+    let q = c .before .before in
+    let inv = at2 q .loop2 .inv in (
       omega arith,
       inv .1,
       inv .2,
@@ -210,9 +197,9 @@ loop2-again c =
       inv .4,
       inv .5,
       omega arith,
-      place-next (b m) (n m) (lengths m) (start m .pre .0 .sizes) (k m) (task m) (i m) (place m) (f m) (found m) _ (inv .7),
-      pass-more (programs (plan m)) (secondIn (b m) (lengths m)) presentEdition (n m) (k m) (i m) (inv .8) (x m) (here m) (after m) (next m) (omega arith)
-          (not-false (m .next .result .instructions) (c .if1 .left)),
+      omega (arith, inv .7),
+      pass-more (m q) presentEdition (n q) (k q) (i q) (inv .8) (x q) (here q) (after q) (next q) (omega arith)
+          (not-false (q .next .result .instructions) (c .if1 .left)),
     )
 
 add-k : tie.Need-add-k Inv-loop2 μ-loop2 Inv-loop μ-loop
@@ -229,27 +216,27 @@ loop-again c =
     let b = s .args .file .now in
     let n = s .args .tasks in
     let lengths = s .args .lengths .now in
-    let p = codeOf b n lengths .plan in
     let k = o .loop .k in
     let inv = l .loop2 .inv in
     let more : k < n = omega arith in
     let e : l .loop2 .i ≡ getD lengths k 0 = omega arith in
-    let d : l .loop2 .i ≡ countOf (programs p) k = e ∙ sym (count-of p k more) in (
+    let d : l .loop2 .i ≡ countOf (programsIn b n lengths) k = e ∙ sym (code-count b n lengths k more) in (
       omega arith,
       inv .3,
       inv .4,
       omega arith,
-      inv .7 ∙ rw e (place-rest b n lengths (s .pre .0 .sizes) k more),
-      pass-row (programs p) (secondIn b lengths) presentEdition n k (rw d at (inv .8)),
+      inv .7 ∙ rw e (place-row lengths k),
+      pass-row (programsIn b n lengths) presentEdition n k (rw d at (inv .8)),
     )
 
 returns-2 : tie.Need-returns-2 Inv-loop2 μ-loop2 Inv-loop μ-loop
 returns-2 c =
     let l = c .before in
     let a = l .before .before .before .before .before .args in
-    let p = codeOf (a .file .now) (a .tasks) (a .lengths .now) .plan in
-    let e : l .loop .k ≡ length (programs p) = omega (arith, tasks-of p) in
-    pass-ends (programs p) (secondIn (a .file .now) (a .lengths .now)) presentEdition (a .tasks) (sym (tasks-of p)) (rw e at (l .loop .inv .5))
+    let m = programsIn (a .file .now) (a .tasks) (a .lengths .now) in
+    let tasks = code-tasks (a .file .now) (a .tasks) (a .lengths .now) in
+    let e : l .loop .k ≡ length m = omega (arith, tasks) in
+    pass-ends m presentEdition (a .tasks) (sym tasks) (rw e at (l .loop .inv .5))
 
 pub walk-spec : {M : Type 1} → statement M
 walk-spec =
