@@ -55,15 +55,15 @@ module _ (p : Plan) where
 
   module _ (few : (k : ℕ) → k < p .tasks → getD (p .lengths) k 0 ≤ 64) where
     -- slot by slot or task by task
-    slots-of : slotsBytes (p .lengths) (p .opcodes) (p .operands) (64 * p .tasks)
+    slots-of : slotsBytes (p .lengths) (p .codes) (64 * p .tasks)
         ≡ joined (p .tasks) (λ k. joined (getD (p .lengths) k 0) (λ i. instructionBytes (slotOf p (64 * k + i))))
     slots-of = joined-slots (p .tasks) (λ k. getD (p .lengths) k 0) (λ j count i. instructionBytes (slotOf p j)) few
 
     codes-of : joined (length (programs p)) (λ k. codeBytes (programAt (programs p) k))
-        ≡ slotsBytes (p .lengths) (p .opcodes) (p .operands) (64 * p .tasks)
+        ≡ slotsBytes (p .lengths) (p .codes) (64 * p .tasks)
     codes-of = rw (tasks-of p) (fold-same _++_ [] (p .tasks) (λ k. codeBytes (programAt (programs p) k)) _ code-of ∙ sym slots-of)
 
-    length-codes : length (slotsBytes (p .lengths) (p .opcodes) (p .operands) (64 * p .tasks)) ≡ 4 * totalIn (p .lengths) (p .tasks)
+    length-codes : length (slotsBytes (p .lengths) (p .codes) (64 * p .tasks)) ≡ 4 * totalIn (p .lengths) (p .tasks)
     length-codes =
         let count : ℕ → ℕ = λ k. getD (p .lengths) k 0 in
         let row : ℕ → List ℕ = λ k. joined (count k) (λ i. instructionBytes (slotOf p (64 * k + i))) in
@@ -83,7 +83,7 @@ few-of p h k l =
 pub record Sizes (p : Plan) (n : ℕ) : Type 0 where
   pub tasks : n ≤ 64
   pub total : totalIn (p .lengths) n ≤ 4096
-  pub code : length (slotsBytes (p .lengths) (p .opcodes) (p .operands) (64 * p .tasks)) ≡ 4 * totalIn (p .lengths) n
+  pub code : length (slotsBytes (p .lengths) (p .codes) (64 * p .tasks)) ≡ 4 * totalIn (p .lengths) n
 
 pub sizes-of : (p : Plan) (n : ℕ) → planAnswer (programs p) ≡ Accepted → n ≡ p .tasks → Sizes p n
 sizes-of p n h e =
@@ -104,14 +104,14 @@ unwritten m out r h = record { answer = rw h refl; bytes = rw h refl }
 -- an accepted plan of n tasks with `total` instructions
 module _ (p : Plan) (n total : ℕ) (h : planAnswer (programs p) ≡ Accepted) (en : n ≡ p .tasks) (et : total ≡ totalIn (p .lengths) n) where
   layout-of : layout (programs p)
-      ≡ (bytes16 n ++ bytes16 total) ++ (entriesBytes (p .lengths) n ++ slotsBytes (p .lengths) (p .opcodes) (p .operands) (64 * p .tasks))
+      ≡ (bytes16 n ++ bytes16 total) ++ (entriesBytes (p .lengths) n ++ slotsBytes (p .lengths) (p .codes) (64 * p .tasks))
   unfolding layout
   layout-of = rw (et, en, heads-of p, codes-of p (few-of p h), total-of-plan p, tasks-of p) refl
 
   layout-length : length (layout (programs p)) ≡ 4 + 4 * n + 4 * total
   layout-length =
       let heads = entriesBytes (p .lengths) n in
-      let codes = slotsBytes (p .lengths) (p .opcodes) (p .operands) (64 * p .tasks) in
+      let codes = slotsBytes (p .lengths) (p .codes) (64 * p .tasks) in
       rw layout-of (omega (arith, et, length-append heads codes, length-entries (p .lengths) n n, sizes-of p n h en .code))
 
   -- a short output stays as it was
@@ -126,12 +126,12 @@ module _ (p : Plan) (n total : ℕ) (h : planAnswer (programs p) ≡ Accepted) (
       → a ≡ overlay out 0 (bytes16 n)
       → b ≡ overlay a 2 (bytes16 total)
       → c ≡ overlay b 4 (entriesBytes (p .lengths) n)
-      → d ≡ overlay c (4 + 4 * n) (slotsBytes (p .lengths) (p .opcodes) (p .operands) (64 * p .tasks))
+      → d ≡ overlay c (4 + 4 * n) (slotsBytes (p .lengths) (p .codes) (64 * p .tasks))
       → WritePlan (programs p) out (Written (4 + 4 * n + 4 * total)) d
   unfolding writeAnswer writeOutput
   written out a b c d r ea eb ec ed =
       let heads = entriesBytes (p .lengths) n in
-      let codes = slotsBytes (p .lengths) (p .opcodes) (p .operands) (64 * p .tasks) in
+      let codes = slotsBytes (p .lengths) (p .codes) (64 * p .tasks) in
       let pa : Put out 0 (bytes16 n) 2 a = record { next = refl; bytes = ea } in
       let pb : Put a 2 (bytes16 total) 4 b = record { next = refl; bytes = eb } in
       let pc : Put b 4 heads (4 + 4 * n) c = record { next = omega (arith, length-entries (p .lengths) n n); bytes = ec } in

@@ -38,7 +38,7 @@ fn write_accepted(p: Plan, out: &mut [u8]) -> WriteAnswer
     put_word(out, 0, n as u16);
     put_word(out, 2, total as u16);
     write_entries(out, n, &p.lengths);
-    write_code(out, start, tasks, &p.lengths, &p.opcodes, &p.operands);
+    write_code(out, start, tasks, &p.lengths, &p.codes);
     WriteAnswer::Written(size)
 }
 

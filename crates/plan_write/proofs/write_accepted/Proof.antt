@@ -55,7 +55,7 @@ write-entries-requires c κs =
 
 write-code-requires : tie.Need-write-code-requires
 write-code-requires c κs =
-    let w = c .before .before .before .before .before .before .before .before .before .before .before .before .before .before .before .before .before .before .before .before .before .before .before in
+    let w = c .before .before .before .before .before .before .before .before .before .before .before .before .before .before .before .before .before .before .before .before .before .before in
     let s = sizes w in
     (omega (arith, w .wide8 .ensures), omega arith)
 
@@ -65,7 +65,7 @@ same-length c = search needs
 returns-2 : tie.Need-returns-2
 returns-2 c =
     let code = c .before .before in
-    let entries = code .before .before .before .before .before .before .before .before in
+    let entries = code .before .before .before .before .before .before .before in
     let second = entries .before .before .before .before .before .before in
     let first = second .before .before .before .before in
     let room = first .before .before in

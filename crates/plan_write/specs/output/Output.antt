@@ -7,21 +7,18 @@ use lib.Dec.{ltb}
 use Rattle.base.specs.Choice.{pick}
 use Rattle.base.specs.Range.{joined}
 use Rattle.plan.specs.Layout.{instructionBytes}
+use Rattle.plan_value.specs.Slots.{slotIn}
 
 -- the bytes xs put at a place
 unfoldable pub overlay : List ℕ → ℕ → List ℕ → List ℕ
 overlay out at xs = take at out ++ (xs ++ drop (at + length xs) out)
 
--- the bytes of an instruction
-abbrev pub bytesOf : ℕ → ℕ → List ℕ
-bytesOf opcode operand = instructionBytes (record { opcode = opcode; operand = operand })
-
 -- the bytes of slot j, none for an unused one, and of the first s slots
-abbrev pub slotAt : List ℕ → List ℕ → List ℕ → ℕ → List ℕ
-slotAt lengths opcodes operands j = pick (ltb (j % 64) (getD lengths (j / 64) 0)) (bytesOf (getD opcodes j 0) (getD operands j 0)) []
+abbrev pub slotAt : List ℕ → List ℕ → ℕ → List ℕ
+slotAt lengths codes j = pick (ltb (j % 64) (getD lengths (j / 64) 0)) (instructionBytes (slotIn codes j)) []
 
-abbrev pub slotsBytes : List ℕ → List ℕ → List ℕ → ℕ → List ℕ
-slotsBytes lengths opcodes operands s = joined s (slotAt lengths opcodes operands)
+abbrev pub slotsBytes : List ℕ → List ℕ → ℕ → List ℕ
+slotsBytes lengths codes s = joined s (slotAt lengths codes)
 
 -- xs was put at a place, and r is the place behind it
 pub record Put (before : List ℕ) (at : ℕ) (xs : List ℕ) (r : ℕ) (after : List ℕ) : Type 0 where

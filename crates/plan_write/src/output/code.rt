@@ -2,17 +2,19 @@
 ghost use mathlib.Core.Path.{_≡_};
 ghost use Prim.Native.Nat.{_+_, _*_, _≤_};
 ghost use lib.ListN.{length};
-ghost use Rattle.plan_write.specs.output.Output.{overlay, bytesOf, slotsBytes};
+ghost use Rattle.plan.specs.Layout.{instructionBytes};
+ghost use Rattle.plan_write.specs.output.Output.{overlay, slotsBytes};
 use super::bytes::put_word;
+use plan::Instruction;
 
 // The bytes of an instruction put at a place of the output.
-fn put_instruction(out: &mut [u8], at: usize, opcode: u8, operand: u16)
+fn put_instruction(out: &mut [u8], at: usize, i: Instruction)
     requires { ⌜ at + 4 ≤ length (now out) ⌝ }
-    ensures { λ _. ⌜ now (out .exit) ≡ overlay (now (out .entry)) at (bytesOf opcode operand) ⌝ }
+    ensures { λ _. ⌜ now (out .exit) ≡ overlay (now (out .entry)) at (instructionBytes i) ⌝ }
 {
-    out[at] = opcode;
-    out[at + 1] = 0;
-    put_word(out, at + 2, operand);
+    out[at] = i.opcode;
+    out[at + 1] = i.level;
+    put_word(out, at + 2, i.operand);
 }
 
 // The instructions of all tasks, put at a place of the output.
@@ -21,16 +23,15 @@ pub fn write_code<'a>(
     start: usize,
     tasks: u8,
     lengths: &'a [u8; 64],
-    opcodes: &'a [u8; 4096],
-    operands: &'a [u16; 4096],
+    codes: &'a [u32; 4096],
 )
     requires { ⌜ (tasks ≤ 64)
-        × (start + length (slotsBytes (now lengths) (now opcodes) (now operands) (64 * tasks)) ≤ length (now out)) ⌝ }
+        × (start + length (slotsBytes (now lengths) (now codes) (64 * tasks)) ≤ length (now out)) ⌝ }
     ensures { λ _. ⌜ now (out .exit)
         ≡ overlay
         (now (out .entry))
         start
-        (slotsBytes (now (lengths .entry)) (now (opcodes .entry)) (now (operands .entry)) (64 * tasks)) ⌝ }
+        (slotsBytes (now (lengths .entry)) (now (codes .entry)) (64 * tasks)) ⌝ }
 {
     let end = 64 * base::wide8(tasks);
     let mut at = start;
@@ -41,9 +42,8 @@ pub fn write_code<'a>(
             // the rest of the task's slots is unused
             s = 64 * (k + 1);
         } else {
-            let opcode = opcodes[s];
-            let operand = operands[s];
-            put_instruction(out, at, opcode, operand);
+            let x = Instruction::of(codes[s]);
+            put_instruction(out, at, x);
             at += 4;
             s += 1;
         }

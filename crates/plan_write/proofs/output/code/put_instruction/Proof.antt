@@ -28,7 +28,7 @@ returns : tie.Need-returns
 returns c =
     let b = c .before .before .before .before .before in
     let a = b .args in
-    instruction-put (a .out .now) (a .at) (a .opcode) (a .operand) _ (b .pre) (c .before .before .put-word .ensures)
+    instruction-put (a .out .now) (a .at) (a .i) _ (b .pre) (c .before .before .put-word .ensures)
 
 pub put-instruction-spec : {M : Type 1} → statement M
 put-instruction-spec =

@@ -1,20 +1,22 @@
 -- `code::write_code` puts the instructions of all tasks. The loop's invariant: those of the first s slots are put, and the output is as long as it was.
-use mathlib.Core.Path.{_≡_, refl}
+use mathlib.Core.Path.{_≡_, refl, _∙_, ap}
 use Prim.Native.Nat.{_≤_, _+_, _*_, _-_}
 use native.Mathlib.Omega.{arith}
 use lib.ListN.{length}
 use borrow.Author.Needs.{needs}
-use Rattle.plan_write.specs.output.Output.{slotsBytes, Put}
+use Rattle.plan.specs.declared.Instruction.{Instruction}
+use Rattle.plan.specs.Layout.{instructionBytes}
+use Rattle.plan_write.specs.output.Output.{overlay, slotsBytes, Put}
 use Rattle.plan_write.proofs.output.Slot.{slots-none, slots-room, slots-step, slots-skip}
 use Rattle.plan_write.proofs.output.code.write_code.Statement.{statement}
 use Rattle.plan_write.proofs.output.code.write_code.Tie as tie
 
 abbrev Inv-loop : tie.InvT-loop
-Inv-loop out₀ start tasks lengths opcodes operands end at₀ s₀ out at s =
-    (s ≤ end) × (end ≡ 64 * tasks) × (length out ≡ length out₀) × Put out₀ start (slotsBytes lengths opcodes operands s) at out
+Inv-loop out₀ start tasks lengths codes end at₀ s₀ out at s =
+    (s ≤ end) × (end ≡ 64 * tasks) × (length out ≡ length out₀) × Put out₀ start (slotsBytes lengths codes s) at out
 
 abbrev μ-loop : tie.MeasureT-loop
-μ-loop out₀ start tasks lengths opcodes operands end at₀ s₀ out at s = end - s
+μ-loop out₀ start tasks lengths codes end at₀ s₀ out at s = end - s
 
 -- a used slot has room
 room : (e : tie.Else1 Inv-loop μ-loop)
@@ -23,7 +25,7 @@ room e =
     let l = e .before .before .before .before in
     let b = l .before .before .before in
     let a = b .args in
-    slots-room (a .out .now) (a .start) (a .lengths .now) (a .opcodes .now) (a .operands .now) (64 * a .tasks) (l .loop .s) (l .loop .at)
+    slots-room (a .out .now) (a .start) (a .lengths .now) (a .codes .now) (64 * a .tasks) (l .loop .s) (l .loop .at)
     (omega arith) (b .pre .1) (l .loop .inv .3 .next) (omega arith)
 
 wide8-requires : tie.Need-wide8-requires Inv-loop μ-loop
@@ -35,7 +37,7 @@ mul-end c = omega arith
 loop-holds : tie.Need-loop-holds Inv-loop μ-loop
 loop-holds c =
     let a = c .before .before .args in
-    (omega arith, omega arith, refl, slots-none (a .out .now) (a .start) (a .lengths .now) (a .opcodes .now) (a .operands .now))
+    (omega arith, omega arith, refl, slots-none (a .out .now) (a .start) (a .lengths .now) (a .codes .now))
 
 element-copy-out-wide8 : tie.Need-element-copy-out-wide8 Inv-loop μ-loop
 element-copy-out-wide8 c = omega arith
@@ -59,18 +61,18 @@ loop-again c =
       omega arith,
       l .loop .inv .1,
       l .loop .inv .2,
-      slots-skip (a .out .now) (a .start) (a .lengths .now) (a .opcodes .now) (a .operands .now) (l .loop .s) (l .loop .at) (l .loop .out)
+      slots-skip (a .out .now) (a .start) (a .lengths .now) (a .codes .now) (l .loop .s) (l .loop .at) (l .loop .out)
           (omega arith) (l .loop .inv .3),
     )
 
-element-copy-out-opcode : tie.Need-element-copy-out-opcode Inv-loop μ-loop
-element-copy-out-opcode c = omega arith
+mul-of : tie.Need-mul-of Inv-loop μ-loop
+mul-of c = omega arith
 
-mul-operand : tie.Need-mul-operand Inv-loop μ-loop
-mul-operand c = omega arith
+element-copy-out-of : tie.Need-element-copy-out-of Inv-loop μ-loop
+element-copy-out-of c = omega arith
 
-element-copy-out-operand : tie.Need-element-copy-out-operand Inv-loop μ-loop
-element-copy-out-operand c = omega arith
+of-requires : tie.Need-of-requires Inv-loop μ-loop
+of-requires c κs = search needs
 
 put-instruction-requires : tie.Need-put-instruction-requires Inv-loop μ-loop
 put-instruction-requires c κs = omega (arith, room (c .before .before .before))
@@ -86,15 +88,17 @@ loop-less-2 c = omega arith
 
 loop-again-2 : tie.Need-loop-again-2 Inv-loop μ-loop
 loop-again-2 c =
-    let e = c .before .before .before .before .before .before in
+    let put = c .before .before in
+    let e = put .before .before .before .before in
     let l = e .before .before .before .before in
     let b = l .before .before .before in
     let a = b .args in (
       omega arith,
       l .loop .inv .1,
       omega arith,
-      slots-step (a .out .now) (a .start) (a .lengths .now) (a .opcodes .now) (a .operands .now) (l .loop .s) (l .loop .at) (l .loop .out) _
-          (omega arith) (l .loop .inv .3) (omega arith) (c .before .before .put-instruction .ensures),
+      slots-step (a .out .now) (a .start) (a .lengths .now) (a .codes .now) (l .loop .s) (l .loop .at) (l .loop .out) _
+          (omega arith) (l .loop .inv .3) (omega arith)
+          (put .put-instruction .ensures ∙ ap (λ (x : Instruction). overlay (l .loop .out) (l .loop .at) (instructionBytes x)) (put .before .before .of .ensures)),
     )
 
 same-length : tie.Need-same-length Inv-loop μ-loop
@@ -121,9 +125,9 @@ write-code-spec =
     mul-s
     loop-less
     loop-again
-    element-copy-out-opcode
-    mul-operand
-    element-copy-out-operand
+    mul-of
+    element-copy-out-of
+    of-requires
     put-instruction-requires
     add-at
     add-s-2
