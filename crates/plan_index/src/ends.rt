@@ -32,13 +32,12 @@ pub fn derive(p: Plan) -> Ends
     let pass = pass_slots(
         tasks,
         &p.lengths,
-        &p.opcodes,
-        &p.operands,
+        &p.codes,
         &mut parents,
         &mut senders,
         &mut receivers,
     );
-    let numbers = numbers::send_numbers(tasks, &p.lengths, &p.opcodes, &p.operands);
+    let numbers = numbers::send_numbers(tasks, &p.lengths, &p.codes);
     Ends {
         senders: senders,
         receivers: receivers,

@@ -34,24 +34,24 @@ use Rattle.plan_index.specs.ends.Numbers.{SendsFitAll, sentIn, slotNumbe
 module _ (p : Plan) where
   -- how many sends there are up to an instruction
   sent-of : (k i c : ℕ) → k < p .tasks → i ≤ getD (p .lengths) k 0
-      → sentIn (p .opcodes) (p .operands) k i c ≡ sendNumber (programAt (programs p) k) (channelId c) i
+      → sentIn (p .codes) k i c ≡ sendNumber (programAt (programs p) k) (channelId c) i
   unfolding sendNumber
   sent-of k i c h l = fold-same _+_ 0 i _ _ (λ j q. ap (λ (x : Instruction). pick (isUse opSend c x) 1 0) (sym (instruction-of p k j h (omega arith))))
 
   -- the number in a slot that is used, and in one that is not
   used-number : (s : ℕ) → s / 64 < p .tasks → s % 64 < getD (p .lengths) (s / 64) 0
-      → pick (eqb (getD (p .opcodes) s 0) opSend) (slotNumber (p .opcodes) (p .operands) s) 0 ≡ numberIn (programs p) s
+      → pick (eqb (slotOf p s .opcode) opSend) (slotNumber (p .codes) s) 0 ≡ numberIn (programs p) s
   unfolding numberIn
   used-number s h l =
       let whole : 64 * (s / 64) + s % 64 ≡ s = omega arith in
       let slot : inSlot (programs p) s ≡ slotOf p s = rw whole at (instruction-of p (s / 64) (s % 64) h l) in
-      rw (slot, sent-of (s / 64) (s % 64 + 1) (getD (p .operands) s 0) h (omega arith)) refl
+      rw (slot, sent-of (s / 64) (s % 64 + 1) (slotOf p s .operand) h (omega arith)) refl
 
   no-number : (s : ℕ) → length (programAt (programs p) (s / 64)) ≤ s % 64 → 0 ≡ numberIn (programs p) s
   unfolding numberIn
   no-number s h = rw (List·getD-eq-default (programAt (programs p) (s / 64)) noInstruction h) refl
 
-  numbers-of : sendNumbers (p .tasks) (p .lengths) (p .opcodes) (p .operands) ≡ table 4096 (numberIn (programs p))
+  numbers-of : sendNumbers (p .tasks) (p .lengths) (p .codes) ≡ table 4096 (numberIn (programs p))
   numbers-of =
       table-same 4096 _ (numberIn (programs p))
       (λ s b.
@@ -71,7 +71,7 @@ module _ (p : Plan) (a : planAnswer (programs p) ≡ Accepted) where
   pub tasks-few : p .tasks ≤ 64
   tasks-few = few-tasks (p .tasks) (p .lengths) sizes
 
-  pub sends-fit : SendsFitAll (p .tasks) (p .lengths) (p .opcodes) (p .operands)
+  pub sends-fit : SendsFitAll (p .tasks) (p .lengths) (p .codes)
   sends-fit k h =
       let m = programs p in
       let l : k < length m = rw (tasks-of p) h in
@@ -80,10 +80,10 @@ module _ (p : Plan) (a : planAnswer (programs p) ≡ Accepted) where
         λ i q e.
             let fine : instructionOk (length m) (slotOf p (64 * k + i)) ≡ true =
             rw (instruction-of p k i h q) at (instruction-fine m a k l i (rw count q)) in
-            within-high 1 128 (getD (p .operands) (64 * k + i) 0) (send-operand (length m) (slotOf p (64 * k + i)) fine e),
+            within-high 1 128 (slotOf p (64 * k + i) .operand) (send-operand (length m) (slotOf p (64 * k + i)) fine e),
       )
 
-  pub send-numbers-of : sendNumbers (p .tasks) (p .lengths) (p .opcodes) (p .operands) ≡ endsOf p .numbers
+  pub send-numbers-of : sendNumbers (p .tasks) (p .lengths) (p .codes) ≡ endsOf p .numbers
   unfolding endsOf
   send-numbers-of = numbers-of p
 

@@ -21,30 +21,30 @@ use Rattle.plan_value.specs.Slots.{slotIn}
 use Rattle.plan_index.specs.ends.Numbers.{sentIn, slotNumber, sendOf, numberedTask, sendNumbers}
 use Rattle.plan_index.proofs.ends.Filling.{ltb-other, fill-more}
 
-module _ (opcodes operands : List ℕ) (k : ℕ) where
-  pub sent-none : replicate 129 0 ≡ table 129 (sentIn opcodes operands k 0)
+module _ (codes : List ℕ) (k : ℕ) where
+  pub sent-none : replicate 129 0 ≡ table 129 (sentIn codes k 0)
   sent-none = all-same 129 _ 0 (λ c h. fold-none _+_ 0 _)
 
-  pub numbers-none : (old : List ℕ) → length old ≡ 4096 → old ≡ numberedTask opcodes operands old k 0
+  pub numbers-none : (old : List ℕ) → length old ≡ 4096 → old ≡ numberedTask codes old k 0
   numbers-none old e =
       let same : table 4096 (λ s. getD old s 0) ≡ old = rw e at (as-table old 0) in
       sym same ∙ table-same 4096 _ _ (λ s h. simp (le-ltb (s % 64) 0 (omega arith), and-false))
 
   -- as many at most as instructions
-  sent-few : (i c : ℕ) → sentIn opcodes operands k i c ≤ i
+  sent-few : (i c : ℕ) → sentIn codes k i c ≤ i
   sent-few i c =
-      let sends : ℕ → Bool = λ j. isUse opSend c (slotIn opcodes operands (64 * k + j)) in
+      let sends : ℕ → Bool = λ j. isUse opSend c (slotIn codes (64 * k + j)) in
       omega (arith, sum-at-most 1 i (λ j. pick (sends j) 1 0) (λ j h. pick-either (λ w. w ≤ 1) (sends j) 1 0 (omega arith) (omega arith)))
 
   module _ (i : ℕ) where
     abbrev here : ℕ
     here = 64 * k + i
 
-    more : (c : ℕ) → sentIn opcodes operands k (i + 1) c ≡ sentIn opcodes operands k i c + pick (isUse opSend c (slotIn opcodes operands here)) 1 0
+    more : (c : ℕ) → sentIn codes k (i + 1) c ≡ sentIn codes k i c + pick (isUse opSend c (slotIn codes here)) 1 0
     more c = fold-more _+_ 0 i _
 
     -- no other slot is numbered
-    other : (j : ℕ) → j ≢ here → sendOf opcodes k i j ≡ sendOf opcodes k (i + 1) j
+    other : (j : ℕ) → j ≢ here → sendOf codes k i j ≡ sendOf codes k (i + 1) j
     other j ne =
         by-cases
         (ℕ-discrete (j / 64) k)
@@ -52,54 +52,54 @@ module _ (opcodes operands : List ℕ) (k : ℕ) where
         (λ q. rw (ne-eqb (j / 64) k q) refl)
 
     -- an instruction that is no send
-    module _ (none : getD opcodes here 0 ≢ opSend) where
-      pub sent-same : table 129 (sentIn opcodes operands k i) ≡ table 129 (sentIn opcodes operands k (i + 1))
-      sent-same = table-same 129 _ _ (λ c h. sym (more c ∙ simp (ne-eqb (getD opcodes here 0) opSend none) (omega arith)))
+    module _ (none : slotIn codes here .opcode ≢ opSend) where
+      pub sent-same : table 129 (sentIn codes k i) ≡ table 129 (sentIn codes k (i + 1))
+      sent-same = table-same 129 _ _ (λ c h. sym (more c ∙ simp (ne-eqb (slotIn codes here .opcode) opSend none) (omega arith)))
 
-      pub numbers-same : (old : List ℕ) → numberedTask opcodes operands old k i ≡ numberedTask opcodes operands old k (i + 1)
+      pub numbers-same : (old : List ℕ) → numberedTask codes old k i ≡ numberedTask codes old k (i + 1)
       numbers-same old =
           table-same 4096 _ _
           (λ j h.
-          ap (λ (b : Bool). pick b (slotNumber opcodes operands j) (getD old j 0))
-          (by-cases (ℕ-discrete j here) (λ (e : j ≡ here). rw (e, ne-eqb (getD opcodes here 0) opSend none) (simp and-false)) (other j)))
+          ap (λ (b : Bool). pick b (slotNumber codes j) (getD old j 0))
+          (by-cases (ℕ-discrete j here) (λ (e : j ≡ here). rw (e, ne-eqb (slotIn codes here .opcode) opSend none) (simp and-false)) (other j)))
 
     -- a send on channel c
-    module _ (sends : getD opcodes here 0 ≡ opSend) (c : ℕ) (on : c ≡ getD operands here 0) (fits : c ≤ 128)
-        (sent : List ℕ) (counted : sent ≡ table 129 (sentIn opcodes operands k i)) where
-      before : getD sent c 0 ≡ sentIn opcodes operands k i c
-      before = rw counted (getD-table 129 (sentIn opcodes operands k i) c 0 (omega arith))
+    module _ (sends : slotIn codes here .opcode ≡ opSend) (c : ℕ) (on : c ≡ slotIn codes here .operand) (fits : c ≤ 128)
+        (sent : List ℕ) (counted : sent ≡ table 129 (sentIn codes k i)) where
+      before : getD sent c 0 ≡ sentIn codes k i c
+      before = rw counted (getD-table 129 (sentIn codes k i) c 0 (omega arith))
 
-      next : getD sent c 0 + 1 ≡ sentIn opcodes operands k (i + 1) c
-      next = rw (before, more c, eq-eqb (getD opcodes here 0) opSend sends, eq-eqb (getD operands here 0) c (sym on)) refl
+      next : getD sent c 0 + 1 ≡ sentIn codes k (i + 1) c
+      next = rw (before, more c, eq-eqb (slotIn codes here .opcode) opSend sends, eq-eqb (slotIn codes here .operand) c (sym on)) refl
 
       pub number-few : getD sent c 0 ≤ i
       number-few = rw before (sent-few i c)
 
-      pub sent-more : set sent c (getD sent c 0 + 1) ≡ table 129 (sentIn opcodes operands k (i + 1))
+      pub sent-more : set sent c (getD sent c 0 + 1) ≡ table 129 (sentIn codes k (i + 1))
       sent-more =
           rw (next, counted)
-          (set-table 129 (sentIn opcodes operands k i) (sentIn opcodes operands k (i + 1)) c 0 (omega arith)
-          (λ j h ne. sym (more j ∙ simp (eq-eqb (getD opcodes here 0) opSend sends, ne-eqb (getD operands here 0) j (λ q. ne (omega arith))) (omega arith))))
+          (set-table 129 (sentIn codes k i) (sentIn codes k (i + 1)) c 0 (omega arith)
+          (λ j h ne. sym (more j ∙ simp (eq-eqb (slotIn codes here .opcode) opSend sends, ne-eqb (slotIn codes here .operand) j (λ q. ne (omega arith))) (omega arith))))
 
-      pub numbers-more : k < 64 → i < 64 → (old numbers : List ℕ) → numbers ≡ numberedTask opcodes operands old k i
-          → set numbers here (getD sent c 0 + 1) ≡ numberedTask opcodes operands old k (i + 1)
+      pub numbers-more : k < 64 → i < 64 → (old numbers : List ℕ) → numbers ≡ numberedTask codes old k i
+          → set numbers here (getD sent c 0 + 1) ≡ numberedTask codes old k (i + 1)
       numbers-more h l old numbers e =
-          let number : getD sent c 0 + 1 ≡ slotNumber opcodes operands here = rw (row-of k i l, place-of k i l, ← on) next in
+          let number : getD sent c 0 + 1 ≡ slotNumber codes here = rw (row-of k i l, place-of k i l, ← on) next in
           rw (number, e)
-          (fill-more 4096 (slotNumber opcodes operands) (λ s. getD old s 0) (sendOf opcodes k i) (sendOf opcodes k (i + 1)) here (omega arith)
-          (simp (row-of k i l, place-of k i l, eq-eqb k k refl, lt-ltb i (i + 1) (omega arith), eq-eqb (getD opcodes here 0) opSend sends))
+          (fill-more 4096 (slotNumber codes) (λ s. getD old s 0) (sendOf codes k i) (sendOf codes k (i + 1)) here (omega arith)
+          (simp (row-of k i l, place-of k i l, eq-eqb k k refl, lt-ltb i (i + 1) (omega arith), eq-eqb (slotIn codes here .opcode) opSend sends))
           other)
 
 -- one task more
-pub tasks-none : (lengths opcodes operands : List ℕ) → replicate 4096 0 ≡ sendNumbers 0 lengths opcodes operands
-tasks-none lengths opcodes operands = all-same 4096 _ 0 (λ s h. simp (le-ltb (s / 64) 0 (omega arith)))
+pub tasks-none : (lengths codes : List ℕ) → replicate 4096 0 ≡ sendNumbers 0 lengths codes
+tasks-none lengths codes = all-same 4096 _ 0 (λ s h. simp (le-ltb (s / 64) 0 (omega arith)))
 
-pub tasks-more : (lengths opcodes operands : List ℕ) (k : ℕ)
-    → numberedTask opcodes operands (sendNumbers k lengths opcodes operands) k (getD lengths k 0) ≡ sendNumbers (k + 1) lengths opcodes operands
-tasks-more lengths opcodes operands k =
+pub tasks-more : (lengths codes : List ℕ) (k : ℕ)
+    → numberedTask codes (sendNumbers k lengths codes) k (getD lengths k 0) ≡ sendNumbers (k + 1) lengths codes
+tasks-more lengths codes k =
     table-same 4096 _ _
     (λ s h.
-    ap (pick (sendOf opcodes k (getD lengths k 0) s) (slotNumber opcodes operands s)) (getD-table 4096 _ s 0 h)
+    ap (pick (sendOf codes k (getD lengths k 0) s) (slotNumber codes s)) (getD-table 4096 _ s 0 h)
     ∙ by-cases
     (ℕ-discrete (s / 64) k)
     (λ (e : s / 64 ≡ k). simp (e, eq-eqb k k refl, lt-ltb k (k + 1) (omega arith), le-ltb k k (omega arith)))

@@ -9,26 +9,22 @@ ghost use Rattle.plan.specs.Refusals.{planAnswer};
 ghost use Rattle.plan_value.specs.Slots.{planIn};
 ghost use Rattle.plan_index.specs.ends.Derived.{endsOf};
 ghost use Rattle.plan_index.specs.ends.Numbers.{SendsFit, numberedTask};
+use plan::Instruction;
 use plan::SEND;
 
 // The sends of task k + 1, which has `count` instructions, numbered.
-fn number_task<'a>(
-    k: usize,
-    count: usize,
-    opcodes: &'a [u8; 4096],
-    operands: &'a [u16; 4096],
-    numbers: &'a mut [u8; 4096],
-)
-    requires { ⌜ (k < 64) × (count ≤ 64) × (length (now numbers) ≡ 4096) × SendsFit (now opcodes) (now operands) k count ⌝ }
-    ensures { λ r. ⌜ now (numbers .exit) ≡ numberedTask (now (opcodes .entry)) (now (operands .entry)) (now (numbers .entry)) k count ⌝ }
+fn number_task<'a>(k: usize, count: usize, codes: &'a [u32; 4096], numbers: &'a mut [u8; 4096])
+    requires { ⌜ (k < 64) × (count ≤ 64) × (length (now numbers) ≡ 4096) × SendsFit (now codes) k count ⌝ }
+    ensures { λ r. ⌜ now (numbers .exit) ≡ numberedTask (now (codes .entry)) (now (numbers .entry)) k count ⌝ }
 {
     // how many sends on each channel there were
     let mut sent = [0u8; 129];
     let mut i: usize = 0;
     while i < count {
         let s = 64 * k + i;
-        if opcodes[s] == SEND {
-            let c = base::wide16(operands[s]);
+        let x = Instruction::of(codes[s]);
+        if x.opcode == SEND {
+            let c = base::wide16(x.operand);
             let before = sent[c];
             let n = before + 1;
             sent[c] = n;
@@ -39,21 +35,16 @@ fn number_task<'a>(
 }
 
 // The numbers of all sends of an accepted plan, task by task.
-pub fn send_numbers<'a>(
-    tasks: u8,
-    lengths: &'a [u8; 64],
-    opcodes: &'a [u8; 4096],
-    operands: &'a [u16; 4096],
-) -> [u8; 4096]
-    requires { ⌜ planAnswer (programs (planIn tasks (now lengths) (now opcodes) (now operands))) ≡ Accepted ⌝ }
-    ensures { λ r. ⌜ r ≡ endsOf (planIn tasks (now (lengths .entry)) (now (opcodes .entry)) (now (operands .entry))) .numbers ⌝ }
+pub fn send_numbers<'a>(tasks: u8, lengths: &'a [u8; 64], codes: &'a [u32; 4096]) -> [u8; 4096]
+    requires { ⌜ planAnswer (programs (planIn tasks (now lengths) (now codes))) ≡ Accepted ⌝ }
+    ensures { λ r. ⌜ r ≡ endsOf (planIn tasks (now (lengths .entry)) (now (codes .entry))) .numbers ⌝ }
 {
     let n = base::wide8(tasks);
     let mut numbers = [0u8; 4096];
     let mut k: usize = 0;
     while k < n {
         let count = base::wide8(lengths[k]);
-        number_task(k, count, opcodes, operands, &mut numbers);
+        number_task(k, count, codes, &mut numbers);
         k += 1;
     }
     numbers

@@ -9,18 +9,18 @@ use Rattle.plan_index.proofs.ends.derive.Tie as tie
 
 -- where the function starts, from each call's arguments
 abbrev from1 : tie.After-pass-slots → tie.Start
-from1 c = c .before .before .before .before .before .before .before .before
+from1 c = c .before .before .before .before .before .before .before
 
 abbrev passed : tie.After-send-numbers → tie.After-pass-slots
-passed c = c .before .before .before .before .before
+passed c = c .before .before .before .before
 
 pass-slots-requires : tie.Need-pass-slots-requires
 pass-slots-requires c κs =
-    let s = c .before .before .before .before .before .before .before in
+    let s = c .before .before .before .before .before .before in
     (sizes (s .args .t1) (s .pre), record { parents = refl; senders = refl; receivers = refl })
 
 send-numbers-requires : tie.Need-send-numbers-requires
-send-numbers-requires c κs = from1 (c .before .before .before .before) .pre
+send-numbers-requires c κs = from1 (c .before .before .before) .pre
 
 returns : tie.Need-returns
 returns c =

@@ -13,14 +13,14 @@ use Rattle.plan_index.proofs.ends.numbers.send_numbers.Statement.{state
 use Rattle.plan_index.proofs.ends.numbers.send_numbers.Tie as tie
 
 abbrev Inv-loop : tie.InvT-loop
-Inv-loop tasks lengths opcodes operands n numbers₀ k₀ numbers k = (k ≤ n) × (n ≡ tasks) × (numbers ≡ sendNumbers k lengths opcodes operands)
+Inv-loop tasks lengths codes n numbers₀ k₀ numbers k = (k ≤ n) × (n ≡ tasks) × (numbers ≡ sendNumbers k lengths codes)
 
 abbrev μ-loop : tie.MeasureT-loop
-μ-loop tasks lengths opcodes operands n numbers₀ k₀ numbers k = n - k
+μ-loop tasks lengths codes n numbers₀ k₀ numbers k = n - k
 
 -- the plan of which the slots are lent
 abbrev plan-at : tie.Start Inv-loop μ-loop → Plan
-plan-at c = let a = c .args in planIn (a .tasks) (a .lengths .now) (a .opcodes .now) (a .operands .now)
+plan-at c = let a = c .args in planIn (a .tasks) (a .lengths .now) (a .codes .now)
 
 wide8-requires : tie.Need-wide8-requires Inv-loop μ-loop
 wide8-requires c κs = search needs
@@ -28,7 +28,7 @@ wide8-requires c κs = search needs
 loop-holds : tie.Need-loop-holds Inv-loop μ-loop
 loop-holds c =
     let a = c .before .args in
-    (search needs, c .wide8 .ensures, tasks-none (a .lengths .now) (a .opcodes .now) (a .operands .now))
+    (search needs, c .wide8 .ensures, tasks-none (a .lengths .now) (a .codes .now))
 
 element-copy-out-wide8 : tie.Need-element-copy-out-wide8 Inv-loop μ-loop
 element-copy-out-wide8 c =
@@ -62,7 +62,7 @@ loop-again c =
     let a = l .before .before .args in (
       omega arith,
       l .loop .inv .1,
-      rw (c .number-task .ensures, l .loop .inv .2, c .before .before .wide82 .ensures) (tasks-more (a .lengths .now) (a .opcodes .now) (a .operands .now) (l .loop .k)),
+      rw (c .number-task .ensures, l .loop .inv .2, c .before .before .wide82 .ensures) (tasks-more (a .lengths .now) (a .codes .now) (l .loop .k)),
     )
 
 returns : tie.Need-returns Inv-loop μ-loop
