@@ -16,7 +16,7 @@ use Rattle.plan.specs.Programs.{Programs}
 use Rattle.plan.specs.Answers.{isAccepted}
 use Rattle.plan.specs.Refusals.{planAnswer}
 use Rattle.plan.specs.Files.{filePrograms}
-use Rattle.plan.proofs.Edges.{does, worked}
+use Rattle.plan.proofs.Edges.{does, doesOn, wordOf, worked}
 use Rattle.plan.proofs.WriteEdges.{sameBytes}
 use Rattle.net.specs.States.{Net, startNet}
 use Rattle.net.specs.Labels.{Label, own, pass}
@@ -80,6 +80,10 @@ sampleHolds x = isAccepted (planAnswer (x .plan)) && played x startNet (x .run)
 abbrev end : Instruction
 end = does opFinish 0
 
+-- the numbers of a word whose level 0 is n, and its others 0
+abbrev word : ℕ → List ℕ
+word n = wordNumbers (wordOf n)
+
 -- in a state where these tasks and channels may act, task t does; or a word passes channel c
 abbrev acts : List ℕ → List ℕ → ℕ → Moment
 acts tasks channels t = record { tasks = tasks; channels = channels; taken = own (taskId t) }
@@ -101,8 +105,8 @@ workedSample =
           ∷ acts (1 ∷ []) [] 1
           ∷ acts (1 ∷ []) [] 1
           ∷ [];
-      tasks = (1 ∷ 5 ∷ 0 ∷ 7 ∷ []) ∷ (1 ∷ 3 ∷ 0 ∷ 8 ∷ []) ∷ [];
-      channels = [] ∷ [] ∷ (7 ∷ []) ∷ [];
+      tasks = (1 ∷ 5 ∷ 0 ∷ word 7) ∷ (1 ∷ 3 ∷ 0 ∷ word 8) ∷ [];
+      channels = [] ∷ [] ∷ word 7 ∷ [];
     }
 
 -- a sync waits for the child created before it and not for the one created after it; that one and its own child each receive first what the
@@ -117,7 +121,7 @@ childrenSample =
           ∷ (does opReceive 1 ∷ does opSend 2 ∷ end ∷ [])
           ∷ [];
       run = acts (1 ∷ []) [] 1 ∷ acts (2 ∷ []) [] 2 ∷ acts (1 ∷ []) [] 1 ∷ acts (1 ∷ []) [] 1 ∷ acts (3 ∷ []) [] 3 ∷ [];
-      tasks = (1 ∷ 3 ∷ 0 ∷ 0 ∷ []) ∷ (1 ∷ 1 ∷ 0 ∷ 0 ∷ []) ∷ (1 ∷ 1 ∷ 0 ∷ 0 ∷ []) ∷ (1 ∷ 0 ∷ 0 ∷ 0 ∷ []) ∷ [];
+      tasks = (1 ∷ 3 ∷ 0 ∷ word 0) ∷ (1 ∷ 1 ∷ 0 ∷ word 0) ∷ (1 ∷ 1 ∷ 0 ∷ word 0) ∷ (1 ∷ 0 ∷ 0 ∷ word 0) ∷ [];
       channels = [] ∷ [] ∷ [] ∷ [];
     }
 
@@ -139,8 +143,8 @@ wordsSample =
           ∷ acts (2 ∷ []) [] 2
           ∷ acts (2 ∷ []) [] 2
           ∷ [];
-      tasks = (1 ∷ 5 ∷ 1 ∷ 2 ∷ []) ∷ (1 ∷ 4 ∷ 0 ∷ 9 ∷ []) ∷ [];
-      channels = (65535 ∷ 2 ∷ []) ∷ [] ∷ [] ∷ [];
+      tasks = (1 ∷ 5 ∷ 1 ∷ word 2) ∷ (1 ∷ 4 ∷ 0 ∷ word 9) ∷ [];
+      channels = (word 65535 ++ word 2) ∷ [] ∷ [] ∷ [];
     }
 
 -- a sum over the top marks its task: no other add does and no set, none takes the mark away, and who receives the word has no mark of it
@@ -164,8 +168,32 @@ marksSample =
           ∷ acts (2 ∷ []) [] 2
           ∷ acts (1 ∷ []) [] 1
           ∷ [];
-      tasks = (1 ∷ 7 ∷ 1 ∷ 5 ∷ []) ∷ (1 ∷ 5 ∷ 0 ∷ 5 ∷ []) ∷ [];
-      channels = (5 ∷ []) ∷ [] ∷ [] ∷ [];
+      tasks = (1 ∷ 7 ∷ 1 ∷ word 5) ∷ (1 ∷ 5 ∷ 0 ∷ word 5) ∷ [];
+      channels = word 5 ∷ [] ∷ [] ∷ [];
+    }
+
+-- each of the four levels is set and added to apart; a sum over the top in the last marks its task, and all four pass
+abbrev levelsSample : Sample
+levelsSample =
+    record {
+      plan =
+          (does opCreate 2 ∷ doesOn 3 opSet 65535 ∷ doesOn 1 opSet 65535 ∷ doesOn 3 opAdd 1 ∷ doesOn 2 opAdd 4 ∷ does opSend 1 ∷ end ∷ [])
+          ∷ (does opSet 9 ∷ does opReceive 1 ∷ doesOn 1 opAdd 0 ∷ end ∷ [])
+          ∷ [];
+      run =
+          acts (1 ∷ []) [] 1
+          ∷ acts (1 ∷ 2 ∷ []) [] 1
+          ∷ acts (1 ∷ 2 ∷ []) [] 1
+          ∷ acts (1 ∷ 2 ∷ []) [] 1
+          ∷ acts (1 ∷ 2 ∷ []) [] 1
+          ∷ acts (2 ∷ []) [] 2
+          ∷ passes [] (1 ∷ []) 1
+          ∷ acts (2 ∷ []) [] 2
+          ∷ acts (2 ∷ []) [] 2
+          ∷ acts (1 ∷ []) [] 1
+          ∷ [];
+      tasks = (1 ∷ 7 ∷ 1 ∷ 0 ∷ 65535 ∷ 4 ∷ 0 ∷ []) ∷ (1 ∷ 4 ∷ 0 ∷ 0 ∷ 65535 ∷ 4 ∷ 0 ∷ []) ∷ [];
+      channels = (0 ∷ 65535 ∷ 4 ∷ 0 ∷ []) ∷ [] ∷ [] ∷ [];
     }
 
 -- a task that is not born yet: its word may not pass
@@ -178,7 +206,7 @@ bornSample =
           ∷ (does opSend 1 ∷ end ∷ [])
           ∷ [];
       run = acts (1 ∷ []) [] 1 ∷ [];
-      tasks = (1 ∷ 1 ∷ 0 ∷ 0 ∷ []) ∷ (1 ∷ 0 ∷ 0 ∷ 0 ∷ []) ∷ (0 ∷ 0 ∷ 0 ∷ 0 ∷ []) ∷ [];
+      tasks = (1 ∷ 1 ∷ 0 ∷ word 0) ∷ (1 ∷ 0 ∷ 0 ∷ word 0) ∷ (0 ∷ 0 ∷ 0 ∷ word 0) ∷ [];
       channels = [] ∷ [] ∷ [] ∷ [];
     }
 
@@ -202,9 +230,9 @@ severalSample =
           ∷ acts (1 ∷ []) [] 1
           ∷ acts (1 ∷ []) [] 1
           ∷ [];
-      tasks = (1 ∷ 5 ∷ 0 ∷ 4 ∷ []) ∷ (1 ∷ 3 ∷ 0 ∷ 1 ∷ []) ∷ (1 ∷ 2 ∷ 0 ∷ 0 ∷ []) ∷ [];
-      channels = (0 ∷ []) ∷ [] ∷ [] ∷ [];
+      tasks = (1 ∷ 5 ∷ 0 ∷ word 4) ∷ (1 ∷ 3 ∷ 0 ∷ word 1) ∷ (1 ∷ 2 ∷ 0 ∷ word 0) ∷ [];
+      channels = word 0 ∷ [] ∷ [] ∷ [];
     }
 
 unfoldable pub samples : List Sample
-samples = workedSample ∷ childrenSample ∷ wordsSample ∷ marksSample ∷ bornSample ∷ severalSample ∷ []
+samples = workedSample ∷ childrenSample ∷ wordsSample ∷ marksSample ∷ levelsSample ∷ bornSample ∷ severalSample ∷ []
