@@ -6,13 +6,13 @@ use lib.Dec.{eqb}
 use borrow.Author.Tests.{eqb-true}
 use Rattle.base.specs.Choice.{pick}
 use Rattle.base.proofs.Choices.{pick-cases}
-use Rattle.base.proofs.Tests.{is-true, or-neither, tests-differ}
+use Rattle.base.proofs.Tests.{and-right, is-true, or-neither, tests-differ}
 use Rattle.plan.specs.declared.TaskId.{TaskId}
 use Rattle.plan.specs.declared.Instruction.{Instruction}
 use Rattle.plan.specs.declared.Word.{Word}
 use Rattle.plan.specs.Kinds.{opSync, opSend, opReceive, opSet, opAdd, isFinish}
 use Rattle.plan.specs.Programs.{Programs}
-use Rattle.plan.specs.Refusals.{instructionOk}
+use Rattle.plan.specs.Refusals.{levelOk, operandOk, instructionOk}
 use Rattle.plan.specs.Words.{setWord, addWord}
 use Rattle.rules.specs.declared.task.Task.{Task}
 use Rattle.rules.specs.declared.task.TaskState.the-variants.{Waiting}
@@ -67,10 +67,10 @@ module _ (i : Instruction) (no-create : isCreate i ≡ false) (no-finish : isFin
     goes w b e f j = let o : Own i x (wentOn i x) = goes-on no-transfer j in rw (e, f) at o
 
     adds : eqb (i .opcode) opSync ≡ false → eqb (i .opcode) opSet ≡ false → eqb (i .opcode) opAdd ≡ true
-    unfolding instructionOk
+    unfolding operandOk
     adds s p =
         let (no-send, no-receive) = kinds in
-        is-true (eqb (i .opcode) opAdd) (λ e. tests-differ (rw (no-create, s, no-finish, no-send, no-receive, p, e) at fine) refl)
+        is-true (eqb (i .opcode) opAdd) (λ e. tests-differ (rw (no-create, s, no-finish, no-send, no-receive, p, e) at (and-right (levelOk i) _ fine)) refl)
 
     -- which does what is asked of an own act
     own-rule : Own i x (ownRule i x)
