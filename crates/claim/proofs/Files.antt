@@ -10,7 +10,7 @@ use Rattle.plan.specs.declared.Refusal.the-variants.{BadProcessors}
 use Rattle.plan.specs.Files.{filePrograms, fileAnswer, startAnswer}
 use Rattle.plan.specs.Programs.{programs, canonical}
 use Rattle.plan.specs.Refusals.{planAnswer}
-use Rattle.plan_laws.proofs.Answers.{plan-passed, unless-accepted}
+use Rattle.plan_laws.proofs.Answers.{unless-accepted}
 use Rattle.plan_laws.proofs.Canonical.{meaning-canonical}
 use Rattle.plan_laws.proofs.LayoutRead.{file-plan}
 use Rattle.rules.specs.StepFiles.{fileSteps}
@@ -27,7 +27,7 @@ module _ (n : ℕ) (b : List ℕ) (accepted : startAnswer n b ≡ Accepted) wher
   plan-ok = file-plan b (unless-accepted (within 1 6 n) BadProcessors (fileAnswer b) accepted .1)
 
   means : programs (canonical (filePrograms b)) ≡ filePrograms b
-  means = meaning-canonical (filePrograms b) (plan-passed (filePrograms b) plan-ok .sizes)
+  means = meaning-canonical (filePrograms b) plan-ok
 
   pub demand-3-file : (ss : List ℕ) → Demand3 n (canonical (filePrograms b)) (fileSteps ss)
   demand-3-file ss =

@@ -86,7 +86,8 @@ pub record ComesToRest (p : Plan) : Type 0 where
   pub list : List Step
   pub rests : Rests p list
 
--- two rigs agree on task t's state, place and word; "A still rig and a moving one must agree on marks at rest."
+-- two rigs agree on task t's state, place and word, which is four numbers, so on each level; "A still rig and a moving one must agree on marks
+-- at rest."
 pub record SameTask (r q : System) (t : TaskId) : Type 0 where
   pub state : taskAt r t .state ≡ taskAt q t .state
   pub place : taskAt r t .pc ≡ taskAt q t .pc
@@ -105,7 +106,8 @@ pub record SameTask (r q : System) (t : TaskId) : Type 0 where
 --
 -- (b) "and after the list each channel's received words are a beginning of those on a one-desk rig where nothing moves, started from the same plan
 -- and brought to rest by the paper's meaning, in whatever order.": `beginning`, for each list ts that brings the rig of one desk to rest; `one-processor`,
--- that there is such a list. That nothing moves there is no premise: on one desk no move is accepted (`NothingMoves` of Moves).
+-- that there is such a list. That nothing moves there is no premise: on one desk no move is accepted (`NothingMoves` of Moves). The words are
+-- whole ones: "Agreement between rigs covers all four" levels.
 --
 -- (c) "If the moving rig is at rest too, both share every channel's list of received words and every task's state, place and word.": `same-words`
 -- and `same-tasks`, which has the task's mark too.
