@@ -11,7 +11,7 @@ use Rattle.plan.specs.declared.Word.{Word}
 use Rattle.plan.specs.Numbers.{taskId}
 use Rattle.plan.specs.Programs.{programs, canonical}
 use Rattle.plan.specs.Refusals.{planAnswer}
-use Rattle.plan.specs.Words.{wordOf}
+use Rattle.plan.specs.Words.{levels}
 use Rattle.rules.specs.declared.step.Step.{Step}
 use Rattle.rules.specs.declared.task.TaskState.the-variants.{Done}
 use Rattle.rules.specs.declared.task.Task.{Task}
@@ -42,12 +42,19 @@ ruled-rests = refl
 rests : quiescent (from 3 examplePlan exampleAll .system) ≡ true
 rests = rw (run-as-ruled exampleAll) ruled-rests
 
+-- the words that pass
+abbrev first : Word
+first = levels 0 0 33057 0
+
+abbrev second : Word
+second = levels 0 0 5178 0
+
 -- the words received before the last, and at rest; the receiver's word and place
-ruled-before : receivedOn exampleChannel (ruledSteps (started 3 examplePlan) exampleBefore .reports) ≡ wordOf 33057 ∷ wordOf 5178 ∷ []
+ruled-before : receivedOn exampleChannel (ruledSteps (started 3 examplePlan) exampleBefore .reports) ≡ first ∷ second ∷ []
 unfolding evaluated
 ruled-before = refl
 
-ruled-all : receivedOn exampleChannel (ruledSteps (started 3 examplePlan) exampleAll .reports) ≡ wordOf 33057 ∷ wordOf 5178 ∷ wordOf 5178 ∷ []
+ruled-all : receivedOn exampleChannel (ruledSteps (started 3 examplePlan) exampleAll .reports) ≡ first ∷ second ∷ second ∷ []
 unfolding evaluated
 ruled-all = refl
 
@@ -60,7 +67,7 @@ pub record DoneAt (place : ℕ) (word : Word) (x : Task) : Type 0 where
   pub at : x .pc ≡ place
   pub with : x .word ≡ word
 
-ruled-receiver : DoneAt 5 (wordOf 5178) (taskAt (ruledSteps (started 3 examplePlan) exampleAll .system) receiver)
+ruled-receiver : DoneAt 5 second (taskAt (ruledSteps (started 3 examplePlan) exampleAll .system) receiver)
 unfolding evaluated
 ruled-receiver = record { state = refl; at = refl; with = refl }
 
@@ -69,20 +76,20 @@ three-processors ss = demand-3 3 examplePlan ss (omega arith) (omega arith) acce
 
 -- (b): from the words before the last, the first two of the one-desk rig
 pub first-words : (ts : List Step) → Rests examplePlan ts
-    → Beginning (wordOf 33057 ∷ wordOf 5178 ∷ []) (receivedOn exampleChannel (from 1 examplePlan ts .reports))
+    → Beginning (first ∷ second ∷ []) (receivedOn exampleChannel (from 1 examplePlan ts .reports))
 first-words ts at-rest = rw (run-as-ruled exampleBefore, ruled-before) at (three-processors exampleBefore .beginning ts at-rest exampleChannel)
 
 -- (c): from the words at rest, all of them
 pub all-words : (ts : List Step) → Rests examplePlan ts
-    → receivedOn exampleChannel (from 1 examplePlan ts .reports) ≡ wordOf 33057 ∷ wordOf 5178 ∷ wordOf 5178 ∷ []
+    → receivedOn exampleChannel (from 1 examplePlan ts .reports) ≡ first ∷ second ∷ second ∷ []
 all-words ts at-rest =
     sym (three-processors exampleAll .same-words rests ts at-rest exampleChannel)
     ∙ ap (λ (h : History). receivedOn exampleChannel (h .reports)) (run-as-ruled exampleAll) ∙ ruled-all
 
 -- and that its receiver is done, at which place and with which word
-pub receiver-done : (ts : List Step) → Rests examplePlan ts → DoneAt 5 (wordOf 5178) (taskAt (from 1 examplePlan ts .system) receiver)
+pub receiver-done : (ts : List Step) → Rests examplePlan ts → DoneAt 5 second (taskAt (from 1 examplePlan ts .system) receiver)
 unfolding canonical
 receiver-done ts at-rest =
     let same = three-processors exampleAll .same-tasks rests ts at-rest receiver refl in
-    let here : DoneAt 5 (wordOf 5178) (taskAt (from 3 examplePlan exampleAll .system) receiver) = rw (run-as-ruled exampleAll) ruled-receiver in
+    let here : DoneAt 5 second (taskAt (from 3 examplePlan exampleAll .system) receiver) = rw (run-as-ruled exampleAll) ruled-receiver in
     record { state = sym (same .state) ∙ here .state; at = sym (same .place) ∙ here .at; with = sym (same .word) ∙ here .with }

@@ -2,7 +2,7 @@
 use mathlib.Core.Path.{_≡_, refl}
 use mathlib.Core.Bool.{false}
 use Rattle.plan.specs.Numbers.{taskId, processorId}
-use Rattle.plan.specs.Words.{wordOf}
+use Rattle.plan.proofs.Edges.{wordOf}
 use Rattle.rules.specs.declared.message.Message.the-variants.{ReadyToReceive, Data, Terminated, Migration}
 use Rattle.rules.specs.declared.system.System.{System}
 use Rattle.rules.specs.Cells.{hint}

@@ -1,19 +1,21 @@
 -- A plan of five tasks, and steps that bring it to rest on three desks: the sender of channel 83 is on its way while its offers are, and its
--- second word wraps.
+-- second word wraps on level 2.
 use mathlib.Core.List.{List, [], _∷_}
 use Rattle.plan.specs.declared.Plan.{Plan}
 use Rattle.plan.specs.declared.ChannelId.{ChannelId}
+use Rattle.plan.specs.Kinds.{opSet, opAdd}
 use Rattle.plan.specs.Numbers.{channelId}
 use Rattle.plan.specs.Programs.{Programs, canonical}
+use Rattle.plan.proofs.Edges.{doesOn}
 use Rattle.rules.specs.declared.step.Step.{Step}
-use Rattle.rules.proofs.Scripts.{create, sync, finish, send, receive, set, add, run, deliver, move}
+use Rattle.rules.proofs.Scripts.{create, sync, finish, send, receive, run, deliver, move}
 
 abbrev pub examplePrograms : Programs
 examplePrograms =
     (create 2 ∷ create 3 ∷ create 4 ∷ create 5 ∷ sync ∷ finish ∷ [])
     ∷ (finish ∷ [])
     ∷ (receive 83 ∷ receive 83 ∷ receive 83 ∷ finish ∷ [])
-    ∷ (set 33057 ∷ send 83 ∷ add 37657 ∷ send 83 ∷ send 83 ∷ finish ∷ [])
+    ∷ (doesOn 2 opSet 33057 ∷ send 83 ∷ doesOn 2 opAdd 37657 ∷ send 83 ∷ send 83 ∷ finish ∷ [])
     ∷ (finish ∷ [])
     ∷ []
 

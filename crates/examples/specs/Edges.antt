@@ -4,10 +4,11 @@ use mathlib.Core.List.{List, [], _∷_, _++_}
 use Prim.Native.Nat.{ℕ, _/_, _%_}
 use lib.Dec.{eqb}
 use lib.ListN.{replicate}
+use Rattle.plan.specs.Kinds.{opSet, opAdd}
 use Rattle.plan.specs.Programs.{Programs}
 use Rattle.plan.specs.Layout.{layout}
 use Rattle.plan.proofs.WriteEdges.{sameBytes}
-use Rattle.plan.proofs.Edges.{single, worked}
+use Rattle.plan.proofs.Edges.{doesOn, single, worked}
 use Rattle.rules.specs.declared.step.Step.{Step}
 use Rattle.rules.specs.declared.system.System.{System}
 use Rattle.rules.specs.Numbers.{taskId}
@@ -39,12 +40,12 @@ abbrev pub workedSteps : List Step
 workedSteps =
     run 1 ∷ run 1 ∷ move 2 2 ∷ run 1 ∷ deliver 2 ∷ deliver 1 ∷ run 2 ∷ deliver 1 ∷ deliver 1 ∷ run 2 ∷ run 2 ∷ run 1 ∷ deliver 1 ∷ run 1 ∷ run 1 ∷ []
 
--- "it prints": `1 0` to `8 0`; `9 0 3 7`; `10 0` to `14 0`; `15 11`; `end 1 0`
+-- "it prints", with "four numbers, level 0 first": `1 0` to `8 0`; `9 0 3 7 0 0 0`; `10 0` to `14 0`; `15 11`; `end 1 0`
 abbrev pub workedText : List ℕ
 workedText =
     49 ∷ 32 ∷ 48 ∷ 10 ∷ 50 ∷ 32 ∷ 48 ∷ 10 ∷ 51 ∷ 32 ∷ 48 ∷ 10 ∷ 52 ∷ 32 ∷ 48 ∷ 10
     ∷ 53 ∷ 32 ∷ 48 ∷ 10 ∷ 54 ∷ 32 ∷ 48 ∷ 10 ∷ 55 ∷ 32 ∷ 48 ∷ 10 ∷ 56 ∷ 32 ∷ 48 ∷ 10
-    ∷ 57 ∷ 32 ∷ 48 ∷ 32 ∷ 51 ∷ 32 ∷ 55 ∷ 10
+    ∷ 57 ∷ 32 ∷ 48 ∷ 32 ∷ 51 ∷ 32 ∷ 55 ∷ 32 ∷ 48 ∷ 32 ∷ 48 ∷ 32 ∷ 48 ∷ 10
     ∷ 49 ∷ 48 ∷ 32 ∷ 48 ∷ 10 ∷ 49 ∷ 49 ∷ 32 ∷ 48 ∷ 10 ∷ 49 ∷ 50 ∷ 32 ∷ 48 ∷ 10 ∷ 49 ∷ 51 ∷ 32 ∷ 48 ∷ 10 ∷ 49 ∷ 52 ∷ 32 ∷ 48 ∷ 10
     ∷ 49 ∷ 53 ∷ 32 ∷ 49 ∷ 49 ∷ 10
     ∷ 101 ∷ 110 ∷ 100 ∷ 32 ∷ 49 ∷ 32 ∷ 48 ∷ 10 ∷ []
@@ -65,12 +66,22 @@ overTheTop = (create 2 ∷ set 65535 ∷ add 1 ∷ send 1 ∷ finish ∷ []) ∷
 abbrev pub overOne : List ℕ
 overOne = 111 ∷ 118 ∷ 101 ∷ 114 ∷ 32 ∷ 49 ∷ 10 ∷ []
 
--- `1 0` to `4 0`, `5 0 1 0`, `over 1`, `end 0 0`
+-- the same on level 2, with 7 on level 1
+abbrev pub overTheTopOnTwo : Programs
+overTheTopOnTwo = (create 2 ∷ doesOn 1 opSet 7 ∷ doesOn 2 opSet 65535 ∷ doesOn 2 opAdd 1 ∷ send 1 ∷ finish ∷ []) ∷ (receive 1 ∷ finish ∷ []) ∷ []
+
+-- `1 0` to `4 0`
+abbrev fourLines : List ℕ
+fourLines = 49 ∷ 32 ∷ 48 ∷ 10 ∷ 50 ∷ 32 ∷ 48 ∷ 10 ∷ 51 ∷ 32 ∷ 48 ∷ 10 ∷ 52 ∷ 32 ∷ 48 ∷ 10 ∷ []
+
+-- `1 0` to `4 0`, `5 0 1 0 0 0 0`, `over 1`, `end 0 0`
 abbrev pub overText : List ℕ
-overText =
-    49 ∷ 32 ∷ 48 ∷ 10 ∷ 50 ∷ 32 ∷ 48 ∷ 10 ∷ 51 ∷ 32 ∷ 48 ∷ 10 ∷ 52 ∷ 32 ∷ 48 ∷ 10
-    ∷ 53 ∷ 32 ∷ 48 ∷ 32 ∷ 49 ∷ 32 ∷ 48 ∷ 10
-    ∷ overOne ++ endText
+overText = fourLines ++ (53 ∷ 32 ∷ 48 ∷ 32 ∷ 49 ∷ 32 ∷ 48 ∷ 32 ∷ 48 ∷ 32 ∷ 48 ∷ 32 ∷ 48 ∷ 10 ∷ overOne ++ endText)
+
+-- `1 0` to `5 0`, `6 0 1 0 7 0 0`, `over 1`, `end 0 0`
+abbrev pub overTextOnTwo : List ℕ
+overTextOnTwo =
+    fourLines ++ (53 ∷ 32 ∷ 48 ∷ 10 ∷ 54 ∷ 32 ∷ 48 ∷ 32 ∷ 49 ∷ 32 ∷ 48 ∷ 32 ∷ 55 ∷ 32 ∷ 48 ∷ 32 ∷ 48 ∷ 10 ∷ overOne ++ endText)
 
 -- steps with numbers over 255 and task numbers outside the plan: `1 19`, `2 15`, `3 10`, `4 10`, `5 10`, `end 0 0`
 abbrev pub oddSteps : List Step
@@ -81,12 +92,18 @@ oddText =
     49 ∷ 32 ∷ 49 ∷ 57 ∷ 10 ∷ 50 ∷ 32 ∷ 49 ∷ 53 ∷ 10 ∷ 51 ∷ 32 ∷ 49 ∷ 48 ∷ 10 ∷ 52 ∷ 32 ∷ 49 ∷ 48 ∷ 10 ∷ 53 ∷ 32 ∷ 49 ∷ 48 ∷ 10
     ∷ endText
 
--- "*The run above. *Empty step file: `end 0 0`. .. *Word 65,535 add 1: 0."; odd numbers; refusals 1, 2 and 8, each before the next
+-- "*The run above. *Empty step file: `end 0 0`. .. *Word 65,535 add 1: 0.", on level 0 and on level 2; odd numbers; refusals 1, 2 and 8, each before the next
 unfoldable pub textEdges : List TextEdge
 textEdges =
     record { processors = 2; file = worked; steps = bytesOf workedSteps; text = workedText }
     ∷ record { processors = 2; file = worked; steps = []; text = endText }
     ∷ record { processors = 1; file = layout overTheTop; steps = bytesOf (run 1 ∷ run 1 ∷ run 1 ∷ run 1 ∷ run 2 ∷ []); text = overText }
+    ∷ record {
+      processors = 1;
+      file = layout overTheTopOnTwo;
+      steps = bytesOf (run 1 ∷ run 1 ∷ run 1 ∷ run 1 ∷ run 1 ∷ run 2 ∷ []);
+      text = overTextOnTwo;
+    }
     ∷ record { processors = 2; file = single; steps = bytesOf oddSteps; text = oddText }
     ∷ record { processors = 7; file = []; steps = 1 ∷ []; text = refusedText 49 }
     ∷ record { processors = 2; file = []; steps = 1 ∷ []; text = refusedText 50 }
