@@ -37,7 +37,7 @@ use Rattle.rules_sound.proofs.Sound.{sound, sound-ok}
 use Rattle.rules_sound.proofs.Answers.{run-passed, move-passed}
 
 module _ (r : System) (z : Shaped r) (f : Sound r) where
-  whole : Whole r
+  pub whole : Whole r
   whole = record { processors = refl; plan = refl; network = refl; shaped = z; holds = f .rig }
 
   -- a fine effect whose letters fit

@@ -25,3 +25,5 @@ pub mod Sound
 pub mod Answers
 pub mod Kept
 pub mod Starts
+-- A property of words that holds of every word of a run.
+pub mod Words

@@ -11,8 +11,9 @@ use Rattle.base.proofs.Choices.{pick-cases}
 use Rattle.base.proofs.Sets.{inserted-below}
 use Rattle.base.proofs.Tests.{within-low, within-high, within-both}
 use Rattle.plan.specs.declared.TaskId.{TaskId}
+use Rattle.plan.specs.declared.Instruction.{Instruction}
 use Rattle.plan.specs.Kinds.{opCreate, opSync, opFinish, opSend, opReceive, opSet, isFinish}
-use Rattle.plan.specs.Programs.{programs}
+use Rattle.plan.specs.Programs.{programs, programAt, instructionAt}
 use Rattle.plan.specs.Refusals.{instructionOk}
 use Rattle.plan.specs.Users.{parentOf}
 use Rattle.plan.specs.Words.{setWord, addWord}
@@ -57,14 +58,20 @@ module _ (r : System) (s : Startable (r .processors) (r .plan)) (w : Whole r) (t
   here : Settled (r .processors) (r .plan .tasks) (length (programIn (r .plan) t)) (taskAt r t)
   here = settled _ _ _ (taskAt r t) Ready refl ready fine
 
-  -- the instruction is one of the plan's, and another follows if it is no finish
-  next-fine : instructionOk (r .plan .tasks) (nextOf r t) ≡ true
+  -- the instruction is one of the plan's
+  pub next-in : (P : Instruction → Type 0)
+      → ((k : ℕ) → k < length (meaning r) → (i : ℕ) → i < length (programAt (meaning r) k) → P (instructionAt (programAt (meaning r) k) i))
+      → P (nextOf r t)
   unfolding nextIn
-  next-fine =
+  next-in P each =
       let low = here .place in
       let high = here .place-few in
-      rw (tasks-of (r .plan)) at (instruction-fine (programs (r .plan)) (s .plan) (t .0 - 1) (in-plan _ _ s t l h) (taskAt r t .pc - 1) (omega arith))
+      each (t .0 - 1) (in-plan _ _ s t l h) (taskAt r t .pc - 1) (omega arith)
 
+  pub next-fine : instructionOk (r .plan .tasks) (nextOf r t) ≡ true
+  next-fine = rw (tasks-of (r .plan)) at (next-in (λ i. instructionOk (length (meaning r)) i ≡ true) (instruction-fine (meaning r) (s .plan)))
+
+  -- and another follows if it is no finish
   more : isFinish (nextOf r t) ≡ false → taskAt r t .pc < length (programIn (r .plan) t)
   unfolding nextIn
   more e =

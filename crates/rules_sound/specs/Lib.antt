@@ -4,3 +4,5 @@ pub mod Settled
 pub mod Sites
 pub mod Sound
 pub mod Stands
+-- What it is for the words of a rig, or of a part of one, to have a property.
+pub mod Words

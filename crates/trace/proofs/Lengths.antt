@@ -8,11 +8,12 @@ use native.Mathlib.Decide.{decLt}
 use native.Mathlib.Omega.{arith}
 use lib.Dec.{leb}
 use lib.ListN.{length, length-append}
-use borrow.Author.Tests.{leb-true, ltb-true}
+use borrow.Author.Tests.{leb-true}
 use Rattle.base.specs.Choice.{pick}
 use Rattle.base.specs.Range.{fold, joined}
 use Rattle.base.proofs.Choices.{pick-either}
 use Rattle.base.proofs.Tests.{and-left, and-right}
+use Rattle.plan.specs.Words.{wordNumbers}
 use Rattle.rules.specs.declared.rule.Received.{Received}
 use Rattle.rules.specs.declared.rule.Received.the-variants.{Nothing, Word}
 use Rattle.rules.specs.declared.step.StepAnswer.{StepAnswer}
@@ -25,9 +26,10 @@ use Rattle.rules.specs.Systems.{taskAt}
 use Rattle.rules.specs.Steps.{quiescent}
 use Rattle.rules.specs.Trace.{decimal, fields, receivedFields, stepLine, overLine, overLines, endLine}
 use Rattle.rules.specs.StepFiles.{text}
-use Rattle.trace.specs.Words.{wordFits, receivedFits}
+use Rattle.rules_sound.specs.Words.{receivedGood}
 use Rattle.trace.proofs.Decimals.{few-digits}
 use Rattle.trace.proofs.Lines.{over-length}
+use Rattle.trace.proofs.Words.{wordFits, fits}
 use Rattle.trace.proofs.Texts.{text-append}
 
 -- fields behind one of at most d digits
@@ -61,21 +63,24 @@ reportText q = fields (stepNumber (q .answer) ∷ receivedFields (q .received))
 pub refused-short : (a : StepAnswer) → length (reportText (record { answer = a; received = Nothing })) ≤ 4
 refused-short a = omega (arith, field-more (stepNumber a) 2 [] (few-digits 1 (stepNumber a) (answer-few a)), last-field)
 
-pub accepted-short : (w : Received) → receivedFits w ≡ true → length (reportText (record { answer = Accepted; received = w })) ≤ 13
-unfolding receivedFits
+pub accepted-short : (w : Received) → receivedGood wordFits w ≡ true → length (reportText (record { answer = Accepted; received = w })) ≤ 31
+unfolding receivedGood
 accepted-short Nothing h = omega (arith, refused-short Accepted)
 accepted-short (Word c w) h =
     let channel : c .0 ≤ 128 = leb-true (c .0) 128 (and-left (leb (c .0) 128) (wordFits w) h) in
-    let word : w .0 < 65536 = ltb-true (w .0) 65536 (and-right (leb (c .0) 128) (wordFits w) h) in
+    let f = fits w (and-right (leb (c .0) 128) (wordFits w) h) in
     omega (
       arith,
-      field-more 0 1 (c .0 ∷ w .0 ∷ []) (few-digits 0 0 (omega arith)),
-      field-more (c .0) 3 (w .0 ∷ []) (few-digits 2 (c .0) (omega arith)),
-      field-more (w .0) 5 [] (few-digits 4 (w .0) (omega arith)),
+      field-more 0 1 (c .0 ∷ wordNumbers w) (few-digits 0 0 (omega arith)),
+      field-more (c .0) 3 (wordNumbers w) (few-digits 2 (c .0) (omega arith)),
+      field-more (w .0) 5 (w .1 ∷ w .2 ∷ w .3 ∷ []) (few-digits 4 (w .0) (omega (arith, f .first))),
+      field-more (w .1) 5 (w .2 ∷ w .3 ∷ []) (few-digits 4 (w .1) (omega (arith, f .second))),
+      field-more (w .2) 5 (w .3 ∷ []) (few-digits 4 (w .2) (omega (arith, f .third))),
+      field-more (w .3) 5 [] (few-digits 4 (w .3) (omega (arith, f .last))),
       last-field,
     )
 
-pub line-short : (k : ℕ) (q : Report) → k < 10000 → length (reportText q) ≤ 13 → length (stepLine k q) ≤ 17
+pub line-short : (k : ℕ) (q : Report) → k < 10000 → length (reportText q) ≤ 31 → length (stepLine k q) ≤ 35
 unfolding stepLine
 line-short k q l h = omega (arith, few-digits 3 k l, length-append (decimal k) (reportText q))
 

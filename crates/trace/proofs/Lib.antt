@@ -3,15 +3,11 @@ pub mod Lines
 pub mod Emitting
 pub mod Filling
 pub mod Putting
--- How long a trace is: decimals and lines; the words of a run have 16 bits; the bound. A step file that grows, and refused steps left out.
+-- How long a trace is: decimals and lines; the words of a run are four numbers of 16 bits; the bound. A step file that grows, and refused steps left out.
 pub mod Decimals
 pub mod Texts
+pub mod Words
 pub mod Lengths
-mod Postings
-mod Rules
-mod Systems
-mod Runs
-mod Deliveries
 mod Steps
 pub mod Bound
 pub mod Growing

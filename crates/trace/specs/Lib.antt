@@ -3,5 +3,4 @@ pub mod Lines
 pub mod Output
 -- What a trace's bound is stated with, and what a driver's author may rely on.
 pub mod Bounds
-pub mod Words
 pub mod Growing
