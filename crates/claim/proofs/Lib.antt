@@ -11,4 +11,5 @@ pub mod Files
 pub mod Corollaries
 pub mod Moves
 pub mod Overflows
+pub mod OldPlans
 pub mod OneMessage
