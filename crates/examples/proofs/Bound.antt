@@ -17,13 +17,13 @@ use Rattle.rules.proofs.Evaluated.{evaluated}
 use Rattle.claim.specs.Statement.{acceptedOf, anyStep, from, notExecuted, underWay}
 use Rattle.claim.proofs.Demand3.{demand-3}
 
-abbrev workedPlan : Plan
+abbrev pub workedPlan : Plan
 workedPlan = canonical (filePrograms worked)
 
 abbrev four : List Step
 four = run 1 ∷ run 1 ∷ move 2 2 ∷ run 1 ∷ []
 
-accepted : planAnswer (programs workedPlan) ≡ Accepted
+pub accepted : planAnswer (programs workedPlan) ≡ Accepted
 unfolding evaluated
 accepted = refl
 

@@ -2,9 +2,10 @@
 pub mod Edges
 -- Each run has its trace.
 pub mod Scenes
--- What demand 3 says of two runs, that its test of letters tells rigs apart, and what is said of moves and of marks.
+-- What demand 3 says of two runs, that its test of letters tells rigs apart, and what is said of moves, of marks and of plans on level 0.
 pub mod Demand3
 pub mod Bound
 pub mod Suppositions
 pub mod Moves
 pub mod Overflows
+pub mod OldPlans
