@@ -34,7 +34,7 @@ level-keeps i e = record { set = λ w h. rw e h; add = λ w h. rw e h }
 old-keeps : (m : Programs) → isOld m ≡ true → KeptBy onLevel0 m
 old-keeps m h =
     record {
-      zero = refl;
+      birth = refl;
       instructions = λ k l i j. level-keeps _ (eqb-true _ 0 (every-at _ (programAt m k) i noInstruction j (every-at _ m k [] l h)));
     }
 

@@ -31,7 +31,7 @@ module _ (good : WordOf → Bool) where
 
   -- the word at birth has it, and each instruction of the plan keeps it
   pub record KeptBy (m : Programs) : Type 0 where
-    pub zero : good zeroWord ≡ true
+    pub birth : good zeroWord ≡ true
     pub instructions : (k : ℕ) → k < length m → (i : ℕ) → i < length (programAt m k) → Keeps (instructionAt (programAt m k) i)
 
   abbrev pub taskGood : Task → Bool

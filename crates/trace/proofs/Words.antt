@@ -66,7 +66,7 @@ pub plan-keeps : (m : Programs) → planAnswer m ≡ Accepted → KeptBy wordFit
 plan-keeps m a =
     let few : length m ≤ 64 = sized m (plan-passed m a .sizes) .tasks .few in
     record {
-      zero = refl;
+      birth = refl;
       instructions =
           λ k h i l.
           let x = instructionAt (programAt m k) i in

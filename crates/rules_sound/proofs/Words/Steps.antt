@@ -80,4 +80,4 @@ module _ {good : WordOf → Bool} where
   pub words-good : (n : ℕ) (p : Plan) (ss : List Step) → 1 ≤ n → n ≤ 6 → planAnswer (programs p) ≡ PlanAccepted → KeptBy good (programs p)
       → GoodHistory good (steps (started n p) ss)
   words-good n p ss some few a k =
-      steps-good (started n p) (started-shaped n p) (started-ok n p some few a) (rw (started-plan n p) k) (started-good (k .zero) n p) ss
+      steps-good (started n p) (started-shaped n p) (started-ok n p some few a) (rw (started-plan n p) k) (started-good (k .birth) n p) ss
