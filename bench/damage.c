@@ -22,7 +22,7 @@ static void wrong_instruction(struct random *r, struct draft *d)
     if (way == 0)
         found->kind = (uint16_t)(random_chance(r, 50) ? 0 : random_from(r, 8, 255));
     else if (way == 1)
-        found->kind = (uint16_t)(found->kind + 256 * random_from(r, 1, 255));
+        found->level = (uint8_t)random_from(r, 1, random_chance(r, 50) ? 5 : 255);
     else if (way == 2)
         found->argument = (uint16_t)random_below(r, 200);
     else
@@ -35,16 +35,16 @@ static void wrong_finish(struct random *r, struct draft *d)
     struct draft_instruction *at = &task->code[random_below(r, task->count)];
     if (task->count > 0 && random_chance(r, 50))
         at = &task->code[task->count - 1];
-    *at = at->kind == FINISH ? (struct draft_instruction){ADD, 1} : (struct draft_instruction){FINISH, 0};
+    *at = at->kind == FINISH ? (struct draft_instruction){ADD, 1, 0} : (struct draft_instruction){FINISH, 0, 0};
 }
 
 static void wrong_create(struct random *r, struct draft *d)
 {
     struct draft_instruction *found = any_of_kind(r, d, random_chance(r, 70) ? CREATE : SET);
     if (d->tasks >= 2 && random_chance(r, 70))
-        *found = (struct draft_instruction){CREATE, (uint16_t)random_from(r, 2, d->tasks)};
+        *found = (struct draft_instruction){CREATE, (uint16_t)random_from(r, 2, d->tasks), 0};
     else
-        *found = (struct draft_instruction){SET, 1};
+        *found = (struct draft_instruction){SET, 1, 0};
 }
 
 /* Two instructions of a task become both ends of a channel. */
@@ -55,7 +55,7 @@ static void both_ends(struct random *r, struct draft *d)
     uint16_t kind = SEND;
     for (uint32_t i = 0; i + 1 < task->count; i++)
         if (task->code[i].kind != CREATE && random_chance(r, 50)) {
-            task->code[i] = (struct draft_instruction){kind, channel};
+            task->code[i] = (struct draft_instruction){kind, channel, 0};
             kind = RECEIVE;
         }
 }
@@ -70,7 +70,7 @@ static void one_end(struct random *r, struct draft *d)
         for (uint32_t i = 0; i < d->task[t].count; i++) {
             struct draft_instruction *at = &d->task[t].code[i];
             if (at->kind == gone.kind && at->argument == gone.argument)
-                *at = (struct draft_instruction){ADD, 1};
+                *at = (struct draft_instruction){ADD, 1, 0};
         }
 }
 

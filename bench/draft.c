@@ -9,11 +9,16 @@ void draft_clear(struct draft *d, uint32_t tasks)
         d->task[t].count = 0;
 }
 
-void draft_add(struct draft *d, uint32_t task, uint32_t kind, uint32_t argument)
+void draft_add_on(struct draft *d, uint32_t task, uint32_t level, uint32_t kind, uint32_t argument)
 {
     struct draft_task *to = &d->task[task];
     if (to->count < DRAFT_COUNT)
-        to->code[to->count++] = (struct draft_instruction){(uint16_t)kind, (uint16_t)argument};
+        to->code[to->count++] = (struct draft_instruction){(uint16_t)kind, (uint16_t)argument, (uint8_t)level};
+}
+
+void draft_add(struct draft *d, uint32_t task, uint32_t kind, uint32_t argument)
+{
+    draft_add_on(d, task, 0, kind, argument);
 }
 
 void draft_remove(struct draft *d, uint32_t task, uint32_t index)
@@ -26,7 +31,8 @@ void draft_remove(struct draft *d, uint32_t task, uint32_t index)
 static uint8_t *write_code(const struct draft_task *task, uint8_t *p)
 {
     for (uint32_t i = 0; i < task->count; i++, p += 4) {
-        put_u16(p, task->code[i].kind);
+        p[0] = (uint8_t)task->code[i].kind;
+        p[1] = task->code[i].level;
         put_u16(p + 2, task->code[i].argument);
     }
     return p;

@@ -14,6 +14,7 @@ enum {
 struct draft_instruction {
     uint16_t kind;
     uint16_t argument;
+    uint8_t level; /* the second byte */
 };
 
 struct draft_task {
@@ -28,7 +29,8 @@ struct draft {
 
 void draft_clear(struct draft *d, uint32_t tasks);
 
-/* Adds an instruction at a task's end; one that does not fit is left out. */
+/* Adds an instruction at a task's end, on a level or on level 0; one that does not fit is left out. */
+void draft_add_on(struct draft *d, uint32_t task, uint32_t level, uint32_t kind, uint32_t argument);
 void draft_add(struct draft *d, uint32_t task, uint32_t kind, uint32_t argument);
 
 void draft_remove(struct draft *d, uint32_t task, uint32_t index);

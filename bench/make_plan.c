@@ -98,11 +98,17 @@ static uint32_t any_number(struct maker *m)
     return random_below(m->r, random_chance(m->r, 50) ? 65536 : 256);
 }
 
+/* Level 0 for half of them, as in old plans. */
+static uint32_t any_level(struct maker *m)
+{
+    return random_chance(m->r, 50) ? 0 : random_below(m->r, LEVELS);
+}
+
 static void reckon(struct maker *m)
 {
     uint32_t t = random_from(m->r, 1, m->d->tasks);
     if (has_space(m, t))
-        draft_add(m->d, t, random_chance(m->r, 50) ? SET : ADD, any_number(m));
+        draft_add_on(m->d, t, any_level(m), random_chance(m->r, 50) ? SET : ADD, any_number(m));
 }
 
 static void close_task(struct maker *m, uint32_t t)
@@ -171,8 +177,8 @@ static void new_channel(struct maker *m, uint32_t t)
     if (t == u || one == NULL || two == NULL || m->channels == MAX_CHANNELS)
         return;
     uint8_t channel = m->name[m->channels++];
-    *one = (struct draft_instruction){SEND, channel};
-    *two = (struct draft_instruction){RECEIVE, channel};
+    *one = (struct draft_instruction){SEND, channel, 0};
+    *two = (struct draft_instruction){RECEIVE, channel, 0};
 }
 
 /* Two instructions change places, or one goes, or there is a channel more. */

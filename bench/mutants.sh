@@ -58,6 +58,11 @@ done <<'RULES'
 27 a word passed directly brings its sender's mark
 28 a move leaves the mark behind
 29 the marked tasks are named by falling number
+30 a second byte of 4 is accepted
+31 a set clears the other levels
+32 every add is to level 0
+33 only sums of level 0 mark
+34 the levels are printed last first
 RULES
 
 [ "$missed" -eq 0 ] || { echo "mutants: $missed of $tried not found" >&2; exit 1; }

@@ -64,7 +64,7 @@ static void open_call(struct sim_rig *rig, struct sim_letter letter)
         return;
     sender->state = READY;
     newer(&channel->at[letter.desk].pointer, (struct sim_pointer){.count = letter.value, .desk = letter.from});
-    post(rig, (struct sim_letter){.kind = WORD, .desk = letter.from, .subject = letter.subject, .value = sender->word});
+    post(rig, (struct sim_letter){.kind = WORD, .desk = letter.from, .subject = letter.subject, .word = sender->word});
 }
 
 static void open_word(struct sim_rig *rig, struct sim_letter letter, struct sim_received *received)
@@ -73,7 +73,7 @@ static void open_word(struct sim_rig *rig, struct sim_letter letter, struct sim_
     struct sim_task *receiver = &rig->task[channel->receiver];
     if (receiver->desk != letter.desk || !is_on(rig, receiver, RECEIVING, letter.subject) || !channel->has_called)
         return;
-    receive_word(receiver, letter.subject, letter.value, received);
+    receive_word(receiver, letter.subject, letter.word, received);
     channel->has_called = false;
 #if MUTANT == 3
     post(rig, letter);

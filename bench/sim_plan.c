@@ -26,20 +26,18 @@ static bool layout_is_right(const uint8_t *plan, size_t length)
 static bool instruction_is_right(const uint8_t *p, uint32_t tasks)
 {
     uint32_t argument = sim_u16(p + 2);
-    if (p[1] != 0)
-        return false;
     switch (p[0]) {
     case CREATE:
-        return argument >= 2 && argument <= tasks;
+        return p[1] == 0 && argument >= 2 && argument <= tasks;
     case SYNC:
     case FINISH:
-        return argument == 0;
+        return p[1] == 0 && argument == 0;
     case SEND:
     case RECEIVE:
-        return argument >= 1 && argument <= MAX_CHANNELS;
+        return p[1] == 0 && argument >= 1 && argument <= MAX_CHANNELS;
     case SET:
     case ADD:
-        return true;
+        return p[1] < LEVELS + (MUTANT == 30);
     default:
         return false;
     }

@@ -16,7 +16,8 @@ enum {
     MAX_COUNT = 64, /* instructions of a task */
     MAX_CODE = MAX_TASKS * MAX_COUNT,
     MAX_PLAN = 4 + 4 * MAX_TASKS + 4 * MAX_CODE, /* bytes of a plan file */
-    MAX_STEPS = 2000
+    MAX_STEPS = 2000,
+    LEVELS = 4 /* of a word */
 };
 
 enum { CREATE = 1, SYNC, FINISH, SEND, RECEIVE, SET, ADD };

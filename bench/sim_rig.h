@@ -14,14 +14,18 @@ enum { OFFER = 1, ADVERT, CALL, WORD, ENDED, MOVER };
 
 struct sim_instruction {
     uint8_t kind;
-    uint8_t number; /* of a send: its number on the channel, from 1 */
+    uint8_t number; /* of a send: its number on the channel, from 1; of a set or an add: the level */
     uint16_t argument;
+};
+
+struct sim_word {
+    uint16_t level[LEVELS];
 };
 
 struct sim_task {
     uint64_t children; /* living: bit t - 1 for task t */
-    uint16_t place;    /* index of the next instruction in the rig's code */
-    uint16_t word;
+    struct sim_word word;
+    uint16_t place; /* index of the next instruction in the rig's code */
     uint16_t count; /* of moves, 1 at birth */
     uint8_t state;
     uint8_t desk; /* 0: unborn or moving */
@@ -62,7 +66,8 @@ struct sim_channel {
 };
 
 struct sim_letter {
-    uint16_t value;  /* offer and call: a pointer's count; word: the word */
+    struct sim_word word; /* word: the word */
+    uint16_t value;       /* offer and call: a pointer's count */
     uint8_t kind;
     uint8_t desk;    /* where it goes */
     uint8_t subject; /* a channel; ended: the child; mover: the task */
@@ -84,7 +89,7 @@ struct sim_rig {
 /* What a step received: channel 0 is nothing. */
 struct sim_received {
     uint8_t channel;
-    uint16_t word;
+    struct sim_word word;
 };
 
 /* The rig at the start of a plan, or the refusal's number and no rig. */

@@ -11,13 +11,23 @@ void sim_birth(struct sim_rig *rig, struct sim_task *task, uint8_t d)
         point(rig, task, d, d);
 }
 
-/* The word wraps; a sum over 65,535 marks the task. */
-static void run_add(struct sim_task *task, uint32_t number)
+static void run_set(struct sim_task *task, struct sim_instruction set)
 {
-    uint32_t sum = task->word + number;
-    if (sum > (MUTANT == 24 ? 65534 : 65535))
+    if (MUTANT == 25)
+        task->over = false;
+    if (MUTANT == 31)
+        task->word = (struct sim_word){{0, 0, 0, 0}};
+    task->word.level[set.number] = set.argument;
+}
+
+/* One level wraps; a sum over 65,535 marks the task. */
+static void run_add(struct sim_task *task, struct sim_instruction add)
+{
+    uint16_t *level = &task->word.level[MUTANT == 32 ? 0 : add.number];
+    uint32_t sum = (uint32_t)*level + add.argument;
+    if (sum > (MUTANT == 24 ? 65534 : 65535) && !(MUTANT == 33 && add.number != 0))
         task->over = true;
-    task->word = (uint16_t)sum;
+    *level = (uint16_t)sum;
 }
 
 static uint32_t run_create(struct sim_rig *rig, struct sim_task *task, uint32_t child)
@@ -165,12 +175,10 @@ uint32_t sim_run_task(struct sim_rig *rig, uint8_t t, struct sim_received *recei
         number = run_receive(rig, task, (uint8_t)next.argument, received);
         break;
     case SET:
-        task->word = next.argument;
-        if (MUTANT == 25)
-            task->over = false;
+        run_set(task, next);
         break;
     case ADD:
-        run_add(task, next.argument);
+        run_add(task, next);
         break;
     }
     if (number == 0)

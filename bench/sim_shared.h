@@ -70,7 +70,7 @@ static inline void answer(struct sim_rig *rig, uint8_t c, uint8_t offering)
                                   .from = receiver->desk, .value = receiver->count});
 }
 
-static inline void receive_word(struct sim_task *receiver, uint8_t c, uint16_t word, struct sim_received *received)
+static inline void receive_word(struct sim_task *receiver, uint8_t c, struct sim_word word, struct sim_received *received)
 {
     receiver->word = word;
     receiver->state = READY;

@@ -10,7 +10,7 @@ static void read_code(struct sim_rig *rig, const uint8_t *p, uint32_t total)
     for (uint32_t i = 0; i < total; i++, p += 4) {
         struct sim_instruction *to = &rig->code[i];
         to->kind = p[0];
-        to->number = 0;
+        to->number = p[1];
         to->argument = (uint16_t)sim_u16(p + 2);
         if (to->kind == SEND)
             to->number = ++sent[to->argument];

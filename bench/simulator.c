@@ -5,7 +5,7 @@
 
 #include "sim_rig.h"
 
-enum { LONGEST_LINE = 17 };
+enum { LONGEST_LINE = 35 };
 
 /* A decimal of at most five digits; returns its end. */
 static uint8_t *put_number(uint8_t *p, uint32_t n)
@@ -38,7 +38,8 @@ static uint8_t *put_line(uint8_t *p, uint32_t step, uint32_t number, struct sim_
     p = put_field(p, number);
     if (received.channel != 0) {
         p = put_field(p, received.channel);
-        p = put_field(p, received.word);
+        for (uint32_t i = 0; i < LEVELS; i++)
+            p = put_field(p, received.word.level[MUTANT == 34 ? LEVELS - 1 - i : i]);
     }
     *p = '\n';
     return p + 1;

@@ -1,6 +1,6 @@
 /* driver DESKS PLANFILE STEPFILE: stands where a dimmer's driver stands.
  *
- * Each word that a task receives becomes a line `level CHANNEL WORD` on
+ * Each word that a task receives becomes a line `level CHANNEL`, its four levels, on
  * standard output, in order. Refused steps, tasks that met a sum over the top
  * and the end of the run are told on standard error. Exit status: 0 the run was done; 1 the desks or a file are
  * refused; 2 wrong usage; 3 a file cannot be read or the levels cannot be
@@ -71,11 +71,19 @@ static void report_end(const struct show *show, const struct mortarsedge_line *l
                 line->letters == 1 ? "" : "s");
 }
 
+static void report_word(const struct mortarsedge_line *line)
+{
+    printf("level %u", (unsigned)line->channel);
+    for (size_t i = 0; i < MORTARSEDGE_LEVELS; i++)
+        printf(" %u", (unsigned)line->level[i]);
+    putchar('\n');
+}
+
 static void report_step(struct show *show, const struct mortarsedge_line *line)
 {
     const uint8_t *step = show->steps.bytes + MORTARSEDGE_STEP_BYTES * (line->step - 1);
     if (line->received)
-        printf("level %u %u\n", (unsigned)line->channel, (unsigned)line->word);
+        report_word(line);
     if (line->answer != MORTARSEDGE_ACCEPTED)
         fprintf(stderr, "step %u refused, %u: %s\n", (unsigned)line->step, (unsigned)line->answer,
                 mortarsedge_refusal_text(line->answer));

@@ -28,10 +28,10 @@ static void texts_differ(void)
 
 static void sizes_are_right(void)
 {
-    expect(MORTARSEDGE_OUTPUT_ENOUGH == 34513, "enough output");
+    expect(MORTARSEDGE_OUTPUT_ENOUGH == 70513, "enough output");
     expect(MORTARSEDGE_MAX_PLAN == 16644, "longest plan");
     expect(MORTARSEDGE_MAX_STEP_FILE == 8000, "longest step file");
-    expect(strlen("2000 0 128 65535\n") == MORTARSEDGE_MAX_LINE, "longest line");
+    expect(strlen("2000 0 128 65535 65535 65535 65535\n") == MORTARSEDGE_MAX_LINE, "longest line");
     expect(strlen("over 64\n") == MORTARSEDGE_MAX_OVER_LINE, "longest line of a marked task");
     expect(strlen("end 0 256\n") == MORTARSEDGE_MAX_END_LINE, "longest last line");
 }
@@ -105,15 +105,15 @@ static size_t take_text(const char *text, struct mortarsedge_line *line)
 }
 
 /* The text of a line; a text that is none where the line is none. */
-static void write_line(const struct mortarsedge_line *line, char text[32])
+static void write_line(const struct mortarsedge_line *line, char text[64])
 {
     if (line->kind == MORTARSEDGE_LINE_END)
         sprintf(text, "end %u %u\n", (unsigned)line->at_rest, (unsigned)line->letters);
     else if (line->kind == MORTARSEDGE_LINE_OVER)
         sprintf(text, "over %u\n", (unsigned)line->task);
     else if (line->kind == MORTARSEDGE_LINE_STEP && line->received)
-        sprintf(text, "%u %u %u %u\n", (unsigned)line->step, (unsigned)line->answer, (unsigned)line->channel,
-                (unsigned)line->word);
+        sprintf(text, "%u %u %u %u %u %u %u\n", (unsigned)line->step, (unsigned)line->answer, (unsigned)line->channel,
+                (unsigned)line->level[0], (unsigned)line->level[1], (unsigned)line->level[2], (unsigned)line->level[3]);
     else if (line->kind == MORTARSEDGE_LINE_STEP)
         sprintf(text, "%u %u\n", (unsigned)line->step, (unsigned)line->answer);
     else
@@ -123,16 +123,16 @@ static void write_line(const struct mortarsedge_line *line, char text[32])
 static bool same_line(const struct mortarsedge_line *a, const struct mortarsedge_line *b)
 {
     return a->kind == b->kind && a->step == b->step && a->answer == b->answer && a->received == b->received
-        && a->channel == b->channel && a->word == b->word && a->at_rest == b->at_rest && a->letters == b->letters
+        && a->channel == b->channel && memcmp(a->level, b->level, sizeof a->level) == 0 && a->at_rest == b->at_rest && a->letters == b->letters
         && a->task == b->task;
 }
 
 /* A line is written and taken apart again, alone and with another behind it; cut short it is no line. */
 static void line_is_taken(struct mortarsedge_line line)
 {
-    static const struct mortarsedge_line none = {MORTARSEDGE_LINE_OTHER, 0, 0, false, 0, 0, false, 0, 0};
+    static const struct mortarsedge_line none = {MORTARSEDGE_LINE_OTHER, 0, 0, false, 0, {0, 0, 0, 0}, false, 0, 0};
     struct mortarsedge_line got;
-    char text[40];
+    char text[80];
     write_line(&line, text);
     size_t length = strlen(text);
     expect(take_text(text, &got) == length && same_line(&got, &line), "a line is taken apart");
@@ -142,21 +142,24 @@ static void line_is_taken(struct mortarsedge_line line)
         expect(take((const uint8_t *)text, cut, &got) == 0 && same_line(&got, &none), "a line cut short is taken");
 }
 
-/* Every task over the top, every step with every answer, every channel, on channel 128 every word, and every number of letters. */
+/* Every task over the top, every step with every answer, every channel, on channel 128 every number as a level, and every number of letters. */
 static void lines_are_taken(void)
 {
-    struct mortarsedge_line step = {MORTARSEDGE_LINE_STEP, 1, 0, false, 0, 0, false, 0, 0};
-    struct mortarsedge_line word = {MORTARSEDGE_LINE_STEP, 9, 0, true, 3, 7, false, 0, 0};
-    struct mortarsedge_line over = {MORTARSEDGE_LINE_OVER, 0, 0, false, 0, 0, false, 0, 1};
-    struct mortarsedge_line end = {MORTARSEDGE_LINE_END, 0, 0, false, 0, 0, true, 0, 0};
+    struct mortarsedge_line step = {MORTARSEDGE_LINE_STEP, 1, 0, false, 0, {0, 0, 0, 0}, false, 0, 0};
+    struct mortarsedge_line word = {MORTARSEDGE_LINE_STEP, 9, 0, true, 3, {7, 0, 0, 0}, false, 0, 0};
+    struct mortarsedge_line over = {MORTARSEDGE_LINE_OVER, 0, 0, false, 0, {0, 0, 0, 0}, false, 0, 1};
+    struct mortarsedge_line end = {MORTARSEDGE_LINE_END, 0, 0, false, 0, {0, 0, 0, 0}, true, 0, 0};
     for (over.task = 1; over.task <= MORTARSEDGE_MAX_TASKS; over.task++)
         line_is_taken(over);
     for (step.step = 1; step.step <= MORTARSEDGE_MAX_STEPS; step.step++)
         for (step.answer = 0; step.answer <= 19; step.answer = step.answer == 0 ? 10 : step.answer + 1)
             line_is_taken(step);
     for (word.channel = 1; word.channel <= MORTARSEDGE_MAX_CHANNELS; word.channel++)
-        for (word.word = 0; word.word <= 65535; word.word += 1 + 127 * (word.channel % 128))
+        for (uint32_t n = 0; n <= 65535; n += 1 + 127 * (word.channel % 128)) {
+            word.level[word.channel % 4] = n;
+            word.level[(n + 1) % 4] = 65535 - n;
             line_is_taken(word);
+        }
     line_is_taken(end);
     end.at_rest = false;
     for (end.letters = 0; end.letters <= MORTARSEDGE_MAX_LETTERS; end.letters++)
@@ -168,10 +171,11 @@ static void others_are_told(void)
 {
     static const char *const others[] = {
         "\n", " \n", "1\n", "1 \n", " 1 0\n", "1 0 \n", "1  0\n", "1\t0\n", "1 0\r\n", "1 0 3\n", "1 0 3 \n",
-        "1 0 3 7 \n", "1 0 3 7 0\n", "1 0 3 7 0 0 0\n", "1,0\n", "1 x\n", "x 1\n", "-1 0\n", "+1 0\n", "1 -0\n",
+        "1 0 3 7\n", "1 0 3 7 0 0\n", "1 0 3 7 0 0 0 \n", "1 0 3 7 0 0 0 0\n", "1 0 3 7 0 0  0\n", "1,0\n", "1 x\n", "x 1\n", "-1 0\n", "+1 0\n", "1 -0\n",
         "0 0\n", "2001 0\n", "01 0\n", "1 00\n", "1 010\n", "1 1\n", "1 9\n", "1 20\n", "1 256\n", "1 65536\n",
-        "1 10 3 7\n", "1 19 128 65535\n", "1 0 0 7\n", "1 0 129 7\n", "1 0 3 65536\n", "1 0 03 7\n",
-        "1 0 3 4294967296\n", "1 0 3 4294967303\n", "4294967297 0\n", "18446744073709551617 0\n",
+        "1 10 3 7 0 0 0\n", "1 19 128 65535 0 0 0\n", "1 0 0 7 0 0 0\n", "1 0 129 7 0 0 0\n", "1 0 3 65536 0 0 0\n",
+        "1 0 3 0 65536 0 0\n", "1 0 3 0 0 0 65536\n", "1 0 03 7 0 0 0\n", "1 0 3 7 00 0 0\n",
+        "1 0 3 4294967296 0 0 0\n", "1 0 3 0 0 0 4294967303\n", "4294967297 0\n", "18446744073709551617 0\n",
         "99999999999999999999999999999999999999 0\n", "e\n", "en\n", "end\n", "end \n", "end 1\n", "end 1 \n",
         "end1 0\n", "end  1 0\n", "end 1 1\n", "end 2 0\n", "end 0 257\n", "end 0 00\n", "end 00 0\n", "end 0 0 0\n",
         "end 0 0 \n", "End 0 0\n", "ende 0 0\n", " end 0 0\n", "end\n0 0\n", "over\n", "over \n", "over 0\n", "over 65\n", "over 03\n", "over 3 \n", "over 3 0\n", "over  3\n", "over3\n", "Over 3\n",
@@ -191,7 +195,7 @@ static void others_are_told(void)
 static void taken_is_written(const uint8_t *text, size_t length)
 {
     struct mortarsedge_line line;
-    char again[32];
+    char again[64];
     size_t taken = take(text, length, &line);
     const uint8_t *feed = length == 0 ? NULL : (const uint8_t *)memchr(text, '\n', length);
     expect(taken == (feed == NULL ? 0 : (size_t)(feed - text) + 1), "bytes taken");
@@ -204,11 +208,12 @@ static void taken_is_written(const uint8_t *text, size_t length)
 /* Lines with every byte at every place: put instead, put between, left out. */
 static void bytes_are_told(void)
 {
-    static const char *const samples[] = {"9 0 3 7\n", "15 11\n", "end 1 0\n", "end 0 256\n", "over 64\n", "2000 0 128 65535\n"};
+    static const char *const samples[] = {"9 0 3 7 0 0 0\n", "15 11\n", "end 1 0\n", "end 0 256\n", "over 64\n",
+                                           "2000 0 128 65535 1 22 333\n"};
     for (size_t i = 0; i < sizeof samples / sizeof samples[0]; i++) {
         size_t length = strlen(samples[i]);
         for (size_t place = 0; place < length; place++) {
-            uint8_t text[32] = {0};
+            uint8_t text[64] = {0};
             memcpy(text, samples[i], place);
             memcpy(text + place, samples[i] + place + 1, length - place - 1);
             taken_is_written(text, length - 1);
@@ -257,8 +262,9 @@ static void worked_run_is_right(void)
         at += mortarsedge_take_line(out + at, filled - at, &line);
         expect(line.kind == MORTARSEDGE_LINE_STEP && line.step == step, "the worked run's steps");
         expect(line.answer == (step == 15 ? (uint32_t)MORTARSEDGE_NOT_READY : 0), "the worked run's answers");
-        expect(line.received == word && line.channel == (word ? 3u : 0) && line.word == (word ? 7u : 0),
+        expect(line.received == word && line.channel == (word ? 3u : 0) && line.level[0] == (word ? 7u : 0),
                "the worked run's word");
+        expect(line.level[1] == 0 && line.level[2] == 0 && line.level[3] == 0, "the worked run's other levels");
     }
     at += mortarsedge_take_line(out + at, filled - at, &line);
     expect(line.kind == MORTARSEDGE_LINE_END && line.at_rest && line.letters == 0, "the worked run's end");

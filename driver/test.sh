@@ -54,7 +54,7 @@ none=$scratch/none
 # The worked run: the only word, 7 on channel 3, comes at step 9. Task 1 has
 # finished at step 14, so step 15 is refused.
 run 2 "$plan" "$steps"
-expect "worked run" 0 "level 3 7
+expect "worked run" 0 "level 3 7 0 0 0
 " "step 15 refused, 11: task not ready
 finished, at rest
 "
@@ -62,7 +62,7 @@ finished, at rest
 # Without its last two steps, task 1 is ready to go on.
 head -c 52 "$steps" > "$scratch/short"
 run 2 "$plan" "$scratch/short"
-expect "worked run, 13 steps" 0 "level 3 7
+expect "worked run, 13 steps" 0 "level 3 7 0 0 0
 " "not finished, not at rest, 0 letters
 "
 
@@ -84,8 +84,8 @@ expect "empty step file" 0 "" "not finished, not at rest, 0 letters
 bytes two.plan '\002\000\012\000\014\000\007\000\050\000\003\000\001\000\002\000\006\000\377\377\004\000\200\000\007\000\002\000\004\000\001\000\002\000\000\000\003\000\000\000\005\000\200\000\005\000\001\000\003\000\000\000'
 bytes two.steps '\001\001\000\000\001\001\000\000\001\002\000\000\001\001\000\000\001\001\000\000\001\001\000\000\001\002\000\000\004\000\000\000\001\003\000\000\002\000\001\000\003\001\002\000'
 run 1 "$scratch/two.plan" "$scratch/two.steps"
-expect "two words" 0 "level 128 65535
-level 1 1
+expect "two words" 0 "level 128 65535 0 0 0
+level 1 1 0 0 0
 " "step 8 refused, 19: kind of step not 1 to 3, or an unused field not zero
 step 9 refused, 10: no such task
 step 10 refused, 14: no letter at this position
@@ -111,7 +111,7 @@ expect "rest without an end" 0 "" "not finished, at rest
 bytes early.plan '\003\000\010\000\020\000\004\000\040\000\002\000\050\000\002\000\001\000\002\000\001\000\003\000\002\000\000\000\003\000\000\000\004\000\001\000\003\000\000\000\005\000\001\000\003\000\000\000'
 bytes early.steps '\001\001\000\000\003\002\002\000\002\000\001\000\001\002\000\000\001\001\000\000\001\003\000\000\002\000\001\000\002\000\002\000\002\000\002\000\001\002\000\000\001\003\000\000\002\000\002\000\001\001\000\000\001\001\000\000'
 run 3 "$scratch/early.plan" "$scratch/early.steps"
-expect "an end without rest" 0 "level 1 0
+expect "an end without rest" 0 "level 1 0 0 0 0
 " "finished, not at rest, 1 letter
 "
 

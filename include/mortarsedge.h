@@ -33,7 +33,8 @@ enum {
     MORTARSEDGE_MAX_INSTRUCTIONS = 64, /* of one task */
     MORTARSEDGE_MAX_LETTERS = 256,     /* in the mail */
     MORTARSEDGE_MAX_STEPS = 2000,
-    MORTARSEDGE_MAX_MOVE_COUNT = 9999
+    MORTARSEDGE_MAX_MOVE_COUNT = 9999,
+    MORTARSEDGE_LEVELS = 4 /* of a word */
 };
 
 /* Sizes in bytes. */
@@ -44,8 +45,8 @@ enum {
         4 + 4 * MORTARSEDGE_MAX_TASKS + 4 * MORTARSEDGE_MAX_TASKS * MORTARSEDGE_MAX_INSTRUCTIONS,
     /* The longest step file that is accepted. */
     MORTARSEDGE_MAX_STEP_FILE = MORTARSEDGE_STEP_BYTES * MORTARSEDGE_MAX_STEPS,
-    /* The longest line of a step: `2000 0 128 65535` and a line feed. */
-    MORTARSEDGE_MAX_LINE = 17,
+    /* The longest line of a step: `2000 0 128 65535 65535 65535 65535` and a line feed. */
+    MORTARSEDGE_MAX_LINE = 35,
     /* The longest line of a marked task: `over 64` and a line feed. */
     MORTARSEDGE_MAX_OVER_LINE = 8,
     /* The longest last line: `end 0 256` and a line feed. */
@@ -58,16 +59,18 @@ enum {
     MORTARSEDGE_RUN_STACK = 128 * 1024
 };
 
-/* The kinds of an instruction, 4 bytes of a plan file: kind, a zero byte, and an
- * argument of 16 bits, little-endian. What the argument is stands beside. */
+/* The kinds of an instruction, 4 bytes of a plan file: kind, a second byte, and an
+ * argument of 16 bits, little-endian. What the argument is stands beside. The
+ * second byte of set and add is the level that they change, 0 to 3; that of the
+ * other kinds is 0. */
 enum mortarsedge_instruction {
     MORTARSEDGE_INSTRUCTION_CREATE = 1,  /* the child, 2 to the number of tasks */
     MORTARSEDGE_INSTRUCTION_SYNC = 2,    /* unused: 0 */
     MORTARSEDGE_INSTRUCTION_FINISH = 3,  /* unused: 0 */
     MORTARSEDGE_INSTRUCTION_SEND = 4,    /* a channel, 1 to 128 */
     MORTARSEDGE_INSTRUCTION_RECEIVE = 5, /* a channel, 1 to 128 */
-    MORTARSEDGE_INSTRUCTION_SET = 6,     /* a word, 0 to 65,535 */
-    MORTARSEDGE_INSTRUCTION_ADD = 7      /* a word, 0 to 65,535 */
+    MORTARSEDGE_INSTRUCTION_SET = 6,     /* what the level becomes, 0 to 65,535 */
+    MORTARSEDGE_INSTRUCTION_ADD = 7      /* what is added to the level, 0 to 65,535 */
 };
 
 /* The kinds of a step, 4 bytes of a step file: kind, task, and a number of 16
@@ -86,7 +89,8 @@ enum mortarsedge_answer {
     MORTARSEDGE_BAD_DESKS = 1,       /* desks not 1 to 6 */
     MORTARSEDGE_BAD_LAYOUT = 2,      /* under 4 bytes, T or a count out of range, N not the counts' sum,
                                         a wrong offset or length */
-    MORTARSEDGE_BAD_INSTRUCTION = 3, /* kind unknown, second byte not zero, or argument out of range */
+    MORTARSEDGE_BAD_INSTRUCTION = 3, /* kind unknown, second byte above 3 (set, add) or not zero (other
+                                        kinds), or argument out of range */
     MORTARSEDGE_BAD_FINISH = 4,      /* finish not exactly the last instruction of a task */
     MORTARSEDGE_BAD_CREATE = 5,      /* a task 2 to T not created exactly once, or not by a lower number */
     MORTARSEDGE_BAD_CHANNEL = 6,     /* a channel with two sending or two receiving tasks, one task at both
@@ -145,7 +149,8 @@ uint32_t mortarsedge_plan_check(uint32_t desks, const uint8_t *plan, size_t plan
  * answered.
  *
  * The trace has a line a step: the step's number from 1, its answer and, if a
- * word was received, channel and word. A refused step gets its line and the run
+ * word was received, its channel and its four levels, level 0 first. A refused
+ * step gets its line and the run
  * goes on. Behind them, each task that met a sum over 65,535 has a line: `over`
  * and its number, by rising number. The last line is `end`, 1 if the rig is at
  * rest else 0, and the letters in the mail. Fields are decimal with one space
@@ -199,14 +204,14 @@ struct mortarsedge_line {
     uint32_t answer;  /* 0, or the refusal, 10 to 19; */
     bool received;    /* whether a word was received; if so, */
     uint32_t channel; /* its channel, 1 to 128, */
-    uint32_t word;    /* and the word, 0 to 65,535 */
+    uint32_t level[MORTARSEDGE_LEVELS]; /* and its levels, 0 to 65,535 each */
     bool at_rest;     /* of the last line: whether the rig is at rest; */
     uint32_t letters; /* how many letters are in the mail, 0 to 256, 0 at rest */
     uint32_t task;    /* of a marked task's line: the task, 1 to 64 */
 };
 
-/* The numbers on a line: step, answer, channel, word. */
-enum { MORTARSEDGE_LINE_FIELDS = 4 };
+/* The numbers on a line: step, answer, channel, levels. */
+enum { MORTARSEDGE_LINE_FIELDS = 3 + MORTARSEDGE_LEVELS };
 
 /* For mortarsedge_take_line: how many bytes the first line has, its line feed
  * with them; 0 if there is no line feed. */
@@ -244,7 +249,7 @@ static inline size_t mortarsedge_line_fields(const uint8_t *text, size_t length,
 /* For mortarsedge_take_line: a step's line, of these fields. */
 static inline void mortarsedge_step_line(const uint32_t *fields, size_t count, struct mortarsedge_line *line)
 {
-    bool received = count == 4;
+    bool received = count == MORTARSEDGE_LINE_FIELDS;
     if (count != 2 && !received)
         return;
     if (fields[0] < 1 || fields[0] > MORTARSEDGE_MAX_STEPS)
@@ -259,7 +264,8 @@ static inline void mortarsedge_step_line(const uint32_t *fields, size_t count, s
     line->answer = fields[1];
     line->received = received;
     line->channel = received ? fields[2] : 0;
-    line->word = received ? fields[3] : 0;
+    for (size_t i = 0; i < MORTARSEDGE_LEVELS; i++)
+        line->level[i] = received ? fields[3 + i] : 0;
 }
 
 /* For mortarsedge_take_line: the last line, of these fields behind `end`. */
@@ -292,12 +298,12 @@ static inline void mortarsedge_over_line(const uint32_t *fields, size_t count, s
  *
  *     for (at = 0; (taken = mortarsedge_take_line(out + at, filled - at, &line)) > 0; at += taken)
  *         if (line.received)
- *             level[line.channel] = line.word;
+ *             memcpy(levels[line.channel], line.level, sizeof line.level);
  */
 static inline size_t mortarsedge_take_line(const uint8_t *text, size_t length, struct mortarsedge_line *line)
 {
-    const struct mortarsedge_line none = {MORTARSEDGE_LINE_OTHER, 0, 0, false, 0, 0, false, 0, 0};
-    uint32_t fields[MORTARSEDGE_LINE_FIELDS] = {0, 0, 0, 0};
+    const struct mortarsedge_line none = {MORTARSEDGE_LINE_OTHER, 0, 0, false, 0, {0, 0, 0, 0}, false, 0, 0};
+    uint32_t fields[MORTARSEDGE_LINE_FIELDS] = {0, 0, 0, 0, 0, 0, 0};
     size_t taken = mortarsedge_line_length(text, length);
     *line = none;
     if (taken >= 5 && text[0] == 'e' && text[1] == 'n' && text[2] == 'd' && text[3] == ' ')
@@ -321,7 +327,8 @@ static inline const char *mortarsedge_refusal_text(uint32_t number)
         return "plan under 4 bytes, tasks or a count out of range, instructions not the counts' sum, "
                "or a wrong offset or length";
     case MORTARSEDGE_BAD_INSTRUCTION:
-        return "instruction of unknown kind, second byte not zero, or argument out of range";
+        return "instruction of unknown kind, second byte above 3 for set and add or not zero for other kinds, "
+               "or argument out of range";
     case MORTARSEDGE_BAD_FINISH:
         return "finish not exactly the last instruction of a task";
     case MORTARSEDGE_BAD_CREATE:
