@@ -55,6 +55,9 @@ build/header_cxx%: driver/header_test.c $(HEADER) $(ARCHIVE) | build
 build/vectors: bench/vectors.c $(SIMULATOR) $(BENCH_HEADERS) | build
 	$(CCALL) -o $@ bench/vectors.c $(SIMULATOR)
 
+build/old_plans: bench/old_plans.c $(HEADER) $(ARCHIVE) | build
+	$(CCALL) -o $@ bench/old_plans.c $(ARCHIVE)
+
 build/differential: $(COMPARISON) $(GENERATOR) $(SIMULATOR) $(BENCH_HEADERS) $(ARCHIVE) | build
 	$(CCALL) -o $@ $(COMPARISON) $(GENERATOR) $(SIMULATOR) $(ARCHIVE)
 
@@ -66,12 +69,13 @@ build/stack: $(STACK) $(GENERATOR) $(SIMULATOR) $(BENCH_HEADERS) $(ARCHIVE) | bu
 
 HEADER_TESTS = build/header_c99 build/header_c11 build/header_cxx11
 
-ctest: build/driver $(HEADER_TESTS) build/vectors build/differential build/stack
+ctest: build/driver $(HEADER_TESTS) build/vectors build/old_plans build/differential build/stack
 	build/header_c99
 	build/header_c11
 	build/header_cxx11
 	driver/test.sh build/driver crates/trace_program/data
 	build/vectors crates/vectors_test/data/s106.bin crates/vectors_test/data/edges.bin
+	build/old_plans bench/data/one_level.bin
 	build/differential $(SEED) $(COUNT)
 	build/stack $(SEED) 1000
 
