@@ -92,7 +92,8 @@ oddText =
     49 ∷ 32 ∷ 49 ∷ 57 ∷ 10 ∷ 50 ∷ 32 ∷ 49 ∷ 53 ∷ 10 ∷ 51 ∷ 32 ∷ 49 ∷ 48 ∷ 10 ∷ 52 ∷ 32 ∷ 49 ∷ 48 ∷ 10 ∷ 53 ∷ 32 ∷ 49 ∷ 48 ∷ 10
     ∷ endText
 
--- "*The run above. *Empty step file: `end 0 0`. .. *Word 65,535 add 1: 0.", on level 0 and on level 2; odd numbers; refusals 1, 2 and 8, each before the next
+-- "*The run above. *Empty step file: `end 0 0`. .. *Word 65,535 add 1: 0.", on level 0 and on level 2; odd numbers; refusals 1, 2 and 8, each
+-- before the next
 unfoldable pub textEdges : List TextEdge
 textEdges =
     record { processors = 2; file = worked; steps = bytesOf workedSteps; text = workedText }

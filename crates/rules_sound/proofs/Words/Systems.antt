@@ -55,7 +55,11 @@ module _ {good : WordOf → Bool} where
     put-task t x k =
         let ys = set (r .tasks) (t .0 - 1) x in
         let each = every-set (taskGood good) (r .tasks) (t .0 - 1) x (h .tasks) k in
-        record { zero = h .zero; tasks = pick-either (λ (l : List Task). every (taskGood good) l ≡ true) (eqb (t .0) 0) (r .tasks) ys (h .tasks) each; slots = h .slots }
+        record {
+          zero = h .zero;
+          tasks = pick-either (λ (l : List Task). every (taskGood good) l ≡ true) (eqb (t .0) 0) (r .tasks) ys (h .tasks) each;
+          slots = h .slots;
+        }
 
     put-cell : (d : ProcessorId) (c : ChannelId) (x : Cell) → GoodSystem good (withCell r d c x)
     unfolding withCell
@@ -68,23 +72,28 @@ module _ {good : WordOf → Bool} where
         let n = r .network in
         let rest = noSlot ∷ drop (n .used) (n .slots) in
         let middle = drop p (take (n .used) (n .slots)) in
+        let used = every-take (slotGood good) (n .used) (n .slots) (h .slots) in
         let behind : every (slotGood good) (middle ++ rest) ≡ true =
         every-append (slotGood good) middle rest
-        ∙ and-both _ _ (every-drop (slotGood good) p (take (n .used) (n .slots)) (every-take (slotGood good) (n .used) (n .slots) (h .slots))) (every-drop (slotGood good) (n .used) (n .slots) (h .slots)) in
+        ∙ and-both _ _ (every-drop (slotGood good) p (take (n .used) (n .slots)) used) (every-drop (slotGood good) (n .used) (n .slots) (h .slots)) in
         record {
           zero = h .zero;
           tasks = h .tasks;
-          slots = every-append (slotGood good) (take (p - 1) (n .slots)) (middle ++ rest) ∙ and-both _ _ (every-take (slotGood good) (p - 1) (n .slots) (h .slots)) behind;
+          slots =
+              every-append (slotGood good) (take (p - 1) (n .slots)) (middle ++ rest)
+              ∙ and-both _ _ (every-take (slotGood good) (p - 1) (n .slots) (h .slots)) behind;
         }
 
-  pub put-cells : (n : ℕ) (test : ChannelId → Bool) (rule : Cell → Cell) (d : ProcessorId) (r : System) → GoodSystem good r → GoodSystem good (forChannels n test rule d r)
+  pub put-cells : (n : ℕ) (test : ChannelId → Bool) (rule : Cell → Cell) (d : ProcessorId) (r : System) → GoodSystem good r
+      → GoodSystem good (forChannels n test rule d r)
   put-cells n test rule d r h = forChannels-all test rule d (GoodSystem good) n r (λ q i x l k. put-cell q k d (channelId (suc i)) x) h
 
   pub birth-good : (r : System) → GoodSystem good r → (t : TaskId) (d : ProcessorId) → GoodSystem good (birth r t d)
   unfolding birth
   birth-good r h t d = put-cells 128 _ _ d _ (put-task r h t (born d) (h .zero))
 
-  pub outcome-good : (r : System) → GoodSystem good r → (s u : TaskId) (c : ChannelId) (d : ProcessorId) (o : Outcome) → GoodOutcome good o → GoodEffect good (withOutcome r s u c d o)
+  pub outcome-good : (r : System) → GoodSystem good r → (s u : TaskId) (c : ChannelId) (d : ProcessorId) (o : Outcome) → GoodOutcome good o
+      → GoodEffect good (withOutcome r s u c d o)
   unfolding withOutcome
   outcome-good r h s u c d o k =
       record {
@@ -96,7 +105,11 @@ module _ {good : WordOf → Bool} where
   pub completed-good : (e : Effect) → GoodEffect good e → GoodSystem good (completed e)
   unfolding completed
   completed-good e h =
-      record { zero = h .system .zero; tasks = h .system .tasks; slots = joined-good good (e .system .network) _ (h .system .slots) (h .posting .messages (e .system .processors)) }
+      record {
+        zero = h .system .zero;
+        tasks = h .system .tasks;
+        slots = joined-good good (e .system .network) _ (h .system .slots) (h .posting .messages (e .system .processors));
+      }
 
   pub started-good : good zeroWord ≡ true → (n : ℕ) (p : Plan) → GoodSystem good (started n p)
   unfolding started blank every messageGood
