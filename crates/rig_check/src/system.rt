@@ -11,6 +11,7 @@ ghost use Rattle.rules.specs.Sound.{systemOk};
 ghost use Rattle.rules.specs.Systems.{meaning};
 ghost use Rattle.rig_check.specs.system.Tasks.{lastKind, tasksOk};
 use crate::tasks::task_ok;
+use plan::Instruction;
 use plan::Plan;
 use plan::PlanAnswer;
 use rules::system::System;
@@ -33,9 +34,9 @@ fn processors_ok(n: u8) -> bool
 }
 
 // The kind of the last executed instruction of task k + 1, which is at place pc; 0 where there is none.
-fn last_kind<'a>(lengths: &'a [u8; 64], opcodes: &'a [u8; 4096], k: usize, pc: u8) -> u8
+fn last_kind<'a>(lengths: &'a [u8; 64], codes: &'a [u32; 4096], k: usize, pc: u8) -> u8
     requires { ⌜ (k < 64) × (getD (now lengths) k 0 ≤ 64) ⌝ }
-    ensures { λ r. ⌜ r ≡ lastKind (now (lengths .entry)) (now (opcodes .entry)) k pc ⌝ }
+    ensures { λ r. ⌜ r ≡ lastKind (now (lengths .entry)) (now (codes .entry)) k pc ⌝ }
 {
     let place = base::wide8(pc);
     if place <= 1 {
@@ -45,7 +46,9 @@ fn last_kind<'a>(lengths: &'a [u8; 64], opcodes: &'a [u8; 4096], k: usize, pc: u
     if base::wide8(lengths[k]) <= i {
         return 0;
     }
-    opcodes[64 * k + i]
+    let code = codes[64 * k + i];
+    let last = Instruction::of(code);
+    last.opcode
 }
 
 // Tasks 1 to T, of a rig whose plan's sizes are in range.
@@ -60,7 +63,7 @@ fn tasks_ok(r: System) -> bool
     let mut k: usize = 0;
     while k < end {
         let x = r.tasks[k];
-        let kind = last_kind(&p.lengths, &p.opcodes, k, x.pc);
+        let kind = last_kind(&p.lengths, &p.codes, k, x.pc);
         if !task_ok(n, m, p.lengths[k], kind, x) {
             return false;
         }

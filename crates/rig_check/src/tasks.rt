@@ -1,12 +1,15 @@
 // One task within the limits of refusal 9, by its record and what is looked at of its program.
 ghost use mathlib.Core.Path.{_≡_};
 ghost use Prim.Native.Nat.{_^_};
-ghost use lib.Dec.{ltb};
+ghost use lib.Dec.{eqb, ltb};
+ghost use Rattle.base.specs.Lists.{every};
+ghost use Rattle.plan.specs.Words.{wordNumbers};
 ghost use Rattle.rules.specs.Sound.{unbornOk, whereOk, placeOk};
 ghost use Rattle.rig_check.specs.tasks.Tests.{lastWith, bornWith, taskWith};
 use crate::limits::processor_ok;
 use plan::RECEIVE;
 use plan::SEND;
+use plan::Word;
 use rules::task::Task;
 use rules::task::TaskState;
 use task_rules::state::is_in;
@@ -21,6 +24,16 @@ fn children_ok(m: u8, children: u64) -> bool
     children >> m == 0
 }
 
+// Every level is 0.
+fn is_zero(w: Word) -> bool
+    ensures { λ b. ⌜ b ≡ every (eqb 0) (wordNumbers w) ⌝ }
+{
+    base::both(
+        0 == w.0,
+        base::both(0 == w.1, base::both(0 == w.2, 0 == w.3)),
+    )
+}
+
 // An unborn task, with any children and no mark.
 fn unborn_ok(x: Task) -> bool
     ensures { λ b. ⌜ b ≡ unbornOk x ⌝ }
@@ -29,7 +42,7 @@ fn unborn_ok(x: Task) -> bool
     let w = x.word;
     let home = x.home;
     let unmoved = base::both(home.0 == 0, x.moves == 0);
-    let fresh = base::both(0 == w.0, base::both(!x.overflow, unmoved));
+    let fresh = base::both(is_zero(w), base::both(!x.overflow, unmoved));
     base::both(d.0 == 0, base::both(x.pc == 1, fresh))
 }
 

@@ -83,6 +83,6 @@ module _ {f : Facts} {n : ℕ} {ts : List Task} {s : Store} {used : ℕ} (p : Pa
   child-ok (Migration d t) o = refl
 
   pub openable : (m : Message) → messageOk n (f .tasks) m ≡ true
-      → OpenableAt m (siteIn (f .operands) ts s (messageScope (f .senders) (f .receivers) (f .parents) m))
+      → OpenableAt m (siteIn (f .codes) ts s (messageScope (f .senders) (f .receivers) (f .parents) m))
   unfolding siteIn
   openable m o = record { called = omega (arith, message-reached m o .called); child = child-ok m o }

@@ -1,5 +1,5 @@
 -- A ready task of the parts of a rig that 9 does not refuse: its place, its desk, its move count, and the argument of its next instruction.
-use mathlib.Core.Path.{_≡_, refl}
+use mathlib.Core.Path.{_≡_, refl, sym, subst}
 use mathlib.Core.Bool.{true, _||_}
 use mathlib.Core.List.{List}
 use Prim.Native.Nat.{ℕ, _≤_}
@@ -51,7 +51,7 @@ argument-fine n few i h =
 
 -- the next instruction of task t
 abbrev pub nextAt : Facts → List Task → TaskId → Instruction
-nextAt f ts t = instructionIn (f .opcodes) (f .operands) t (taskIn ts t .pc)
+nextAt f ts t = instructionIn (f .codes) t (taskIn ts t .pc)
 
 module _ {f : Facts} {n : ℕ} {ts : List Task} {s : Store} {used : ℕ} (p : PartsOf f n ts s used) (t : TaskId) where
   module _ (w : within 1 (f .tasks) (t .0) ≡ true) (ready : isIn Ready (taskIn ts t) ≡ true) where
@@ -84,7 +84,8 @@ module _ {f : Facts} {n : ℕ} {ts : List Task} {s : Store} {used : ℕ} (p : Pa
     instruction-ok =
         let r = p .system in
         let o = rig-sound p in
-        rw (p .facts-of, p .tasks, next-read r (o .rig) t low high ready-in) (next-fine r o t low high ready-in)
+        rw (p .facts-of, p .tasks)
+        (subst (λ (i : Instruction). instructionOk (r .plan .tasks) i ≡ true) (sym (next-read r (o .rig) t low high ready-in)) (next-fine r o t low high ready-in))
 
     pub argument-ok : argumentOk (nextAt f ts t) ≡ true
     argument-ok = argument-fine (f .tasks) (count-few p) (nextAt f ts t) instruction-ok

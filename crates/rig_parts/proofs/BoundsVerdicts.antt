@@ -83,8 +83,8 @@ module _ {f : Facts} {n : ℕ} {ts : List Task} {s : Store} {used : ℕ} (p : Pa
   unfolding judgedRun
   run-feasible =
       let k = ranIn f ts s t (nextAt f ts t) in
-      answered-ok n used (runRefusal (f .opcodes) (f .operands) (f .tasks) ts t) (fittingIn n used k)
-      (λ a. let (w, ready) = run-passed (f .opcodes) (f .operands) (f .tasks) ts t a in fitting-ok n used k (ran-placed w ready))
+      answered-ok n used (runRefusal (f .codes) (f .tasks) ts t) (fittingIn n used k)
+      (λ a. let (w, ready) = run-passed (f .codes) (f .tasks) ts t a in fitting-ok n used k (ran-placed w ready))
 
   pub move-feasible : (e : ProcessorId) → verdictOk n used (judgedMove (f .tasks) n ts used t e) ≡ true
   unfolding judgedMove

@@ -58,5 +58,5 @@ module _ (r : System) where
   -- a rule about a channel, between tasks of the rig
   pub applied-effect : Holds (r .processors) (r .plan) r → (a b : TaskId) (c : ChannelId) (d : ProcessorId) → a .0 ≤ r .plan .tasks → b .0 ≤ r .plan .tasks
       → 1 ≤ c .0 → (rule : Site → Outcome)
-      → effectOf r (change (scope a b c d) (rule (siteIn (r .plan .operands) (r .tasks) (storeIn r) (scope a b c d))) Nothing) ≡ applied r a b c d rule
+      → effectOf r (change (scope a b c d) (rule (siteIn (r .plan .codes) (r .tasks) (storeIn r) (scope a b c d))) Nothing) ≡ applied r a b c d rule
   applied-effect h a b c d ah bh l rule = rw (site-read r h a b c d ah bh l) (outcome-effect d _ a b c l)

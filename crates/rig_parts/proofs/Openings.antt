@@ -75,7 +75,7 @@ module _ (r : System) (f : Startable (r .processors) (r .plan)) (o : Holds (r .p
   -- a letter between the ends of a channel
   on-channel : (c : ChannelId) (d : ProcessorId) (rule : Site → Outcome) → channelNumberOk c ≡ true
       → let k = channelScope (endsOf (r .plan) .senders) (endsOf (r .plan) .receivers) c d in
-      onChannel r c d rule ≡ effectOf r (change k (rule (siteIn (r .plan .operands) (r .tasks) (storeIn r) k)) Nothing)
+      onChannel r c d rule ≡ effectOf r (change k (rule (siteIn (r .plan .codes) (r .tasks) (storeIn r) k)) Nothing)
   on-channel c d rule e =
       let l = within-low 1 128 (c .0) e in
       let h = within-high 1 128 (c .0) e in

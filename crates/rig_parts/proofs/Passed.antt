@@ -24,10 +24,10 @@ use Rattle.rig_parts.specs.MoveVerdicts.{moveRefusal}
 use Rattle.rig_parts.proofs.Answers.{passed}
 
 -- a run of task t
-pub run-passed : (opcodes operands : List ℕ) (m : ℕ) (ts : List Task) (t : TaskId) → isAccepted (runRefusal opcodes operands m ts t) ≡ true
+pub run-passed : (codes : List ℕ) (m : ℕ) (ts : List Task) (t : TaskId) → isAccepted (runRefusal codes m ts t) ≡ true
     → (within 1 m (t .0) ≡ true) × (isIn Ready (taskIn ts t) ≡ true)
 unfolding runRefusal
-run-passed opcodes operands m ts t h =
+run-passed codes m ts t h =
     let (w, h₁) = passed (within 1 m (t .0)) NoTask _ refl h in
     let (ready, _) = passed (isIn Ready (taskIn ts t)) NotReady _ refl h₁ in
     (w, ready)

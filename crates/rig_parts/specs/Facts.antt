@@ -14,19 +14,18 @@ use Rattle.plan_index.specs.ends.Derived.{endsOf}
 
 pub record Facts : Type 0 where
   pub tasks : ℕ
-  pub opcodes : List ℕ
-  pub operands : List ℕ
+  pub codes : List ℕ
   pub numbers : List ℕ
   pub senders : List ℕ
   pub receivers : List ℕ
   pub parents : List ℕ
 
-abbrev pub facts : ℕ → List ℕ → List ℕ → List ℕ → List ℕ → List ℕ → List ℕ → Facts
-facts n opcodes operands numbers senders receivers parents =
-    record { tasks = n; opcodes = opcodes; operands = operands; numbers = numbers; senders = senders; receivers = receivers; parents = parents }
+abbrev pub facts : ℕ → List ℕ → List ℕ → List ℕ → List ℕ → List ℕ → Facts
+facts n codes numbers senders receivers parents =
+    record { tasks = n; codes = codes; numbers = numbers; senders = senders; receivers = receivers; parents = parents }
 
 abbrev pub factsOf : Plan → Facts
-factsOf p = facts (p .tasks) (p .opcodes) (p .operands) (endsOf p .numbers) (endsOf p .senders) (endsOf p .receivers) (endsOf p .parents)
+factsOf p = facts (p .tasks) (p .codes) (endsOf p .numbers) (endsOf p .senders) (endsOf p .receivers) (endsOf p .parents)
 
 -- these are the parts of a rig that 9 does not refuse: desks, tasks, what is kept for channels, how many letters
 pub record PartsOf (f : Facts) (n : ℕ) (ts : List Task) (s : Store) (used : ℕ) : Type 0 where

@@ -8,6 +8,7 @@ use Rattle.base.specs.Choice.{pick, within}
 use Rattle.plan.specs.declared.TaskId.{TaskId}
 use Rattle.plan.specs.declared.ChannelId.{ChannelId}
 use Rattle.plan.specs.declared.Instruction.{Instruction}
+use Rattle.plan.specs.Programs.{instructionOf}
 use Rattle.rules.specs.declared.task.Task.{Task}
 use Rattle.rules.specs.declared.task.TaskState.{TaskState}
 use Rattle.rules.specs.declared.task.TaskState.the-variants.{Sending, Receiving}
@@ -25,8 +26,8 @@ abbrev pub slotAt : TaskId → ℕ → ℕ
 slotAt t i = 64 * (t .0 - 1) + i
 
 -- the instruction at place pc of task t
-abbrev pub instructionIn : List ℕ → List ℕ → TaskId → ℕ → Instruction
-instructionIn opcodes operands t pc = record { opcode = getD opcodes (slotAt t (pc - 1)) 0; operand = getD operands (slotAt t (pc - 1)) 0 }
+abbrev pub instructionIn : List ℕ → TaskId → ℕ → Instruction
+instructionIn codes t pc = instructionOf (getD codes (slotAt t (pc - 1)) 0)
 
 -- what a list has for the last executed instruction of task t at place pc, 0 if there is none
 unfoldable pub lastOf : List ℕ → TaskId → ℕ → ℕ
@@ -34,7 +35,7 @@ lastOf xs t pc = pick (eqb (t .0) 0) 0 (pick (ltb 1 pc) (getD xs (slotAt t (pc -
 
 -- task t, with record x, is in this state on channel c
 abbrev pub isOnIn : List ℕ → TaskState → TaskId → ChannelId → Task → Bool
-isOnIn operands s t c x = isIn s x && eqb (lastOf operands t (x .pc)) (c .0)
+isOnIn codes s t c x = isIn s x && eqb (instructionOf (lastOf codes t (x .pc)) .operand) (c .0)
 
 -- a cell with nothing in it, where a step is about no channel
 abbrev pub noCell : Cell
@@ -56,11 +57,11 @@ unfoldable pub cellPut : Scope → Cell → Store → Store
 cellPut k x s = pick (eqb (k .channel .0) 0) s (cellStored s (k .processor) (k .channel) x)
 
 unfoldable pub siteIn : List ℕ → List Task → Store → Scope → Site
-siteIn operands ts s k =
+siteIn codes ts s k =
     record {
       sender = taskIn ts (k .sender);
       receiver = taskIn ts (k .receiver);
-      sending = isOnIn operands Sending (k .sender) (k .channel) (taskIn ts (k .sender));
-      receiving = isOnIn operands Receiving (k .receiver) (k .channel) (taskIn ts (k .receiver));
+      sending = isOnIn codes Sending (k .sender) (k .channel) (taskIn ts (k .sender));
+      receiving = isOnIn codes Receiving (k .receiver) (k .channel) (taskIn ts (k .receiver));
       cell = cellOf s k;
     }

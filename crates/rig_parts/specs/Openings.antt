@@ -43,4 +43,4 @@ messageChange k (Migration d t) x =
 unfoldable pub openedIn : Facts → List Task → Store → Message → Change
 openedIn f ts s m =
     let k = messageScope (f .senders) (f .receivers) (f .parents) m in
-    messageChange k m (siteIn (f .operands) ts s k)
+    messageChange k m (siteIn (f .codes) ts s k)

@@ -86,17 +86,17 @@ fittingIn n used k = unless (fitsIn n (k .outcome .posting) used) (Refused Netwo
 unfoldable pub ranIn : Facts → List Task → Store → TaskId → Instruction → Change
 ranIn f ts s t i =
     let k = runScope (f .senders) (f .receivers) (f .parents) t (taskIn ts t .processor) i in
-    let x = siteIn (f .operands) ts s k in
+    let x = siteIn (f .codes) ts s k in
     runChange k t i (sendIn (f .numbers) t i k x) x
 
 -- the tests of a run but the last: 10, 11, 12
-unfoldable pub runRefusal : List ℕ → List ℕ → ℕ → List Task → TaskId → StepAnswer
-runRefusal opcodes operands count ts t =
+unfoldable pub runRefusal : List ℕ → ℕ → List Task → TaskId → StepAnswer
+runRefusal codes count ts t =
     let x = taskIn ts t in
-    runTests count t x (instructionIn opcodes operands t (x .pc)) true
+    runTests count t x (instructionIn codes t (x .pc)) true
 
 -- what the instruction does, where they refuse nothing and its letters fit
 unfoldable pub judgedRun : Facts → ℕ → List Task → Store → ℕ → TaskId → Verdict
 judgedRun f n ts s used t =
-    unlessRefused (runRefusal (f .opcodes) (f .operands) (f .tasks) ts t)
-    (fittingIn n used (ranIn f ts s t (instructionIn (f .opcodes) (f .operands) t (taskIn ts t .pc))))
+    unlessRefused (runRefusal (f .codes) (f .tasks) ts t)
+    (fittingIn n used (ranIn f ts s t (instructionIn (f .codes) t (taskIn ts t .pc))))

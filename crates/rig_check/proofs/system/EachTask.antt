@@ -47,7 +47,7 @@ module _ (r : System) (h : sizesOk (meaning r) ≡ true) where
 
 -- task k + 1, by what is looked at of its program
 pub record-with : (r : System) (k : ℕ)
-    → taskWith (r .processors) (r .plan .tasks) (getD (r .plan .lengths) k 0) (lastKind (r .plan .lengths) (r .plan .opcodes) k (getD (r .tasks) k noTask .pc)) (getD (r .tasks) k noTask)
+    → taskWith (r .processors) (r .plan .tasks) (getD (r .plan .lengths) k 0) (lastKind (r .plan .lengths) (r .plan .codes) k (getD (r .tasks) k noTask .pc)) (getD (r .tasks) k noTask)
     ≡ recordOk r k
 record-with r k =
     let x = getD (r .tasks) k noTask in

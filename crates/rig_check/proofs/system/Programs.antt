@@ -14,7 +14,7 @@ use Rattle.rules.specs.declared.task.Task.{Task}
 use Rattle.rules.specs.Places.{lastIn}
 use Rattle.rig_check.specs.system.Tasks.{lastKind}
 
-pub last-kind : (p : Plan) (k : ℕ) (x : Task) → lastIn (programOf p k) x .opcode ≡ lastKind (p .lengths) (p .opcodes) k (x .pc)
+pub last-kind : (p : Plan) (k : ℕ) (x : Task) → lastIn (programOf p k) x .opcode ≡ lastKind (p .lengths) (p .codes) k (x .pc)
 unfolding lastIn
 last-kind p k x =
     let n = getD (p .lengths) k 0 in

@@ -6,6 +6,7 @@ use lib.Dec.{ltb}
 use lib.ListN.{getD}
 use Rattle.base.specs.Choice.{pick}
 use Rattle.base.specs.Range.{upTo}
+use Rattle.plan.specs.Programs.{instructionOf}
 use Rattle.rules.specs.declared.system.System.{System}
 use Rattle.rules.specs.Numbers.{taskId}
 use Rattle.rules.specs.Systems.{taskAt, taskProgram}
@@ -13,7 +14,7 @@ use Rattle.rules.specs.Sound.{taskOk}
 
 -- of task k + 1 at place pc; 0 where it has executed none
 abbrev pub lastKind : List ℕ → List ℕ → ℕ → ℕ → ℕ
-lastKind lengths opcodes k pc = pick (ltb 1 pc && ltb (pc - 2) (getD lengths k 0)) (getD opcodes (64 * k + (pc - 2)) 0) 0
+lastKind lengths codes k pc = pick (ltb 1 pc && ltb (pc - 2) (getD lengths k 0)) (instructionOf (getD codes (64 * k + (pc - 2)) 0) .opcode) 0
 
 -- the part of `systemOk` about the tasks
 abbrev pub tasksOk : System → Bool

@@ -31,23 +31,29 @@ returns-2 c =
     let v = c .before .wide82 .ensures in
     rw (lt-ltb 1 (a .pc) (omega arith), le-ltb (a .pc - 2) (getD (a .lengths .now) (a .k) 0) (omega arith)) refl
 
-mul-result : tie.Need-mul-result
-mul-result c = search needs
+mul-code : tie.Need-mul-code
+mul-code c = search needs
 
-add-result : tie.Need-add-result
-add-result c = search needs
+add-code : tie.Need-add-code
+add-code c = search needs
 
-element-copy-out-result : tie.Need-element-copy-out-result
-element-copy-out-result c = search needs
+mul-code-2 : tie.Need-mul-code-2
+mul-code-2 c = search needs
+
+element-copy-out-code : tie.Need-element-copy-out-code
+element-copy-out-code c = search needs
+
+of-requires : tie.Need-of-requires
+of-requires c κs = search needs
 
 returns-3 : tie.Need-returns-3
 returns-3 c =
-    let f = c .before in
+    let f = c .before .before in
     let e = f .before .before .before in
     let a = e .before .before .args in
     let w = e .before .wide8 .ensures in
     let v = f .before .wide82 .ensures in
-    rw (lt-ltb 1 (a .pc) (omega arith), lt-ltb (a .pc - 2) (getD (a .lengths .now) (a .k) 0) (omega arith), w) refl
+    rw (lt-ltb 1 (a .pc) (omega arith), lt-ltb (a .pc - 2) (getD (a .lengths .now) (a .k) 0) (omega arith), c .of .ensures, w) refl
 
 pub last-kind-spec : {M : Type 1} → statement M
 last-kind-spec =
@@ -59,7 +65,9 @@ last-kind-spec =
     element-copy-out-wide8
     wide8-requires-2
     returns-2
-    mul-result
-    add-result
-    element-copy-out-result
+    mul-code
+    add-code
+    mul-code-2
+    element-copy-out-code
+    of-requires
     returns-3)

@@ -1,6 +1,4 @@
 -- `unborn_ok` tests an unborn task.
-use Rattle.base.specs.Lists.{every}
-use Rattle.base.proofs.Tests.{and-true}
 use Rattle.rules.specs.Sound.{unbornOk}
 use borrow.Author.Needs.{needs}
 use Rattle.rig_check.proofs.tasks.unborn_ok.Statement.{statement}
@@ -8,6 +6,9 @@ use Rattle.rig_check.proofs.tasks.unborn_ok.Tie as tie
 
 both-requires : tie.Need-both-requires
 both-requires c κs = search needs
+
+is-zero-requires : tie.Need-is-zero-requires
+is-zero-requires c κs = search needs
 
 both-requires-2 : tie.Need-both-requires-2
 both-requires-2 c κs = search needs
@@ -22,9 +23,9 @@ both-requires-5 : tie.Need-both-requires-5
 both-requires-5 c κs = search needs
 
 returns : tie.Need-returns
-unfolding unbornOk every
-returns c = rw (and-true) (cc)
+unfolding unbornOk
+returns c = cc
 
 pub unborn-ok-spec : {M : Type 1} → statement M
 unborn-ok-spec =
-    tie.close (tie.spec both-requires both-requires-2 both-requires-3 both-requires-4 both-requires-5 returns)
+    tie.close (tie.spec both-requires is-zero-requires both-requires-2 both-requires-3 both-requires-4 both-requires-5 returns)
