@@ -11,7 +11,7 @@ use Rattle.base.proofs.Tables.{getD-table, table-same, set-table}
 use Rattle.board.specs.packing.Packed.{taskOf}
 use Rattle.rules.specs.declared.task.Task.{Task}
 use Rattle.rules.specs.Tasks.{noTask}
-use Rattle.board.specs.Lent.{channelColumn, tasksOn}
+use Rattle.board.specs.Lent.{channelColumn, taskOn, tasksOn}
 
 module _ {A : Type 0} (f : ℕ → A) (board : List ℕ) where
   pub getD-channel : (i : ℕ) (d : A) → i < 128 → getD (channelColumn f board) i d ≡ f (getD board i 0)
@@ -35,41 +35,61 @@ module _ {A : Type 0} (f : ℕ → A) (board : List ℕ) where
   keep-channel-above i w h = keep i w (λ j b (e : j ≡ i). omega arith)
 
 module _ (board : List ℕ) where
-  pub getD-task : (k : ℕ) (d : Task) → k < 64 → getD (tasksOn board) k d ≡ taskOf (getD board (128 + 2 * k) 0) (getD board (129 + 2 * k) 0)
+  pub getD-task : (k : ℕ) (d : Task) → k < 64 → getD (tasksOn board) k d ≡ taskOn board k
   unfolding tasksOn
-  getD-task k d h = getD-table 64 (λ j. taskOf (getD board (128 + 2 * j) 0) (getD board (129 + 2 * j) 0)) k d h
+  getD-task k d h = getD-table 64 (taskOn board) k d h
 
   pub keep-tasks : (i w : ℕ) → i < 128 → tasksOn (set board i w) ≡ tasksOn board
   unfolding tasksOn
   keep-tasks i w h =
-      table-same 64 (λ j. taskOf (getD (set board i w) (128 + 2 * j) 0) (getD (set board i w) (129 + 2 * j) 0)) (λ j. taskOf (getD board (128 + 2 * j) 0) (getD board (129 + 2 * j) 0))
-      (λ j b. rw (getD-set-other board i (128 + 2 * j) w 0 (λ (e : 128 + 2 * j ≡ i). omega arith), getD-set-other board i (129 + 2 * j) w 0 (λ (e : 129 + 2 * j ≡ i). omega arith)) refl)
+      table-same 64 (taskOn (set board i w)) (taskOn board)
+      (λ j b.
+      rw (
+        getD-set-other board i (128 + 2 * j) w 0 (λ (e : 128 + 2 * j ≡ i). omega arith),
+        getD-set-other board i (129 + 2 * j) w 0 (λ (e : 129 + 2 * j ≡ i). omega arith),
+        getD-set-other board i (256 + j) w 0 (λ (e : 256 + j ≡ i). omega arith),
+      )
+      refl)
 
-  -- the two numbers of a task are stored
-  pub set-task : (k w n : ℕ) (x : Task) → k < 64 → 129 + 2 * k < length board → taskOf w n ≡ x → tasksOn (set (set board (128 + 2 * k) w) (129 + 2 * k) n) ≡ set (tasksOn board) k x
+-- the three numbers of task k + 1 are stored
+module _ (board : List ℕ) (k w c v : ℕ) (h : k < 64) (l : length board ≡ 320) where
+  abbrev one : List ℕ
+  one = set board (128 + 2 * k) w
+
+  abbrev two : List ℕ
+  two = set one (129 + 2 * k) c
+
+  abbrev three : List ℕ
+  three = set two (256 + k) v
+
+  long : length two ≡ 320
+  long = simp (length-set, l)
+
+  past : (i : ℕ) → i ≢ 128 + 2 * k → i ≢ 129 + 2 * k → i ≢ 256 + k → getD three i 0 ≡ getD board i 0
+  past i p q r = getD-set-other two (256 + k) i v 0 r ∙ getD-set-other one (129 + 2 * k) i c 0 q ∙ getD-set-other board (128 + 2 * k) i w 0 p
+
+  here : taskOn three k ≡ taskOf w c v
+  here =
+      rw (
+        getD-set-other two (256 + k) (128 + 2 * k) v 0 (λ (q : 128 + 2 * k ≡ 256 + k). omega arith),
+        getD-set-other one (129 + 2 * k) (128 + 2 * k) c 0 (λ (q : 128 + 2 * k ≡ 129 + 2 * k). omega arith),
+        getD-set-same board (128 + 2 * k) w 0 (omega arith),
+        getD-set-other two (256 + k) (129 + 2 * k) v 0 (λ (q : 129 + 2 * k ≡ 256 + k). omega arith),
+        getD-set-same one (129 + 2 * k) c 0 (rw (length-set board (128 + 2 * k) w) (omega arith)),
+        getD-set-same two (256 + k) v 0 (rw long (omega arith)),
+      )
+      refl
+
+  other : (j : ℕ) → j < 64 → j ≢ k → taskOn board j ≡ taskOn three j
+  other j b ne =
+      rw (
+        past (128 + 2 * j) (λ (q : 128 + 2 * j ≡ 128 + 2 * k). ne (omega arith)) (λ (q : 128 + 2 * j ≡ 129 + 2 * k). omega arith) (λ (q : 128 + 2 * j ≡ 256 + k). omega arith),
+        past (129 + 2 * j) (λ (q : 129 + 2 * j ≡ 128 + 2 * k). omega arith) (λ (q : 129 + 2 * j ≡ 129 + 2 * k). ne (omega arith)) (λ (q : 129 + 2 * j ≡ 256 + k). omega arith),
+        past (256 + j) (λ (q : 256 + j ≡ 128 + 2 * k). omega arith) (λ (q : 256 + j ≡ 129 + 2 * k). omega arith) (λ (q : 256 + j ≡ 256 + k). ne (omega arith)),
+      )
+      refl
+
+  pub set-task : (x : Task) → taskOf w c v ≡ x → tasksOn three ≡ set (tasksOn board) k x
   unfolding tasksOn
-  set-task k w n x h l e =
-      sym
-      (ap (λ (y : Task). set (table 64 before) k y) (sym e ∙ sym here) ∙ set-table 64 before after k noTask h other)
-    where
-      before : ℕ → Task
-      before j = taskOf (getD board (128 + 2 * j) 0) (getD board (129 + 2 * j) 0)
-
-      one : List ℕ
-      one = set board (128 + 2 * k) w
-
-      after : ℕ → Task
-      after j = taskOf (getD (set one (129 + 2 * k) n) (128 + 2 * j) 0) (getD (set one (129 + 2 * k) n) (129 + 2 * j) 0)
-
-      here : after k ≡ taskOf w n
-      here =
-          rw
-          (getD-set-other one (129 + 2 * k) (128 + 2 * k) n 0 (λ (q : 128 + 2 * k ≡ 129 + 2 * k). omega arith), getD-set-same board (128 + 2 * k) w 0 (omega arith), getD-set-same one (129 + 2 * k) n 0 (rw (length-set board (128 + 2 * k) w) l))
-          refl
-
-      other : (j : ℕ) → j < 64 → j ≢ k → before j ≡ after j
-      other j b ne =
-          sym
-          (rw
-          (getD-set-other one (129 + 2 * k) (128 + 2 * j) n 0 (λ (q : 128 + 2 * j ≡ 129 + 2 * k). omega arith), getD-set-other board (128 + 2 * k) (128 + 2 * j) w 0 (λ (q : 128 + 2 * j ≡ 128 + 2 * k). ne (omega arith)), getD-set-other one (129 + 2 * k) (129 + 2 * j) n 0 (λ (q : 129 + 2 * j ≡ 129 + 2 * k). ne (omega arith)), getD-set-other board (128 + 2 * k) (129 + 2 * j) w 0 (λ (q : 129 + 2 * j ≡ 128 + 2 * k). omega arith))
-          refl)
+  set-task x e =
+      sym (ap (λ (y : Task). set (table 64 (taskOn board)) k y) (sym e ∙ sym here) ∙ set-table 64 (taskOn board) (taskOn three) k noTask h other)

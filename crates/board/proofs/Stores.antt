@@ -9,6 +9,7 @@ use lib.ListN.{getD, set, length, length-set}
 use lib.Seq.{set-getD}
 use Rattle.plan.specs.declared.ProcessorId.{ProcessorId}
 use Rattle.plan.specs.declared.ChannelId.{ChannelId}
+use Rattle.plan.specs.declared.Word.{Word}
 use Rattle.rules.specs.declared.channel.Channel.{Channel}
 use Rattle.rules.specs.declared.channel.Cell.{Cell}
 use Rattle.rules.specs.declared.system.Channels.{Channels}
@@ -19,15 +20,17 @@ use Rattle.rules.specs.declared.channel.Hint.{Hint}
 use Rattle.rules.specs.Cells.{withNoted}
 use Rattle.rules.specs.Tasks.{noTask}
 use Rattle.rules.specs.Systems.{entryIndex, readChannel, writeChannel, store, cellStored}
-use Rattle.board.specs.packing.Packed.{taskOf, taskWord, stateOf, stateNumber, channelOf, channelWord, travellingWord, low16, byte2, byte3, byte4, byte5, mark6, bit}
+use Rattle.board.specs.packing.Packed.{taskOf, taskWord, wordOf, wordNumber, stateOf, stateNumber, channelOf, channelWord, travellingWord, low16, byte2, byte3, byte4, byte5, mark6, bit}
 use Rattle.board.specs.Lent.{lent, channelColumn, channelsOn, tasksOn, storeOf, hintIn, heldIn, noteIn, ChannelPut, travels}
 use Rattle.board.proofs.Laws.{getD-channel, set-channel, keep-channel-above, getD-task, set-task, keep-tasks}
 
-pub task-read : (board : List ℕ) (n : ℕ) {m : ℕ} → m ≡ n → 1 ≤ n → n ≤ 64 → taskOf (getD board (126 + 2 * m) 0) (getD board (126 + 2 * m + 1) 0) ≡ getD (tasksOn board) (n - 1) noTask
+pub task-read : (board : List ℕ) (n : ℕ) {m : ℕ} → m ≡ n → 1 ≤ n → n ≤ 64
+    → taskOf (getD board (126 + 2 * m) 0) (getD board (126 + 2 * m + 1) 0) (getD board (255 + m) 0) ≡ getD (tasksOn board) (n - 1) noTask
 task-read board n {m} e one most =
     let a : 126 + 2 * m ≡ 128 + 2 * (n - 1) = omega arith in
     let b : 126 + 2 * m + 1 ≡ 129 + 2 * (n - 1) = omega arith in
-    rw b (rw a (sym (getD-task board (n - 1) noTask (omega arith))))
+    let d : 255 + m ≡ 256 + (n - 1) = omega arith in
+    rw b (rw a (rw d (sym (getD-task board (n - 1) noTask (omega arith)))))
 
 state-below : (s : TaskState) → stateNumber s < 128
 state-below Unborn = omega arith
@@ -47,8 +50,27 @@ state-of-number Receiving = refl
 state-of-number Moving = refl
 state-of-number Done = refl
 
+abbrev pub NarrowWord : Word → Type 0
+NarrowWord w = (w .0 < 65536) × (w .1 < 65536) × (w .2 < 65536) × (w .3 < 65536)
+
 abbrev pub NarrowTask : Task → Type 0
-NarrowTask x = (x .processor .0 < 256) × (x .pc < 256) × (x .home .0 < 256) × (x .word .0 < 65536) × (x .moves < 65536)
+NarrowTask x = (x .processor .0 < 256) × (x .pc < 256) × (x .home .0 < 256) × (x .moves < 65536) × NarrowWord (x .word)
+
+same-word : (w : Word) → NarrowWord w → wordOf (wordNumber w) ≡ w
+unfolding wordOf
+same-word w n = rw (p0, p1, p2, p3) refl
+  where
+    p0 : wordNumber w % 65536 ≡ w .0
+    p0 = omega (arith, n)
+
+    p1 : wordNumber w / 65536 % 65536 ≡ w .1
+    p1 = omega (arith, n)
+
+    p2 : wordNumber w / 4294967296 % 65536 ≡ w .2
+    p2 = omega (arith, n)
+
+    p3 : wordNumber w / 281474976710656 % 65536 ≡ w .3
+    p3 = omega (arith, n)
 
 bit-below : (b : Bool) → bit b < 2
 bit-below true = omega arith
@@ -58,10 +80,10 @@ bit-of-mark : (b : Bool) → eqb (bit b) 1 ≡ b
 bit-of-mark true = refl
 bit-of-mark false = refl
 
-same-task : (x : Task) → NarrowTask x → taskOf (taskWord x) (x .children) ≡ x
+same-task : (x : Task) → NarrowTask x → taskOf (taskWord x) (x .children) (wordNumber (x .word)) ≡ x
 unfolding taskOf
 same-task x n =
-    rw (p0, p1, p2, p3, p4, p5, p6, state-of-number (x .state), bit-of-mark (x .overflow)) refl
+    rw (p0, p1, p2, p3, p5, p6, state-of-number (x .state), bit-of-mark (x .overflow), same-word (x .word) (n .4)) refl
   where
     p0 : taskWord x % 128 ≡ stateNumber (x .state)
     p0 = omega (arith, state-below (x .state), bit-below (x .overflow), n)
@@ -75,27 +97,28 @@ same-task x n =
     p3 : taskWord x / 16777216 % 256 ≡ x .home .0
     p3 = omega (arith, state-below (x .state), bit-below (x .overflow), n)
 
-    p4 : taskWord x / 4294967296 % 65536 ≡ x .word .0
-    p4 = omega (arith, state-below (x .state), bit-below (x .overflow), n)
-
     p5 : taskWord x / 128 % 2 ≡ bit (x .overflow)
     p5 = omega (arith, state-below (x .state), bit-below (x .overflow), n)
 
     p6 : taskWord x / 281474976710656 % 65536 ≡ x .moves
     p6 = omega (arith, state-below (x .state), bit-below (x .overflow), n)
 
-module _ (board : List ℕ) (n : ℕ) (x : Task) {m w : ℕ} (e : m ≡ n) (one : 1 ≤ n) (most : n ≤ 64) (long : length board ≡ 256) (we : w ≡ taskWord x) (small : NarrowTask x) where
+module _ (board : List ℕ) (n : ℕ) (x : Task) {m w v : ℕ} (e : m ≡ n) (one : 1 ≤ n) (most : n ≤ 64) (long : length board ≡ 320) (we : w ≡ taskWord x) (ve : v ≡ wordNumber (x .word)) (small : NarrowTask x) where
   abbrev after : List ℕ
-  after = set (set board (126 + 2 * m) w) (126 + 2 * m + 1) (x .children)
+  after = set (set (set board (126 + 2 * m) w) (126 + 2 * m + 1) (x .children)) (255 + m) v
 
   pub task-written : tasksOn after ≡ set (tasksOn board) (n - 1) x
   task-written =
       let a : 126 + 2 * m ≡ 128 + 2 * (n - 1) = omega arith in
       let b : 126 + 2 * m + 1 ≡ 129 + 2 * (n - 1) = omega arith in
-      rw b (rw a (set-task board (n - 1) w (x .children) x (omega arith) (omega arith) (ap (λ (v : ℕ). taskOf v (x .children)) we ∙ same-task x small)))
+      let d : 255 + m ≡ 256 + (n - 1) = omega arith in
+      rw d (rw b (rw a (set-task board (n - 1) w (x .children) v (omega arith) long x (rw (we, ve) (same-task x small)))))
 
   kept : {A : Type 0} (f : ℕ → A) → channelColumn f after ≡ channelColumn f board
-  kept f = keep-channel-above f (set board (126 + 2 * m) w) (126 + 2 * m + 1) (x .children) (omega arith) ∙ keep-channel-above f board (126 + 2 * m) w (omega arith)
+  kept f =
+      keep-channel-above f (set (set board (126 + 2 * m) w) (126 + 2 * m + 1) (x .children)) (255 + m) v (omega arith)
+      ∙ keep-channel-above f (set board (126 + 2 * m) w) (126 + 2 * m + 1) (x .children) (omega arith)
+      ∙ keep-channel-above f board (126 + 2 * m) w (omega arith)
 
   pub channels-kept : channelsOn after ≡ channelsOn board
   unfolding channelsOn
@@ -115,7 +138,7 @@ mark-of : (a : ℕ) (b : Bool) → a < 281474976710656 → mark6 (a + 2814749767
 mark-of a true h = let e : (a + 281474976710656 * 1) / 281474976710656 % 2 ≡ 1 = omega arith in rw e refl
 mark-of a false h = let e : (a + 281474976710656 * 0) / 281474976710656 % 2 ≡ 0 = omega arith in rw e refl
 
-module _ (board : List ℕ) (k : ℕ) (y : Channel) {w : ℕ} (most : k < 128) (long : length board ≡ 256) (we : w ≡ channelWord y) (small : NarrowChannel y) where
+module _ (board : List ℕ) (k : ℕ) (y : Channel) {w : ℕ} (most : k < 128) (long : length board ≡ 320) (we : w ≡ channelWord y) (small : NarrowChannel y) where
   column : {A : Type 0} (f : ℕ → A) (v def : A) → f (channelWord y) ≡ v → channelColumn f (set board k w) ≡ set (channelColumn f board) k v
   column f v def q = set-channel f board k w v def most (omega arith) (ap f we ∙ q)
 
@@ -156,7 +179,7 @@ module _ (v p m : ℕ) (pe : p < 256) (me : m < 65536) where
   counted : low16 anew ≡ m
   counted = omega arith
 
-module _ (board : List ℕ) (k : ℕ) (h : Hint) {w : ℕ} (most : k < 128) (long : length board ≡ 256) (we : w ≡ travellingWord (getD board k 0) h) (pe : h .processor .0 < 256) (me : h .moves < 65536) where
+module _ (board : List ℕ) (k : ℕ) (h : Hint) {w : ℕ} (most : k < 128) (long : length board ≡ 320) (we : w ≡ travellingWord (getD board k 0) h) (pe : h .processor .0 < 256) (me : h .moves < 65536) where
   stays : {A : Type 0} (f : ℕ → A) (def : A) → f (travellingWord (getD board k 0) h) ≡ f (getD board k 0) → channelColumn f (set board k w) ≡ set (channelColumn f board) k (getD (channelColumn f board) k def)
   stays f def q = set-channel f board k w (getD (channelColumn f board) k def) def most (omega arith) (ap f we ∙ q ∙ sym (getD-channel f board k def most))
 

@@ -1,5 +1,5 @@
--- What a run lends: five tables of 768 entries, as the rig struct has them, and a board of 256 numbers: channel c's own entry at c - 1,
--- task t at 126 + 2 t and behind it its children.
+-- What a run lends: five tables of 768 entries, as the rig struct has them, and a board of 320 numbers: channel c's own entry at c - 1,
+-- task t at 126 + 2 t and behind it its children, its word at 255 + t.
 use mathlib.Core.List.{List}
 use mathlib.Core.Path.{_≡_}
 use Prim.Native.Nat.{ℕ, _+_, _*_, _≤_}
@@ -7,6 +7,7 @@ use lib.ListN.{getD, set, length}
 use Rattle.base.specs.Lists.{table}
 use Rattle.plan.specs.declared.ProcessorId.{ProcessorId}
 use Rattle.plan.specs.declared.ChannelId.{ChannelId}
+use Rattle.plan.specs.declared.TaskId.{TaskId}
 use Rattle.rules.specs.declared.channel.Channel.{Channel}
 use Rattle.rules.specs.declared.channel.Hint.{Hint}
 use Rattle.rules.specs.declared.channel.Offer.{Offer}
@@ -15,7 +16,7 @@ use Rattle.rules.specs.declared.system.Channels.{Channels}
 use Rattle.rules.specs.declared.system.Store.{Store}
 use Rattle.rules.specs.Numbers.{processorId}
 use Rattle.rules.specs.Cells.{hint, offer}
-use Rattle.rules.specs.Systems.{entryIndex, writeChannel, store}
+use Rattle.rules.specs.Systems.{entryIndex, writeChannel, store, taskStored}
 use Rattle.board.specs.packing.Packed.{low16, byte2, byte3, byte4, byte5, mark6, taskOf}
 
 -- all that is lent to be written, in the order of the parameters
@@ -33,7 +34,7 @@ lent hintprocessors hintmoves heldprocessors heldnumbers notes board =
 
 -- the board has all its numbers; of the tables no length is needed: they are columns as they are
 abbrev pub Whole : List ℕ → Type 0
-Whole board = length board ≡ 256
+Whole board = length board ≡ 320
 
 unfoldable pub channelColumn : {A : Type 0} → (ℕ → A) → List ℕ → List A
 channelColumn f board = table 128 (λ k. f (getD board k 0))
@@ -49,8 +50,12 @@ channelsOn board =
       travellingmoves = channelColumn low16 board;
     }
 
+-- task k + 1
+abbrev pub taskOn : List ℕ → ℕ → Task
+taskOn board k = taskOf (getD board (128 + 2 * k) 0) (getD board (129 + 2 * k) 0) (getD board (256 + k) 0)
+
 unfoldable pub tasksOn : List ℕ → List Task
-tasksOn board = table 64 (λ k. taskOf (getD board (128 + 2 * k) 0) (getD board (129 + 2 * k) 0))
+tasksOn board = table 64 (taskOn board)
 
 abbrev pub tasksOf : Lent → List Task
 tasksOf l = tasksOn (l .board)
@@ -87,12 +92,15 @@ noteIn notes d c = processorId (getD notes (entryIndex d c) 0)
 abbrev pub travels : Channel → Hint → Channel
 travels y h = record { granted = y .granted; awaiting = y .awaiting; carried = y .carried; travelling = h }
 
--- at i a pointer was stored, a held offer, and on the board a channel's own entry
+-- at i a pointer was stored, a held offer, and on the board a task and a channel's own entry
 abbrev pub HintPut : ℕ → Hint → List ℕ → List ℕ → List ℕ → List ℕ → Type 0
 HintPut i h hintprocessors hintmoves hintprocessors' hintmoves' = (hintprocessors' ≡ set hintprocessors i (h .processor .0)) × (hintmoves' ≡ set hintmoves i (h .moves))
 
 abbrev pub HeldPut : ℕ → Offer → List ℕ → List ℕ → List ℕ → List ℕ → Type 0
 HeldPut i o heldprocessors heldnumbers heldprocessors' heldnumbers' = (heldprocessors' ≡ set heldprocessors i (o .processor .0)) × (heldnumbers' ≡ set heldnumbers i (o .number))
+
+abbrev pub TaskPut : TaskId → Task → List ℕ → List ℕ → Type 0
+TaskPut t x board board' = (Whole board') × (tasksOn board' ≡ taskStored (tasksOn board) t x) × (channelsOn board' ≡ channelsOn board)
 
 abbrev pub ChannelPut : ℕ → Channel → List ℕ → List ℕ → Type 0
 ChannelPut i y board board' = (Whole board') × (channelsOn board' ≡ writeChannel (channelsOn board) i y) × (tasksOn board' ≡ tasksOn board)

@@ -18,37 +18,36 @@ use Rattle.board.specs.Acted.{Acted, actOf, plainAct}
 use Rattle.board.specs.Verdicts.{stepVerdict}
 
 -- what is derived of a plan, with who uses what in one table
-abbrev pub factsIn : ℕ → List ℕ → List ℕ → List ℕ → List ℕ → Facts
-factsIn count opcodes operands numbers users = facts count opcodes operands numbers (sendersOf users) (receiversOf users) (parentsOf users)
+abbrev pub factsIn : ℕ → List ℕ → List ℕ → List ℕ → Facts
+factsIn count codes numbers users = facts count codes numbers (sendersOf users) (receiversOf users) (parentsOf users)
 
 -- what is lent is a rig that 9 does not refuse, with the index of its plan
-pub record RigOn (opcodes operands numbers users : List ℕ) (n : Size) (l : Lent) : Type 0 where
+pub record RigOn (codes numbers users : List ℕ) (n : Size) (l : Lent) : Type 0 where
   pub whole : Whole (l .board)
-  pub parts : PartsOf (factsIn (n .tasks) opcodes operands numbers users) (n .processors) (tasksOf l) (storeOf l) (n .used)
+  pub parts : PartsOf (factsIn (n .tasks) codes numbers users) (n .processors) (tasksOf l) (storeOf l) (n .used)
   pub indexed : Indexed users
 
--- a letter can be opened: no opcodes, numbers and counts are lent for that
-pub record Opens (operands users : List ℕ) (l : Lent) (m : Message) : Type 0 where
-  pub opcodes : List ℕ
+-- a letter can be opened: no numbers and counts are lent for that
+pub record Opens (codes users : List ℕ) (l : Lent) (m : Message) : Type 0 where
   pub numbers : List ℕ
   pub size : Size
-  pub rig : RigOn opcodes operands numbers users size l
+  pub rig : RigOn codes numbers users size l
   pub ok : messageOk (size .processors) (size .tasks) m ≡ true
 
 -- it was opened, and what it does was done
 abbrev pub Opened : List ℕ → List ℕ → Message → Lent → Act → Lent → Type 0
-Opened operands users m l r l' =
-    (count : ℕ) (opcodes numbers : List ℕ)
-    → Acted (sendersOf users) (receiversOf users) (Allowed (openedIn (factsIn count opcodes operands numbers users) (tasksOf l) (storeOf l) m)) l r l'
+Opened codes users m l r l' =
+    (count : ℕ) (numbers : List ℕ)
+    → Acted (sendersOf users) (receiversOf users) (Allowed (openedIn (factsIn count codes numbers users) (tasksOf l) (storeOf l) m)) l r l'
 
 -- this is what opening it would do
 abbrev pub Opening : List ℕ → List ℕ → Message → Lent → Act → Type 0
-Opening operands users m l r =
-    (count : ℕ) (opcodes numbers : List ℕ)
-    → r ≡ actOf (Allowed (openedIn (factsIn count opcodes operands numbers users) (tasksOf l) (storeOf l) m))
+Opening codes users m l r =
+    (count : ℕ) (numbers : List ℕ)
+    → r ≡ actOf (Allowed (openedIn (factsIn count codes numbers users) (tasksOf l) (storeOf l) m))
 
 -- a task can run, by the board alone
-pub record RunsOn (opcodes operands : List ℕ) (n : Size) (board : List ℕ) : Type 0 where
+pub record RunsOn (codes : List ℕ) (n : Size) (board : List ℕ) : Type 0 where
   pub numbers : List ℕ
   pub users : List ℕ
   pub hintprocessors : List ℕ
@@ -56,15 +55,15 @@ pub record RunsOn (opcodes operands : List ℕ) (n : Size) (board : List ℕ) : 
   pub heldprocessors : List ℕ
   pub heldnumbers : List ℕ
   pub notes : List ℕ
-  pub rig : RigOn opcodes operands numbers users n (lent hintprocessors hintmoves heldprocessors heldnumbers notes board)
+  pub rig : RigOn codes numbers users n (lent hintprocessors hintmoves heldprocessors heldnumbers notes board)
 
 -- the step was carried out on the board alone, or nothing was
-abbrev pub Worded : List ℕ → List ℕ → Size → Step → List ℕ → Bool → List ℕ → Type 0
-Worded opcodes operands n x board r board' =
+abbrev pub Worded : List ℕ → Size → Step → List ℕ → Bool → List ℕ → Type 0
+Worded codes n x board r board' =
     (r ≡ false → board' ≡ board)
     × (r ≡ true → (numbers users hintprocessors hintmoves heldprocessors heldnumbers notes : List ℕ)
     → let l = lent hintprocessors hintmoves heldprocessors heldnumbers notes board in
     Acted (sendersOf users) (receiversOf users)
-    (stepVerdict (factsIn (n .tasks) opcodes operands numbers users) (n .processors) (tasksOf l) (storeOf l) (n .used) x)
+    (stepVerdict (factsIn (n .tasks) codes numbers users) (n .processors) (tasksOf l) (storeOf l) (n .used) x)
     l plainAct
     (lent hintprocessors hintmoves heldprocessors heldnumbers notes board'))

@@ -14,11 +14,11 @@ use rules::task::Task;
 use rules::task::TaskState;
 
 // Task u, with record b, is in state s on channel c.
-pub fn is_on(operands: &[u16; 4096], s: TaskState, u: TaskId, c: ChannelId, b: Task) -> bool
+pub fn is_on(codes: &[u32; 4096], s: TaskState, u: TaskId, c: ChannelId, b: Task) -> bool
     requires { ⌜ (u .0 ≤ 64) × (b .pc ≤ 65) ⌝ }
-    ensures { λ r. ⌜ r ≡ isOnIn (now (operands .entry)) s u c b ⌝ }
+    ensures { λ r. ⌜ r ≡ isOnIn (now (codes .entry)) s u c b ⌝ }
 {
-    let last = crate::fetch::is_on(operands, u, c, b.pc);
+    let last = crate::fetch::is_on(codes, u, c, b.pc);
     base::both(task_rules::state::is_in(b, s), last)
 }
 

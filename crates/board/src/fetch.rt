@@ -2,6 +2,7 @@
 ghost use lib.Dec.{eqb};
 ghost use mathlib.Core.Path.{_≡_};
 ghost use Prim.Native.Nat.{_≤_};
+ghost use Rattle.plan.specs.Programs.{instructionOf};
 ghost use Rattle.rules.specs.Tasks.{noTask};
 ghost use Rattle.rig_parts.specs.Fetches.{instructionIn, lastOf};
 use plan::ChannelId;
@@ -21,7 +22,7 @@ pub fn no_task() -> Task
         processor: ProcessorId(0),
         pc: 0,
         home: ProcessorId(0),
-        word: Word(0),
+        word: Word(0, 0, 0, 0),
         overflow: false,
         moves: 0,
         children: 0,
@@ -29,26 +30,18 @@ pub fn no_task() -> Task
 }
 
 // The instruction at place pc of task t.
-pub fn instruction_in<'a>(
-    opcodes: &'a [u8; 4096],
-    operands: &'a [u16; 4096],
-    t: TaskId,
-    pc: u8,
-) -> Instruction
+pub fn instruction_in(codes: &[u32; 4096], t: TaskId, pc: u8) -> Instruction
     requires { ⌜ (1 ≤ t .0) × (t .0 ≤ 64) × (1 ≤ pc) × (pc ≤ 64) ⌝ }
-    ensures { λ r. ⌜ r ≡ instructionIn (now (opcodes .entry)) (now (operands .entry)) t pc ⌝ }
+    ensures { λ r. ⌜ r ≡ instructionIn (now (codes .entry)) t pc ⌝ }
 {
     let at = 64 * (base::wide8(t.0) - 1) + (base::wide8(pc) - 1);
-    Instruction {
-        opcode: opcodes[at],
-        operand: operands[at],
-    }
+    Instruction::of(codes[at])
 }
 
-// The argument of the last executed instruction of task t at place pc, 0 if there is none.
-fn last_operand(operands: &[u16; 4096], t: TaskId, pc: u8) -> u16
+// The four bytes of the last executed instruction of task t at place pc, 0 if there is none.
+fn last_code(codes: &[u32; 4096], t: TaskId, pc: u8) -> u32
     requires { ⌜ (t .0 ≤ 64) × (pc ≤ 65) ⌝ }
-    ensures { λ r. ⌜ r ≡ lastOf (now (operands .entry)) t pc ⌝ }
+    ensures { λ r. ⌜ r ≡ lastOf (now (codes .entry)) t pc ⌝ }
 {
     if t.0 == 0 {
         return 0;
@@ -57,7 +50,7 @@ fn last_operand(operands: &[u16; 4096], t: TaskId, pc: u8) -> u16
         return 0;
     }
     let at = 64 * (base::wide8(t.0) - 1) + (base::wide8(pc) - 2);
-    operands[at]
+    codes[at]
 }
 
 // The number of the last executed instruction of task t at place pc, 0 if it is no send.
@@ -76,10 +69,10 @@ pub fn last_number(numbers: &[u8; 4096], t: TaskId, pc: u8) -> u8
 }
 
 // A task's last executed instruction is on channel c.
-pub fn is_on(operands: &[u16; 4096], t: TaskId, c: ChannelId, pc: u8) -> bool
+pub fn is_on(codes: &[u32; 4096], t: TaskId, c: ChannelId, pc: u8) -> bool
     requires { ⌜ (t .0 ≤ 64) × (pc ≤ 65) ⌝ }
-    ensures { λ r. ⌜ r ≡ eqb (lastOf (now (operands .entry)) t pc) (c .0) ⌝ }
+    ensures { λ r. ⌜ r ≡ eqb (instructionOf (lastOf (now (codes .entry)) t pc) .operand) (c .0) ⌝ }
 {
-    let a = base::wide16(last_operand(operands, t, pc));
-    a == base::wide8(c.0)
+    let last = Instruction::of(last_code(codes, t, pc));
+    base::wide16(last.operand) == base::wide8(c.0)
 }

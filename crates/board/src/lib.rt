@@ -1,4 +1,4 @@
-// What a run lends, five tables and a board: what is read of it and stored.
+// What a run lends, five tables and a board of 320 numbers: what is read of it and stored.
 
 // What a step says: its answer, what it received and what it posts.
 pub mod act;
@@ -14,8 +14,8 @@ pub mod sweeps;
 ghost use mathlib.Core.Path.{_≡_};
 ghost use Prim.Native.Nat.{_≤_, _<_, _-_, _+_, _*_};
 ghost use lib.ListN.{set};
-ghost use Rattle.rules.specs.Systems.{entryIndex, readChannel, writeChannel, taskIn, taskStored};
-ghost use Rattle.board.specs.Lent.{Whole, AtCell, tasksOn, channelsOn, hintEntry, heldEntry, hintIn, heldIn, noteIn, HintPut, HeldPut, ChannelPut, travels};
+ghost use Rattle.rules.specs.Systems.{entryIndex, readChannel, writeChannel, taskIn};
+ghost use Rattle.board.specs.Lent.{Whole, AtCell, tasksOn, channelsOn, hintEntry, heldEntry, hintIn, heldIn, noteIn, HintPut, HeldPut, TaskPut, ChannelPut, travels};
 use plan::ChannelId;
 use plan::ProcessorId;
 use plan::TaskId;
@@ -23,6 +23,9 @@ use rules::channel::Channel;
 use rules::channel::Hint;
 use rules::channel::Offer;
 use rules::task::Task;
+
+// Channel c's own entry at c - 1, task t at 126 + 2 t and behind it its children, its word at 255 + t.
+pub type Board = [u64; 320];
 
 // Where channel c's own entry is.
 fn channel_index(c: ChannelId) -> usize
@@ -49,31 +52,35 @@ fn entry_index(d: ProcessorId, c: ChannelId) -> usize
 }
 
 // Task t; 0 is none.
-pub fn task_at(board: &[u64; 256], t: TaskId) -> Task
+pub fn task_at(board: &Board, t: TaskId) -> Task
     requires { ⌜ t .0 ≤ 64 ⌝ }
     ensures { λ r. ⌜ r ≡ taskIn (tasksOn (now (board .entry))) t ⌝ }
 {
     if t.0 == 0 {
         return crate::fetch::no_task();
     }
-    let at = 126 + 2 * base::wide8(t.0);
-    crate::packing::task_of(board[at], board[at + 1])
+    let n = base::wide8(t.0);
+    let at = 126 + 2 * n;
+    crate::packing::task_of(board[at], board[at + 1], board[255 + n])
 }
 
 // Task t becomes x, where there is such a task.
-pub fn put_task(board: &mut [u64; 256], t: TaskId, x: Task)
+pub fn put_task(board: &mut Board, t: TaskId, x: Task)
     requires { ⌜ (t .0 ≤ 64) × Whole (now board) ⌝ }
-    ensures { λ r. ⌜ (Whole (now (board .exit))) × (tasksOn (now (board .exit)) ≡ taskStored (tasksOn (now (board .entry))) t x) × (channelsOn (now (board .exit)) ≡ channelsOn (now (board .entry))) ⌝ }
+    ensures { λ r. ⌜ TaskPut t x (now (board .entry)) (now (board .exit)) ⌝ }
 {
     if t.0 != 0 {
-        let at = 126 + 2 * base::wide8(t.0);
+        let n = base::wide8(t.0);
+        let at = 126 + 2 * n;
+        let word = x.word;
         board[at] = crate::packing::task_word(x);
         board[at + 1] = x.children;
+        board[255 + n] = crate::packing::word_number(word);
     }
 }
 
 // The own entry of a channel, at k.
-fn channel_entry(board: &[u64; 256], k: usize) -> Channel
+fn channel_entry(board: &Board, k: usize) -> Channel
     requires { ⌜ k < 128 ⌝ }
     ensures { λ r. ⌜ r ≡ readChannel (channelsOn (now (board .entry))) k ⌝ }
 {
@@ -81,7 +88,7 @@ fn channel_entry(board: &[u64; 256], k: usize) -> Channel
 }
 
 // The own entry of a channel, at k, becomes y.
-fn put_channel_entry(board: &mut [u64; 256], k: usize, y: Channel)
+fn put_channel_entry(board: &mut Board, k: usize, y: Channel)
     requires { ⌜ (k < 128) × Whole (now board) ⌝ }
     ensures { λ r. ⌜ ChannelPut k y (now (board .entry)) (now (board .exit)) ⌝ }
 {
@@ -89,7 +96,7 @@ fn put_channel_entry(board: &mut [u64; 256], k: usize, y: Channel)
 }
 
 // The travelling pointer of the channel whose own entry is at k.
-fn travelling_entry(board: &[u64; 256], k: usize) -> Hint
+fn travelling_entry(board: &Board, k: usize) -> Hint
     requires { ⌜ k < 128 ⌝ }
     ensures { λ r. ⌜ r ≡ readChannel (channelsOn (now (board .entry))) k .travelling ⌝ }
 {
@@ -97,7 +104,7 @@ fn travelling_entry(board: &[u64; 256], k: usize) -> Hint
 }
 
 // The travelling pointer of the channel whose own entry is at k becomes h; the rest of the entry stays.
-fn put_travelling_entry(board: &mut [u64; 256], k: usize, h: Hint)
+fn put_travelling_entry(board: &mut Board, k: usize, h: Hint)
     requires { ⌜ (k < 128) × Whole (now board) ⌝ }
     ensures { λ r. ⌜ ChannelPut k (travels (readChannel (channelsOn (now (board .entry))) k) h) (now (board .entry)) (now (board .exit)) ⌝ }
 {
@@ -106,7 +113,7 @@ fn put_travelling_entry(board: &mut [u64; 256], k: usize, h: Hint)
 }
 
 // Channel c's own entry.
-pub fn channel_at(board: &[u64; 256], c: ChannelId) -> Channel
+pub fn channel_at(board: &Board, c: ChannelId) -> Channel
     requires { ⌜ (1 ≤ c .0) × (c .0 ≤ 128) ⌝ }
     ensures { λ r. ⌜ r ≡ readChannel (channelsOn (now (board .entry))) (c .0 - 1) ⌝ }
 {
@@ -114,7 +121,7 @@ pub fn channel_at(board: &[u64; 256], c: ChannelId) -> Channel
 }
 
 // Channel c's own entry becomes y.
-pub fn put_channel(board: &mut [u64; 256], c: ChannelId, y: Channel)
+pub fn put_channel(board: &mut Board, c: ChannelId, y: Channel)
     requires { ⌜ (1 ≤ c .0) × (c .0 ≤ 128) × Whole (now board) ⌝ }
     ensures { λ r. ⌜ (Whole (now (board .exit))) × (channelsOn (now (board .exit)) ≡ writeChannel (channelsOn (now (board .entry))) (c .0 - 1) y) × (tasksOn (now (board .exit)) ≡ tasksOn (now (board .entry))) ⌝ }
 {

@@ -1,9 +1,9 @@
-// Records as numbers of 64 bits: a channel's own entry, and a task with its children behind it. Each field has the width of its
-// type, but for the seven states, beside which a task's mark stands; so a record is read back as it was.
+// Records as numbers of 64 bits: a channel's own entry; a task, its children and its word, a number each. Each field has the width
+// of its type, but for the seven states, beside which a task's mark stands; so a record is read back as it was.
 ghost use mathlib.Core.Path.{_≡_};
 ghost use Prim.Native.Nat.{_%_, _<_};
 ghost use lib.Dec.{eqb};
-ghost use Rattle.board.specs.packing.Packed.{channelOf, channelWord, travellingWord, stateOf, stateNumber, taskOf, taskWord, bit};
+ghost use Rattle.board.specs.packing.Packed.{channelOf, channelWord, travellingWord, stateOf, stateNumber, taskOf, taskWord, wordOf, wordNumber, bit};
 use plan::ProcessorId;
 use plan::Word;
 use rules::channel::Channel;
@@ -128,35 +128,53 @@ fn state_number(s: TaskState) -> u64
     }
 }
 
-// A task, read from its two numbers.
-pub fn task_of(v: u64, children: u64) -> Task
-    ensures { λ r. ⌜ r ≡ taskOf v children ⌝ }
+// A word, read from its number: level 0 in its lowest sixteen bits.
+fn word_of(v: u64) -> Word
+    ensures { λ r. ⌜ r ≡ wordOf v ⌝ }
 {
+    Word(
+        low16(v),
+        low16(v / 65536),
+        low16(v / 4294967296),
+        low16(v / 281474976710656),
+    )
+}
+
+// A word as a number.
+pub fn word_number(w: Word) -> u64
+    ensures { λ r. ⌜ r ≡ wordNumber w ⌝ }
+{
+    w.0 as u64 + 65536 * (w.1 as u64) + 4294967296 * (w.2 as u64) + 281474976710656 * (w.3 as u64)
+}
+
+// A task, read from its three numbers.
+pub fn task_of(v: u64, children: u64, word: u64) -> Task
+    ensures { λ r. ⌜ r ≡ taskOf v children word ⌝ }
+{
+    let w = word_of(word);
     Task {
         state: state_of(low7(v)),
         processor: ProcessorId(low8(v / 256)),
         pc: low8(v / 65536),
         home: ProcessorId(low8(v / 16777216)),
-        word: Word(low16(v / 4294967296)),
+        word: w,
         overflow: is_odd(v / 128),
         moves: low16(v / 281474976710656),
         children: children,
     }
 }
 
-// The first number of a task, its mark beside its state; the second is its children.
+// The first number of a task, its mark beside its state. Of its bits 16 are not used.
 pub fn task_word(x: Task) -> u64
     ensures { λ r. ⌜ r ≡ taskWord x ⌝ }
 {
     let at = x.processor;
     let home = x.home;
-    let word = x.word;
     let state = x.state;
     state_number(state)
         + 128 * bit(x.overflow)
         + 256 * (at.0 as u64)
         + 65536 * (x.pc as u64)
         + 16777216 * (home.0 as u64)
-        + 4294967296 * (word.0 as u64)
         + 281474976710656 * (x.moves as u64)
 }

@@ -10,6 +10,7 @@ ghost use Rattle.rig_parts.specs.Sweeps.{ruledAt, forEnds, swept};
 ghost use Rattle.plan_index.specs.user_table.Users.{Indexed, sendersOf, receiversOf};
 ghost use Rattle.board.specs.Lent.{Whole, AtCell};
 ghost use Rattle.board.specs.sweeps.Sweeps.{HintsBy, PointersBy, OffersBy};
+use crate::Board;
 use crate::channel_index;
 use crate::entry_beside;
 use crate::hint_entry;
@@ -28,7 +29,7 @@ use rules::channel::Hint;
 fn depart_at<'a>(
     hintprocessors: &'a [u8; 768],
     hintmoves: &'a [u16; 768],
-    board: &'a mut [u64; 256],
+    board: &'a mut Board,
     d: ProcessorId,
     c: ChannelId,
 )
@@ -71,7 +72,7 @@ pub fn depart<'a>(
     users: &'a [u8; 1024],
     hintprocessors: &'a [u8; 768],
     hintmoves: &'a [u16; 768],
-    board: &'a mut [u64; 256],
+    board: &'a mut Board,
     t: TaskId,
     d: ProcessorId,
 )
@@ -95,7 +96,7 @@ pub fn arrive<'a>(
     hintmoves: &'a mut [u16; 768],
     heldprocessors: &'a mut [u8; 768],
     heldnumbers: &'a mut [u8; 768],
-    board: &'a mut [u64; 256],
+    board: &'a mut Board,
     t: TaskId,
     h: Hint,
 )

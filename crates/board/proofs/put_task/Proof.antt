@@ -36,14 +36,30 @@ mul-board-2 c = search needs
 element-write-board-2 : tie.Need-element-write-board-2
 element-write-board-2 c = search needs
 
+word-number-requires : tie.Need-word-number-requires
+word-number-requires c κs = search needs
+
+add-board-2 : tie.Need-add-board-2
+add-board-2 c = search needs
+
+mul-board-3 : tie.Need-mul-board-3
+mul-board-3 c = search needs
+
+element-write-board-3 : tie.Need-element-write-board-3
+element-write-board-3 c = search needs
+
 returns : tie.Need-returns
 unfolding taskStored
 returns c =
-    let s = c .before .before .before .before in
+    let s = c .before .before .before .before .before .before in
     let n = s .args .t .0 in
-    let w = c .before .wide8 .ensures in
+    let board = s .args .board .now in
+    let x = s .args .x in
+    let m = c .before .before .before .wide8 .ensures in
     let long = s .pre .1 in
-    (simp (length-set, long), rw (ne-eqb n 0 (λ q. omega arith)) (task-written (s .args .board .now) n (s .args .x) w (omega arith) (omega arith) long (c .task-word .ensures) (search needs)), channels-kept (s .args .board .now) n (s .args .x) w (omega arith) (omega arith) long (c .task-word .ensures) (search needs))
+    let w = c .before .task-word .ensures in
+    let v = c .word-number .ensures in
+    (simp (length-set, long), rw (ne-eqb n 0 (λ q. omega arith)) (task-written board n x m (omega arith) (omega arith) long w v (search needs)), channels-kept board n x m (omega arith) (omega arith) long w v (search needs))
 
 returns-2 : tie.Need-returns-2
 unfolding taskStored
@@ -64,5 +80,9 @@ put-task-spec =
     add-board
     mul-board-2
     element-write-board-2
+    word-number-requires
+    add-board-2
+    mul-board-3
+    element-write-board-3
     returns
     returns-2)

@@ -41,17 +41,26 @@ mul-task-of-2 c = search needs
 element-copy-out-task-of-2 : tie.Need-element-copy-out-task-of-2
 element-copy-out-task-of-2 c = search needs
 
+add-task-of-2 : tie.Need-add-task-of-2
+add-task-of-2 c = search needs
+
+mul-task-of-3 : tie.Need-mul-task-of-3
+mul-task-of-3 c = search needs
+
+element-copy-out-task-of-3 : tie.Need-element-copy-out-task-of-3
+element-copy-out-task-of-3 c = search needs
+
 task-of-requires : tie.Need-task-of-requires
 task-of-requires c κs = search needs
 
 returns-2 : tie.Need-returns-2
 unfolding taskIn
 returns-2 c =
-    let s = c .before .before .before .before .before .before in
+    let s = c .before .before .before .before .before .before .before in
     let n = s .args .t .0 in
     rw
     (ne-eqb n 0 (λ q. omega arith), c .task-of .ensures)
-    (task-read (s .args .board .now) n (c .before .before .before .wide8 .ensures) (omega arith) (omega arith))
+    (task-read (s .args .board .now) n (c .before .before .before .before .wide8 .ensures) (omega arith) (omega arith))
 
 pub task-at-spec : {M : Type 1} → statement M
 task-at-spec =
@@ -67,5 +76,8 @@ task-at-spec =
     add-task-of
     mul-task-of-2
     element-copy-out-task-of-2
+    add-task-of-2
+    mul-task-of-3
+    element-copy-out-task-of-3
     task-of-requires
     returns-2)

@@ -3,6 +3,8 @@ use mathlib.Core.Bool.{Bool}
 use Prim.Native.Nat.{ℕ, _+_, _*_, _/_, _%_}
 use lib.Dec.{eqb}
 use Rattle.base.specs.Choice.{pick}
+use Rattle.plan.specs.declared.Word.{Word}
+use Rattle.plan.specs.Words.{levels}
 use Rattle.rules.specs.declared.task.Task.{Task}
 use Rattle.rules.specs.declared.task.TaskState.{TaskState}
 use Rattle.rules.specs.declared.task.TaskState.the-variants.{Unborn, Ready, Waiting, Sending, Receiving, Moving, Done}
@@ -65,15 +67,22 @@ stateNumber Receiving = 4
 stateNumber Moving = 5
 stateNumber Done = 6
 
--- a task is two numbers, the second its children; of the lowest eight bits of the first, the highest is its mark
-unfoldable pub taskOf : ℕ → ℕ → Task
-taskOf v children =
+-- a word: level 0 in the lowest 16 bits
+unfoldable pub wordOf : ℕ → Word
+wordOf v = levels (low16 v) (v / 65536 % 65536) (v / 4294967296 % 65536) (v / 281474976710656 % 65536)
+
+abbrev pub wordNumber : Word → ℕ
+wordNumber w = w .0 + 65536 * (w .1) + 4294967296 * (w .2) + 281474976710656 * (w .3)
+
+-- a task is three numbers, the second its children and the third its word; of the lowest eight bits of the first, the highest is its mark
+unfoldable pub taskOf : ℕ → ℕ → ℕ → Task
+taskOf v children word =
     record {
       state = stateOf (v % 128);
       processor = processorId (v / 256 % 256);
       pc = byte2 v;
       home = processorId (byte3 v);
-      word = record { 0 = v / 4294967296 % 65536 };
+      word = wordOf word;
       overflow = eqb (v / 128 % 2) 1;
       moves = v / 281474976710656 % 65536;
       children = children;
@@ -81,4 +90,4 @@ taskOf v children =
 
 abbrev pub taskWord : Task → ℕ
 taskWord x =
-    stateNumber (x .state) + 128 * bit (x .overflow) + 256 * (x .processor .0) + 65536 * (x .pc) + 16777216 * (x .home .0) + 4294967296 * (x .word .0) + 281474976710656 * (x .moves)
+    stateNumber (x .state) + 128 * bit (x .overflow) + 256 * (x .processor .0) + 65536 * (x .pc) + 16777216 * (x .home .0) + 281474976710656 * (x .moves)

@@ -5,6 +5,7 @@ ghost use Rattle.rig_parts.specs.Sweeps.{ruledAt, forEnds};
 ghost use Rattle.plan_index.specs.user_table.Users.{Indexed, sendersOf, receiversOf};
 ghost use Rattle.board.specs.Lent.{Whole, AtCell};
 ghost use Rattle.board.specs.sweeps.Sweeps.{PointersBy, OffersBy};
+use crate::Board;
 use crate::channel_entry;
 use crate::channel_index;
 use crate::entry_beside;
@@ -30,7 +31,7 @@ fn arrive_receiving_at<'a>(
     hintmoves: &'a mut [u16; 768],
     heldprocessors: &'a mut [u8; 768],
     heldnumbers: &'a mut [u8; 768],
-    board: &'a mut [u64; 256],
+    board: &'a mut Board,
     c: ChannelId,
     h: Hint,
 )
@@ -59,7 +60,7 @@ fn arrive_receiving_at<'a>(
 fn arrive_sending_at<'a>(
     hintprocessors: &'a mut [u8; 768],
     hintmoves: &'a mut [u16; 768],
-    board: &'a mut [u64; 256],
+    board: &'a mut Board,
     d: ProcessorId,
     c: ChannelId,
 )
@@ -87,7 +88,7 @@ pub fn arrive_receiving<'a>(
     hintmoves: &'a mut [u16; 768],
     heldprocessors: &'a mut [u8; 768],
     heldnumbers: &'a mut [u8; 768],
-    board: &'a mut [u64; 256],
+    board: &'a mut Board,
     t: TaskId,
     h: Hint,
 )
@@ -117,7 +118,7 @@ pub fn arrive_sending<'a>(
     users: &'a [u8; 1024],
     hintprocessors: &'a mut [u8; 768],
     hintmoves: &'a mut [u16; 768],
-    board: &'a mut [u64; 256],
+    board: &'a mut Board,
     t: TaskId,
     d: ProcessorId,
 )

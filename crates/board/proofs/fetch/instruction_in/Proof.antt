@@ -24,17 +24,17 @@ sub-at-2 c = search needs
 add-at : tie.Need-add-at
 add-at c = search needs
 
-element-copy-out-t13 : tie.Need-element-copy-out-t13
-element-copy-out-t13 c = search needs
+mul-of : tie.Need-mul-of
+mul-of c = search needs
 
-mul-t6 : tie.Need-mul-t6
-mul-t6 c = search needs
+element-copy-out-of : tie.Need-element-copy-out-of
+element-copy-out-of c = search needs
 
-element-copy-out-t16 : tie.Need-element-copy-out-t16
-element-copy-out-t16 c = search needs
+of-requires : tie.Need-of-requires
+of-requires c κs = search needs
 
 returns : tie.Need-returns
-returns c = simp (c .before .before .wide82 .ensures, c .before .before .before .wide8 .ensures)
+returns c = simp (c .of .ensures, c .before .before .wide82 .ensures, c .before .before .before .wide8 .ensures)
 
 pub instruction-in-spec : {M : Type 1} → statement M
 instruction-in-spec =
@@ -46,7 +46,7 @@ instruction-in-spec =
     wide8-requires-2
     sub-at-2
     add-at
-    element-copy-out-t13
-    mul-t6
-    element-copy-out-t16
+    mul-of
+    element-copy-out-of
+    of-requires
     returns)
