@@ -93,6 +93,6 @@ module _ (ss rs hp hm op on notes board gone hp' hm' left : List ℕ) (t : TaskI
       }
 
 -- in a rig that 9 does not refuse a task can be moved
-pub rig-moves : {opcodes operands numbers users : List ℕ} {n : Size} {l : Lent} → RigOn opcodes operands numbers users n l → (t : TaskId) → CanMove users (l .board) (n .tasks) t
+pub rig-moves : {codes numbers users : List ℕ} {n : Size} {l : Lent} → RigOn codes numbers users n l → (t : TaskId) → CanMove users (l .board) (n .tasks) t
 rig-moves g t =
     record { whole = g .whole; indexed = g .indexed; few = count-few (g .parts); counts = ready-counts (g .parts) t; processor = processor-in (g .parts) t }

@@ -53,7 +53,7 @@ module _ (f : Facts) (n : ℕ) (ts : List Task) (s : Store) (used : ℕ) (x : St
 
   -- a set or an add of a ready task is accepted
   pub word-judged : isRun x ≡ true → x .number ≡ 0 → within 1 (f .tasks) (x .task) ≡ true → isIn Ready (taskIn ts t) ≡ true → 6 ≤ nextAt f ts t .opcode → used ≤ 256
-      → stepVerdict f n ts s used x ≡ Accepted (taskChange k (siteIn (f .operands) ts s k) (wordChanged (taskIn ts t) (nextAt f ts t)))
+      → stepVerdict f n ts s used x ≡ Accepted (taskChange k (siteIn (f .codes) ts s k) (wordChanged (taskIn ts t) (nextAt f ts t)))
   unfolding stepVerdict judgedRun runRefusal ranIn runChange runScope sendIn siteIn messagesOf wellFormed
   word-judged run zero w ready high few =
       let o = nextAt f ts t .opcode in
@@ -66,11 +66,11 @@ module _ (ss rs hp hm op on notes board board' : List ℕ) (t : TaskId) (y : Tas
   s = storeOf (lent hp hm op on notes board)
 
   -- and its task's new record is all that it leaves
-  pub word-acted : (operands : List ℕ) (d : ProcessorId) → v ≡ Accepted (taskChange (alone t d) (siteIn operands (tasksOn board) s (alone t d)) y)
+  pub word-acted : (codes : List ℕ) (d : ProcessorId) → v ≡ Accepted (taskChange (alone t d) (siteIn codes (tasksOn board) s (alone t d)) y)
       → (Whole board') × (tasksOn board' ≡ taskStored (tasksOn board) t y) × (channelsOn board' ≡ channelsOn board)
       → Acted ss rs v (lent hp hm op on notes board) plainAct (lent hp hm op on notes board')
   unfolding cellPut
-  word-acted operands d e w =
+  word-acted codes d e w =
       rw e
       (record {
         whole = w .0;

@@ -18,6 +18,7 @@ ghost use Rattle.board.specs.Verdicts.{stepVerdict};
 ghost use Rattle.steps.specs.Kinds.{kindRefusal};
 use crate::instruction::run::run;
 use crate::instruction::run::run_decided;
+use board::Board;
 use board::act::Act;
 use board::act::Size;
 use board::act::refused;
@@ -42,8 +43,7 @@ fn no_message(s: Step) -> Act
 
 // The step is carried out, by its kind.
 pub fn other<'a>(
-    opcodes: &'a [u8; 4096],
-    operands: &'a [u16; 4096],
+    codes: &'a [u32; 4096],
     numbers: &'a [u8; 4096],
     users: &'a [u8; 1024],
     hintprocessors: &'a mut [u8; 768],
@@ -51,15 +51,15 @@ pub fn other<'a>(
     heldprocessors: &'a mut [u8; 768],
     heldnumbers: &'a mut [u8; 768],
     notes: &'a mut [u8; 768],
-    board: &'a mut [u64; 256],
+    board: &'a mut Board,
     n: Size,
     s: Step,
 ) -> Act
-    requires { ⌜ RigOn (now opcodes) (now operands) (now numbers) (now users) n
+    requires { ⌜ RigOn (now codes) (now numbers) (now users) n
         (lent (now hintprocessors) (now hintmoves) (now heldprocessors) (now heldnumbers) (now notes) (now board)) ⌝ }
     ensures { λ r. ⌜ (let l = lent (now (hintprocessors .entry)) (now (hintmoves .entry)) (now (heldprocessors .entry)) (now (heldnumbers .entry)) (now (notes .entry)) (now (board .entry)) in
         Acted (sendersOf (now (users .entry))) (receiversOf (now (users .entry)))
-        (stepVerdict (factsIn (n .tasks) (now (opcodes .entry)) (now (operands .entry)) (now (numbers .entry)) (now (users .entry))) (n .processors) (tasksOf l) (storeOf l) (n .used) s)
+        (stepVerdict (factsIn (n .tasks) (now (codes .entry)) (now (numbers .entry)) (now (users .entry))) (n .processors) (tasksOf l) (storeOf l) (n .used) s)
         l
         r
         (lent (now (hintprocessors .exit)) (now (hintmoves .exit)) (now (heldprocessors .exit)) (now (heldnumbers .exit)) (now (notes .exit)) (now (board .exit)))) ⌝ }
@@ -69,8 +69,7 @@ pub fn other<'a>(
             return refused(StepAnswer::BadStep);
         }
         return run(
-            opcodes,
-            operands,
+            codes,
             numbers,
             users,
             hintprocessors,
@@ -99,8 +98,7 @@ pub fn other<'a>(
 
 // What the step is answered and would post; nothing is changed.
 pub fn step_decided<'a>(
-    opcodes: &'a [u8; 4096],
-    operands: &'a [u16; 4096],
+    codes: &'a [u32; 4096],
     numbers: &'a [u8; 4096],
     users: &'a [u8; 1024],
     hintprocessors: &'a [u8; 768],
@@ -108,22 +106,21 @@ pub fn step_decided<'a>(
     heldprocessors: &'a [u8; 768],
     heldnumbers: &'a [u8; 768],
     notes: &'a [u8; 768],
-    board: &'a [u64; 256],
+    board: &'a Board,
     n: Size,
     s: Step,
 ) -> Act
-    requires { ⌜ RigOn (now opcodes) (now operands) (now numbers) (now users) n
+    requires { ⌜ RigOn (now codes) (now numbers) (now users) n
         (lent (now hintprocessors) (now hintmoves) (now heldprocessors) (now heldnumbers) (now notes) (now board)) ⌝ }
     ensures { λ r. ⌜ (let l = lent (now (hintprocessors .entry)) (now (hintmoves .entry)) (now (heldprocessors .entry)) (now (heldnumbers .entry)) (now (notes .entry)) (now (board .entry)) in
-        r ≡ actOf (stepVerdict (factsIn (n .tasks) (now (opcodes .entry)) (now (operands .entry)) (now (numbers .entry)) (now (users .entry))) (n .processors) (tasksOf l) (storeOf l) (n .used) s)) ⌝ }
+        r ≡ actOf (stepVerdict (factsIn (n .tasks) (now (codes .entry)) (now (numbers .entry)) (now (users .entry))) (n .processors) (tasksOf l) (storeOf l) (n .used) s)) ⌝ }
 {
     if s.kind == 1 {
         if s.number != 0 {
             return refused(StepAnswer::BadStep);
         }
         return run_decided(
-            opcodes,
-            operands,
+            codes,
             numbers,
             users,
             hintprocessors,

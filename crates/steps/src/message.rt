@@ -17,6 +17,7 @@ pub mod word;
 
 ghost use Rattle.board.specs.Lent.{lent};
 ghost use Rattle.board.specs.Rigs.{Opens, Opened, Opening};
+use board::Board;
 use board::act::Act;
 use board::act::posted;
 use rules::message::Message;
@@ -24,20 +25,20 @@ use rules::rule::Posting;
 
 // The letter m is opened.
 pub fn deliver<'a>(
-    operands: &'a [u16; 4096],
+    codes: &'a [u32; 4096],
     users: &'a [u8; 1024],
     hintprocessors: &'a mut [u8; 768],
     hintmoves: &'a mut [u16; 768],
     heldprocessors: &'a mut [u8; 768],
     heldnumbers: &'a mut [u8; 768],
     notes: &'a mut [u8; 768],
-    board: &'a mut [u64; 256],
+    board: &'a mut Board,
     m: Message,
 ) -> Act
-    requires { ⌜ Opens (now operands) (now users)
+    requires { ⌜ Opens (now codes) (now users)
         (lent (now hintprocessors) (now hintmoves) (now heldprocessors) (now heldnumbers) (now notes) (now board))
         m ⌝ }
-    ensures { λ r. ⌜ Opened (now (operands .entry)) (now (users .entry)) m
+    ensures { λ r. ⌜ Opened (now (codes .entry)) (now (users .entry)) m
         (lent (now (hintprocessors .entry)) (now (hintmoves .entry)) (now (heldprocessors .entry)) (now (heldnumbers .entry)) (now (notes .entry)) (now (board .entry)))
         r
         (lent (now (hintprocessors .exit)) (now (hintmoves .exit)) (now (heldprocessors .exit)) (now (heldnumbers .exit)) (now (notes .exit)) (now (board .exit))) ⌝ }
@@ -45,7 +46,7 @@ pub fn deliver<'a>(
     match m {
         Message::Empty => posted(Posting::Nothing),
         Message::Offered(_, _, _) => offer::offer(
-            operands,
+            codes,
             users,
             hintprocessors,
             hintmoves,
@@ -54,16 +55,16 @@ pub fn deliver<'a>(
             board,
             m,
         ),
-        Message::Advert(_, _, _) => advert::advert(operands, users, notes, board, m),
+        Message::Advert(_, _, _) => advert::advert(codes, users, notes, board, m),
         Message::ReadyToReceive(_, _, _) => call::call(
-            operands,
+            codes,
             users,
             hintprocessors,
             hintmoves,
             board,
             m,
         ),
-        Message::Data(_, _, _) => word::word(operands, users, board, m),
+        Message::Data(_, _, _) => word::word(codes, users, board, m),
         Message::Terminated(_, _) => ended::ended(users, board, m),
         Message::Migration(_, _) => mover::mover(
             users,
@@ -79,26 +80,26 @@ pub fn deliver<'a>(
 
 // What opening the letter m would say and post.
 pub fn message_decided<'a>(
-    operands: &'a [u16; 4096],
+    codes: &'a [u32; 4096],
     users: &'a [u8; 1024],
     hintprocessors: &'a [u8; 768],
     hintmoves: &'a [u16; 768],
     heldprocessors: &'a [u8; 768],
     heldnumbers: &'a [u8; 768],
     notes: &'a [u8; 768],
-    board: &'a [u64; 256],
+    board: &'a Board,
     m: Message,
 ) -> Act
-    requires { ⌜ Opens (now operands) (now users)
+    requires { ⌜ Opens (now codes) (now users)
         (lent (now hintprocessors) (now hintmoves) (now heldprocessors) (now heldnumbers) (now notes) (now board))
         m ⌝ }
-    ensures { λ r. ⌜ Opening (now (operands .entry)) (now (users .entry)) m
+    ensures { λ r. ⌜ Opening (now (codes .entry)) (now (users .entry)) m
         (lent (now (hintprocessors .entry)) (now (hintmoves .entry)) (now (heldprocessors .entry)) (now (heldnumbers .entry)) (now (notes .entry)) (now (board .entry)))
         r ⌝ }
 {
     match m {
         Message::Offered(_, _, _) => offer::offer_decided(
-            operands,
+            codes,
             users,
             hintprocessors,
             hintmoves,
@@ -107,16 +108,16 @@ pub fn message_decided<'a>(
             board,
             m,
         ),
-        Message::Advert(_, _, _) => advert::advert_decided(operands, users, notes, board, m),
+        Message::Advert(_, _, _) => advert::advert_decided(codes, users, notes, board, m),
         Message::ReadyToReceive(_, _, _) => call::call_decided(
-            operands,
+            codes,
             users,
             hintprocessors,
             hintmoves,
             board,
             m,
         ),
-        Message::Data(_, _, _) => word::word_decided(operands, users, board, m),
+        Message::Data(_, _, _) => word::word_decided(codes, users, board, m),
         _ => posted(Posting::Nothing),
     }
 }

@@ -7,6 +7,7 @@ ghost use Rattle.board.specs.Lent.{tasksOn};
 ghost use Rattle.board.specs.Acted.{actOf};
 ghost use Rattle.steps.specs.Moves.{CanMove, Moved};
 use crate::instruction::refusal::is_accepted;
+use board::Board;
 use board::act::Act;
 use board::act::Size;
 use board::act::posted;
@@ -24,7 +25,7 @@ use rules::step::StepAnswer;
 use rules::task::TaskState;
 
 // Why a move of task t to desk `to` is refused, if it is.
-pub fn move_refusal(board: &[u64; 256], n: Size, t: TaskId, to: u16) -> StepAnswer
+pub fn move_refusal(board: &Board, n: Size, t: TaskId, to: u16) -> StepAnswer
     requires { ⌜ n .tasks ≤ 64 ⌝ }
     ensures { λ r. ⌜ r ≡ moveRefusal (n .tasks) (n .processors) (tasksOn (now (board .entry))) (n .used) t (processorId to) ⌝ }
 {
@@ -55,7 +56,7 @@ pub fn move_refusal(board: &[u64; 256], n: Size, t: TaskId, to: u16) -> StepAnsw
 }
 
 // What the move is answered and would post; nothing is changed.
-pub fn move_decided(board: &[u64; 256], n: Size, t: TaskId, to: u16) -> Act
+pub fn move_decided(board: &Board, n: Size, t: TaskId, to: u16) -> Act
     requires { ⌜ n .tasks ≤ 64 ⌝ }
     ensures { λ r. ⌜ r ≡ actOf (judgedMove (n .tasks) (n .processors) (tasksOn (now (board .entry))) (n .used) t (processorId to)) ⌝ }
 {
@@ -73,7 +74,7 @@ pub fn move_task<'a>(
     users: &'a [u8; 1024],
     hintprocessors: &'a mut [u8; 768],
     hintmoves: &'a mut [u16; 768],
-    board: &'a mut [u64; 256],
+    board: &'a mut Board,
     n: Size,
     t: TaskId,
     to: u16,

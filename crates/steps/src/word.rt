@@ -1,9 +1,10 @@
 // A run that changes nothing but a word and a mark: the loop's short cut, to which the board alone is lent.
 ghost use mathlib.Core.Path.{_≡_};
-ghost use Prim.Native.Nat.{_<_};
-ghost use Rattle.board.specs.Lent.{Whole};
+ghost use Prim.Native.Nat.{_<_, _≤_};
+ghost use Rattle.board.specs.Lent.{Whole, TaskPut};
 ghost use Rattle.board.specs.Rigs.{RunsOn, Worded};
 ghost use Rattle.steps.specs.Words.{wordChanged};
+use board::Board;
 use board::act::Size;
 use board::put_task;
 use board::task_at;
@@ -25,16 +26,20 @@ fn word_changed(x: Task, i: Instruction) -> Task
     task_rules::instructions::add_rule(x, i)
 }
 
-// Such a run is carried out; else nothing is.
-pub fn word_run<'a>(
-    opcodes: &'a [u8; 4096],
-    operands: &'a [u16; 4096],
-    board: &'a mut [u64; 256],
-    n: Size,
-    s: Step,
-) -> bool
-    requires { ⌜ (Whole (now board)) × (RunsOn (now opcodes) (now operands) n (now board)) ⌝ }
-    ensures { λ r. ⌜ Worded (now (opcodes .entry)) (now (operands .entry)) n s (now (board .entry)) r (now (board .exit)) ⌝ }
+// Task t, with record x, has carried out its set or add i.
+fn change(board: &mut Board, t: TaskId, x: Task, i: Instruction)
+    requires { ⌜ (t .0 ≤ 64) × (x .pc < 255) × Whole (now board) ⌝ }
+    ensures { λ r. ⌜ TaskPut t (wordChanged x i) (now (board .entry)) (now (board .exit)) ⌝ }
+{
+    let y = word_changed(x, i);
+    put_task(board, t, y);
+}
+
+// Such a run is carried out; else nothing is. A word is a number of four levels: with the test for level 0, which most
+// plans use alone, the others are not taken apart.
+pub fn word_run<'a>(codes: &'a [u32; 4096], board: &'a mut Board, n: Size, s: Step) -> bool
+    requires { ⌜ (Whole (now board)) × (RunsOn (now codes) n (now board)) ⌝ }
+    ensures { λ r. ⌜ Worded (now (codes .entry)) n s (now (board .entry)) r (now (board .exit)) ⌝ }
 {
     if s.kind != 1 {
         return false;
@@ -50,11 +55,14 @@ pub fn word_run<'a>(
     if !task_rules::state::is_in(x, TaskState::Ready) {
         return false;
     }
-    let i = board::fetch::instruction_in(opcodes, operands, t, x.pc);
+    let i = board::fetch::instruction_in(codes, t, x.pc);
     if i.opcode < SET {
         return false;
     }
-    let y = word_changed(x, i);
-    put_task(board, t, y);
+    if i.level == 0 {
+        change(board, t, x, i);
+        return true;
+    }
+    change(board, t, x, i);
     true
 }

@@ -48,7 +48,7 @@ module _ {f : Facts} {n : ℕ} {ts : List Task} {s : Store} {used : ℕ} (p : Pa
 
   module _ (send : nextAt f ts t .opcode ≡ 4) where
     -- the verdict on a send
-    pub send-judged : judgedRun f n ts s used t ≡ sendVerdict (f .operands) (f .numbers) (f .receivers) n used ts s t (channelId c)
+    pub send-judged : judgedRun f n ts s used t ≡ sendVerdict (f .codes) (f .numbers) (f .receivers) n used ts s t (channelId c)
     unfolding judgedRun runRefusal ranIn runChange sendIn runScope siteIn
     send-judged = rw (w, ready, send) refl
 
@@ -72,7 +72,7 @@ module _ {f : Facts} {n : ℕ} {ts : List Task} {s : Store} {used : ℕ} (p : Pa
 
   module _ (receive : nextAt f ts t .opcode ≡ 5) where
     -- the verdict on a receive
-    pub receive-judged : judgedRun f n ts s used t ≡ receiveVerdict (f .operands) (f .numbers) (f .senders) n used ts s t (channelId c)
+    pub receive-judged : judgedRun f n ts s used t ≡ receiveVerdict (f .codes) (f .numbers) (f .senders) n used ts s t (channelId c)
     unfolding judgedRun runRefusal ranIn runChange sendIn runScope siteIn
     receive-judged = rw (w, ready, receive) refl
 

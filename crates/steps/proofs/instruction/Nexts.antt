@@ -33,34 +33,34 @@ abbrev pub answerTo : Next → StepAnswer
 answerTo (Refused q) = q
 answerTo (Runs x i) = Accepted
 
-module _ (opcodes operands : List ℕ) (count : ℕ) (ts : List Task) (t : TaskId) where
+module _ (codes : List ℕ) (count : ℕ) (ts : List Task) (t : TaskId) where
   -- the answer by what is found
-  pub next-answer : answerTo (nextOf opcodes operands count ts t) ≡ runRefusal opcodes operands count ts t
+  pub next-answer : answerTo (nextOf codes count ts t) ≡ runRefusal codes count ts t
   unfolding nextOf
   next-answer =
-      let q = runRefusal opcodes operands count ts t in
+      let q = runRefusal codes count ts t in
       pick-cases (λ k. answerTo k ≡ q) (isAccepted q) _ (Refused q) (λ e. sym (accepted-is q e)) (λ e. refl)
 
   -- it is found by three tests
-  pub no-task : within 1 count (t .0) ≡ false → Refused NoTask ≡ nextOf opcodes operands count ts t
+  pub no-task : within 1 count (t .0) ≡ false → Refused NoTask ≡ nextOf codes count ts t
   unfolding nextOf runRefusal
   no-task w = rw w refl
 
   module _ (w : within 1 count (t .0) ≡ true) where
-    pub not-ready : isIn Ready (taskIn ts t) ≡ false → Refused NotReady ≡ nextOf opcodes operands count ts t
+    pub not-ready : isIn Ready (taskIn ts t) ≡ false → Refused NotReady ≡ nextOf codes count ts t
     unfolding nextOf runRefusal
     not-ready e = rw (w, e) refl
 
     module _ (ready : isIn Ready (taskIn ts t) ≡ true) where
       -- the next instruction
       abbrev next : Instruction
-      next = instructionIn opcodes operands t (taskIn ts t .pc)
+      next = instructionIn codes t (taskIn ts t .pc)
 
-      pub with-children : isFinish next && not (isChildless (taskIn ts t)) ≡ true → Refused FinishWithChildren ≡ nextOf opcodes operands count ts t
+      pub with-children : isFinish next && not (isChildless (taskIn ts t)) ≡ true → Refused FinishWithChildren ≡ nextOf codes count ts t
       unfolding nextOf runRefusal
       with-children e = rw (w, ready, e) refl
 
-      pub can-run : isFinish next && not (isChildless (taskIn ts t)) ≡ false → Runs (taskIn ts t) next ≡ nextOf opcodes operands count ts t
+      pub can-run : isFinish next && not (isChildless (taskIn ts t)) ≡ false → Runs (taskIn ts t) next ≡ nextOf codes count ts t
       unfolding nextOf runRefusal
       can-run e = rw (w, ready, e) refl
 
@@ -76,7 +76,7 @@ pub record ReadyWith (f : Facts) (n : ℕ) (ts : List Task) (s : Store) (used : 
 module _ (f : Facts) (n : ℕ) (ts : List Task) (s : Store) (used : ℕ) (t : TaskId) where
   -- what is found
   abbrev found : Next
-  found = nextOf (f .opcodes) (f .operands) (f .tasks) ts t
+  found = nextOf (f .codes) (f .tasks) ts t
 
   -- the verdict on a run that finds this
   abbrev verdictOn : Next → Verdict
@@ -87,7 +87,7 @@ module _ (f : Facts) (n : ℕ) (ts : List Task) (s : Store) (used : ℕ) (t : Ta
   pub next-judged : (k : Next) → found ≡ k → judgedRun f n ts s used t ≡ verdictOn k
   unfolding nextOf judgedRun
   next-judged k e =
-      let q = runRefusal (f .opcodes) (f .operands) (f .tasks) ts t in
+      let q = runRefusal (f .codes) (f .tasks) ts t in
       rw (sym e) (sym (pick-under verdictOn (isAccepted q) (Runs (taskIn ts t) (nextAt f ts t)) (Refused q)))
 
   -- what is known where it finds this
@@ -100,7 +100,7 @@ module _ (f : Facts) (n : ℕ) (ts : List Task) (s : Store) (used : ℕ) (t : Ta
   unfolding nextOf
   known =
       pick-cases Known _ (Runs (taskIn ts t) (nextAt f ts t)) (Refused _)
-      (λ e. let h = run-passed (f .opcodes) (f .operands) (f .tasks) ts t e in (h .0, h .1, refl, refl))
+      (λ e. let h = run-passed (f .codes) (f .tasks) ts t e in (h .0, h .1, refl, refl))
       (λ e. tt)
 
   -- a task is found

@@ -37,19 +37,19 @@ receive-keeps x c w =
     (pick-either Keeps (counts (x .cell) (x .cell .channel .carried)) _ _ refl
     (pick-either Keeps (noneCalled (x .cell) && not (isNone (x .cell .entry .noted))) _ _ refl refl))
 
-module _ (operands numbers senders notes board : List ℕ) (t : TaskId) (c : ChannelId) (some : 1 ≤ c .0) where
+module _ (codes numbers senders notes board : List ℕ) (t : TaskId) (c : ChannelId) (some : 1 ≤ c .0) where
   -- the tasks
   abbrev ts : List Task
   ts = tasksOn board
 
   -- with these pointers and held offers
   abbrev pub left : List ℕ → List ℕ → List ℕ → List ℕ → Outcome
-  left hp hm op on = receiveOutcome operands numbers senders ts (storeOf (lent hp hm op on notes board)) t c
+  left hp hm op on = receiveOutcome codes numbers senders ts (storeOf (lent hp hm op on notes board)) t c
 
   -- what is fetched is the site with no pointer and no held offer
   pub receive-fetched : {a b : Task} {u : TaskId} {h : Hint} {f : Offer} {q : ProcessorId} {y : Channel} {r : Bool} {x : Cell} {w : ℕ} {o : Outcome}
       → b ≡ taskIn ts t → u ≡ namedIn senders (c .0) → a ≡ taskIn ts u → q ≡ noteIn notes (b .processor) c
-      → y ≡ readChannel (channelsOn board) (c .0 - 1) → r ≡ isOnIn operands Sending u c a
+      → y ≡ readChannel (channelsOn board) (c .0 - 1) → r ≡ isOnIn codes Sending u c a
       → h ≡ unknown → f ≡ noOffer → x ≡ record { entry = record { hint = h; held = f; noted = q }; channel = y }
       → w ≡ lastOf numbers u (a .pc)
       → o ≡ receiveRule (record { sender = a; receiver = b; sending = r; receiving = false; cell = x }) c w
@@ -63,15 +63,15 @@ module _ (operands numbers senders notes board : List ℕ) (t : TaskId) (c : Cha
     kept x = withHint (withHeld x (heldIn op on (taskIn ts t .processor) c)) (hintIn hp hm (taskIn ts t .processor) c)
 
     -- the site with them
-    site-kept : atCell kept (siteIn operands ts (storeOf (lent [] [] [] [] notes board)) (receiveScope senders ts t c))
-        ≡ siteIn operands ts (storeOf (lent hp hm op on notes board)) (receiveScope senders ts t c)
+    site-kept : atCell kept (siteIn codes ts (storeOf (lent [] [] [] [] notes board)) (receiveScope senders ts t c))
+        ≡ siteIn codes ts (storeOf (lent hp hm op on notes board)) (receiveScope senders ts t c)
     unfolding siteIn cellOf
     site-kept = rw (ne-eqb (c .0) 0 (λ z. omega arith)) refl
 
     -- they are not seen, and stay
     pub receive-kept : {o : Outcome} → o ≡ left [] [] [] [] → leftCell kept o ≡ left hp hm op on
     receive-kept e =
-        let x = siteIn operands ts (storeOf (lent [] [] [] [] notes board)) (receiveScope senders ts t c) in
+        let x = siteIn codes ts (storeOf (lent [] [] [] [] notes board)) (receiveScope senders ts t c) in
         let u = namedIn senders (c .0) in
         let w = lastOf numbers u (taskIn ts u .pc) in
         ap (leftCell kept) e

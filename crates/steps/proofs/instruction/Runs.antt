@@ -80,13 +80,13 @@ module _ {f : Facts} {n : ℕ} {ts : List Task} {s : Store} {used : ℕ} {t : Ta
   pub sends-can : i .opcode ≡ opSend → CanSend (f .receivers) used ts t (channelId (i .operand))
   sends-can e = rw (g .next) (send-can (g .parts) t (g .counted) (g .ready) (rw (g .next) at e))
 
-  pub sends-judged : i .opcode ≡ opSend → judgedRun f n ts s used t ≡ sendVerdict (f .operands) (f .numbers) (f .receivers) n used ts s t (channelId (i .operand))
+  pub sends-judged : i .opcode ≡ opSend → judgedRun f n ts s used t ≡ sendVerdict (f .codes) (f .numbers) (f .receivers) n used ts s t (channelId (i .operand))
   sends-judged e = rw (g .next) (send-judged (g .parts) t (g .counted) (g .ready) (rw (g .next) at e))
 
   pub receives-can : i .opcode ≡ opReceive → CanReceive (f .senders) used ts (s .channels) t (channelId (i .operand))
   receives-can e = rw (g .next) (receive-can (g .parts) t (g .counted) (g .ready) (rw (g .next) at e))
 
-  pub receives-judged : i .opcode ≡ opReceive → judgedRun f n ts s used t ≡ receiveVerdict (f .operands) (f .numbers) (f .senders) n used ts s t (channelId (i .operand))
+  pub receives-judged : i .opcode ≡ opReceive → judgedRun f n ts s used t ≡ receiveVerdict (f .codes) (f .numbers) (f .senders) n used ts s t (channelId (i .operand))
   receives-judged e = rw (g .next) (receive-judged (g .parts) t (g .counted) (g .ready) (rw (g .next) at e))
 
   pub set-judged : i .opcode ≡ opSet → judgedRun f n ts s used t ≡ aloneVerdict t (x .processor) (setRule x i)

@@ -40,19 +40,19 @@ send-keeps x c w =
     (pick-either Keeps (isAt d (x .receiver)) _ _ (refl, refl)
     (pick-either Keeps (isUnknown h) _ _ (refl, refl) (pick-either Keeps (sameProcessor (h .processor) d) _ _ (refl, refl) (refl, refl))))
 
-module _ (operands numbers receivers hp hm op on board : List ℕ) (t : TaskId) (c : ChannelId) (some : 1 ≤ c .0) where
+module _ (codes numbers receivers hp hm op on board : List ℕ) (t : TaskId) (c : ChannelId) (some : 1 ≤ c .0) where
   -- the tasks
   abbrev ts : List Task
   ts = tasksOn board
 
   -- with these notes
   abbrev pub left : List ℕ → Outcome
-  left notes = sendOutcome operands numbers receivers ts (storeOf (lent hp hm op on notes board)) t c
+  left notes = sendOutcome codes numbers receivers ts (storeOf (lent hp hm op on notes board)) t c
 
   -- what is fetched is the site with nothing noted
   pub send-fetched : {a b : Task} {u : TaskId} {h : Hint} {f : Offer} {y : Channel} {r : Bool} {x : Cell} {m p : ℕ} {o : Outcome}
       → a ≡ taskIn ts t → u ≡ namedIn receivers (c .0) → b ≡ taskIn ts u → h ≡ hintIn hp hm (a .processor) c → f ≡ heldIn op on (a .processor) c
-      → y ≡ readChannel (channelsOn board) (c .0 - 1) → r ≡ isOnIn operands Receiving u c b
+      → y ≡ readChannel (channelsOn board) (c .0 - 1) → r ≡ isOnIn codes Receiving u c b
       → x ≡ record { entry = record { hint = h; held = f; noted = noProcessor }; channel = y }
       → m ≡ t .0 → p ≡ a .pc
       → o ≡ sendRule (record { sender = a; receiver = b; sending = false; receiving = r; cell = x }) c (getD numbers (64 * (m - 1) + (p - 1)) 0)
@@ -66,15 +66,15 @@ module _ (operands numbers receivers hp hm op on board : List ℕ) (t : TaskId) 
     noted x = withNoted x (noteIn notes (taskIn ts t .processor) c)
 
     -- the site with it
-    site-noted : atCell noted (siteIn operands ts (storeOf (lent hp hm op on [] board)) (sendScope receivers ts t c))
-        ≡ siteIn operands ts (storeOf (lent hp hm op on notes board)) (sendScope receivers ts t c)
+    site-noted : atCell noted (siteIn codes ts (storeOf (lent hp hm op on [] board)) (sendScope receivers ts t c))
+        ≡ siteIn codes ts (storeOf (lent hp hm op on notes board)) (sendScope receivers ts t c)
     unfolding siteIn cellOf
     site-noted = rw (ne-eqb (c .0) 0 (λ z. omega arith)) refl
 
     -- it is not seen, and stays
     pub send-noted : {o : Outcome} → o ≡ left [] → leftCell noted o ≡ left notes
     send-noted e =
-        let x = siteIn operands ts (storeOf (lent hp hm op on [] board)) (sendScope receivers ts t c) in
+        let x = siteIn codes ts (storeOf (lent hp hm op on [] board)) (sendScope receivers ts t c) in
         let w = getD numbers (slotAt t (taskIn ts t .pc - 1)) 0 in
         ap (leftCell noted) e ∙ sym (send-unseen (noteIn notes (taskIn ts t .processor) c) x c w) ∙ ap (λ (z : Site). sendRule z c w) site-noted
 

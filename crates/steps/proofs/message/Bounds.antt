@@ -51,7 +51,7 @@ pub record Bounded (users board : List ℕ) (c : ChannelId) (d : ProcessorId) : 
   pub called : readChannel (channelsOn board) (c .0 - 1) .granted < 255
   pub apart : 1 ≤ senderIn users c .0 → senderIn users c .0 ≢ receiverIn users c .0
 
-module _ {opcodes operands numbers users : List ℕ} {n : Size} {l : Lent} (g : RigOn opcodes operands numbers users n l) (c : ChannelId) (d : ProcessorId)
+module _ {codes numbers users : List ℕ} {n : Size} {l : Lent} (g : RigOn codes numbers users n l) (c : ChannelId) (d : ProcessorId)
     (ck : channelNumberOk c ≡ true) (dk : processorOk (n .processors) d ≡ true) where
   -- what is reached from there
   reached : Reached (tasksOf l) (storeOf l) (channelScope (sendersOf users) (receiversOf users) c d)
@@ -90,7 +90,7 @@ module _ {opcodes operands numbers users : List ℕ} {n : Size} {l : Lent} (g : 
         apart = ends-apart;
       }
 
-module _ {operands users : List ℕ} {l : Lent} {m : Message} (o : Opens operands users l m) where
+module _ {codes users : List ℕ} {l : Lent} {m : Message} (o : Opens codes users l m) where
   -- 9 does not refuse the letter
   abbrev fine : {x : Message} → m ≡ x → messageOk (o .size .processors) (o .size .tasks) x ≡ true
   fine e = rw e at (o .ok)

@@ -6,29 +6,29 @@ use Rattle.board.specs.Lent.{lent}
 use Rattle.board.specs.Rigs.{Opens}
 use Rattle.steps.specs.message.Parts.{Some}
 
-module _ {operands users hintprocessors hintmoves heldprocessors heldnumbers notes board : List ℕ} {m : Message}
-    (g : Opens operands users (lent hintprocessors hintmoves heldprocessors heldnumbers notes board) m) where
+module _ {codes users hintprocessors hintmoves heldprocessors heldnumbers notes board : List ℕ} {m : Message}
+    (g : Opens codes users (lent hintprocessors hintmoves heldprocessors heldnumbers notes board) m) where
   -- by all but the notes
-  pub but-notes : Some (λ notes. Opens operands users (lent hintprocessors hintmoves heldprocessors heldnumbers notes board) m)
+  pub but-notes : Some (λ notes. Opens codes users (lent hintprocessors hintmoves heldprocessors heldnumbers notes board) m)
   but-notes = record { list = notes; holds = g }
 
   -- by the notes and the board
   pub by-notes :
       Some (λ hintprocessors. Some (λ hintmoves. Some (λ heldprocessors. Some (λ heldnumbers.
-      Opens operands users (lent hintprocessors hintmoves heldprocessors heldnumbers notes board) m))))
+      Opens codes users (lent hintprocessors hintmoves heldprocessors heldnumbers notes board) m))))
   by-notes =
       record { list = hintprocessors; holds = record { list = hintmoves; holds = record { list = heldprocessors; holds = record { list = heldnumbers; holds = g } } } }
 
   -- by the pointers and the board
   pub by-hints :
       Some (λ heldprocessors. Some (λ heldnumbers. Some (λ notes.
-      Opens operands users (lent hintprocessors hintmoves heldprocessors heldnumbers notes board) m)))
+      Opens codes users (lent hintprocessors hintmoves heldprocessors heldnumbers notes board) m)))
   by-hints = record { list = heldprocessors; holds = record { list = heldnumbers; holds = record { list = notes; holds = g } } }
 
   -- by the board
   pub by-board :
       Some (λ hintprocessors. Some (λ hintmoves. Some (λ heldprocessors. Some (λ heldnumbers. Some (λ notes.
-      Opens operands users (lent hintprocessors hintmoves heldprocessors heldnumbers notes board) m)))))
+      Opens codes users (lent hintprocessors hintmoves heldprocessors heldnumbers notes board) m)))))
   by-board =
       record {
         list = hintprocessors;

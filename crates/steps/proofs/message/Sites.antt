@@ -26,57 +26,57 @@ use Rattle.steps.proofs.message.Bounds.{senderIn, receiverIn}
 use Rattle.steps.proofs.message.Rules.{Kind}
 
 -- what channel c's rules see at desk d
-abbrev pub siteAt : (operands users : List ℕ) → Lent → ChannelId → ProcessorId → Site
-siteAt operands users l c d =
+abbrev pub siteAt : (codes users : List ℕ) → Lent → ChannelId → ProcessorId → Site
+siteAt codes users l c d =
     let s = senderIn users c in
     let u = receiverIn users c in
     let a = taskIn (tasksOf l) s in
     let b = taskIn (tasksOf l) u in
-    record { sender = a; receiver = b; sending = isOnIn operands Sending s c a; receiving = isOnIn operands Receiving u c b; cell = cellIn (storeOf l) d c }
+    record { sender = a; receiver = b; sending = isOnIn codes Sending s c a; receiving = isOnIn codes Receiving u c b; cell = cellIn (storeOf l) d c }
 
 -- m is such a letter
 module _ {rule : Site → Message → Outcome} {sees : Site → Site} {leaves : Site → Outcome → Outcome} {m x : Message} {c : ChannelId} {d : ProcessorId}
-    (k : Kind rule sees leaves x c d) (e : m ≡ x) (operands users : List ℕ) (l : Lent) where
+    (k : Kind rule sees leaves x c d) (e : m ≡ x) (codes users : List ℕ) (l : Lent) where
   -- the letter's site
   abbrev here : Site
-  here = siteIn operands (tasksOf l) (storeOf l) (messageScope (sendersOf users) (receiversOf users) (parentsOf users) x)
+  here = siteIn codes (tasksOf l) (storeOf l) (messageScope (sendersOf users) (receiversOf users) (parentsOf users) x)
 
   -- what opening it does, by what the rule leaves of what it sees
-  opens : {o : Outcome} → Found rule sees operands users x l o → (count : ℕ) (opcodes numbers : List ℕ)
-      → openedIn (factsIn count opcodes operands numbers users) (tasksOf l) (storeOf l) x
+  opens : {o : Outcome} → Found rule sees codes users x l o → (count : ℕ) (numbers : List ℕ)
+      → openedIn (factsIn count codes numbers users) (tasksOf l) (storeOf l) x
       ≡ change (messageScope (sendersOf users) (receiversOf users) (parentsOf users) x) (leaves here o) Nothing
   unfolding openedIn
-  opens f count opcodes numbers =
+  opens f count numbers =
       let scope = messageScope (sendersOf users) (receiversOf users) (parentsOf users) x in
       k .does scope here ∙ ap (λ (z : Outcome). change scope z Nothing) (k .rest here ∙ ap (leaves here) (sym f))
 
   -- it is decided
-  pub opening : {o : Outcome} {r : Act} → Found rule sees operands users m l o → r ≡ acceptedAct (leaves here o) → Opening operands users m l r
-  opening f er = rw e (λ count opcodes numbers. rw (opens (rw e at f) count opcodes numbers) er)
+  pub opening : {o : Outcome} {r : Act} → Found rule sees codes users m l o → r ≡ acceptedAct (leaves here o) → Opening codes users m l r
+  opening f er = rw e (λ count numbers. rw (opens (rw e at f) count numbers) er)
 
   module _ (some : 1 ≤ c .0) where
     -- the letter's site is the channel's
-    site-at : here ≡ siteAt operands users l c d
+    site-at : here ≡ siteAt codes users l c d
     unfolding siteIn cellOf
     site-at = rw (k .at (sendersOf users) (receiversOf users) (parentsOf users), ne-eqb (c .0) 0 (λ z. omega arith)) refl
 
     -- the rule was asked at what it sees of the site
-    pub found : {y : Site} {o : Outcome} → y ≡ sees (siteAt operands users l c d) → o ≡ rule y x → Found rule sees operands users m l o
+    pub found : {y : Site} {o : Outcome} → y ≡ sees (siteAt codes users l c d) → o ≡ rule y x → Found rule sees codes users m l o
     found ey eo = rw e (eo ∙ ap (λ (z : Site). rule z x) (ey ∙ ap sees (sym site-at)))
 
     -- what it leaves is stored
-    pub opened : {o : Outcome} {r : Act} (l' : Lent) → Found rule sees operands users x l o
-        → let q = leaves (siteAt operands users l c d) o in
+    pub opened : {o : Outcome} {r : Act} (l' : Lent) → Found rule sees codes users x l o
+        → let q = leaves (siteAt codes users l c d) o in
         r ≡ acceptedAct q
         → Whole (l' .board)
         → tasksOf l' ≡ taskStored (taskStored (tasksOf l) (senderIn users c) (q .sender)) (receiverIn users c) (q .receiver)
         → storeOf l' ≡ cellStored (storeOf l) d c (q .cell)
-        → Opened operands users m l r l'
+        → Opened codes users m l r l'
     unfolding cellPut
     opened l' f er w et es =
         rw e
-        (λ count opcodes numbers.
-        rw (opens f count opcodes numbers, site-at, k .at (sendersOf users) (receiversOf users) (parentsOf users))
+        (λ count numbers.
+        rw (opens f count numbers, site-at, k .at (sendersOf users) (receiversOf users) (parentsOf users))
         (record {
           whole = w;
           act = er;

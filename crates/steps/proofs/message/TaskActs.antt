@@ -35,7 +35,7 @@ use Rattle.board.specs.Acted.{Acted, StoredBy, plainAct}
 use Rattle.board.specs.Rigs.{Opens, Opened}
 
 -- the numbers of a letter that can be opened
-module _ {operands users : List ℕ} {l : Lent} {m : Message} (g : Opens operands users l m) (d : ProcessorId) (t : TaskId) where
+module _ {codes users : List ℕ} {l : Lent} {m : Message} (g : Opens codes users l m) (d : ProcessorId) (t : TaskId) where
   pub ended-within : m ≡ Terminated d t → (1 ≤ t .0) × (t .0 ≤ 64) × (namedIn (parentsOf users) (t .0) .0 ≤ 64)
   ended-within e =
       let ok : messageOk (g .size .processors) (g .size .tasks) (Terminated d t) ≡ true = rw e at (g .ok) in
@@ -56,22 +56,22 @@ alone-acted : (senders receivers : List ℕ) (before after : Lent) {k : Change} 
 unfolding taskStored cellPut
 alone-acted senders receivers before after u d x y w e a z ts st = rw e (record { whole = z; act = a; tasks = ts; store = st })
 
-module _ (operands users hintprocessors hintmoves heldprocessors heldnumbers notes board : List ℕ) where
+module _ (codes users hintprocessors hintmoves heldprocessors heldnumbers notes board : List ℕ) where
   abbrev from : Lent
   from = lent hintprocessors hintmoves heldprocessors heldnumbers notes board
 
   -- the site of task u alone
   abbrev at : TaskId → ProcessorId → Site
-  at u d = siteIn operands (tasksOn board) (storeOf from) (alone u d)
+  at u d = siteIn codes (tasksOn board) (storeOf from) (alone u d)
 
   module _ {m : Message} {r : Act} (a : r ≡ plainAct) where
     -- an ended letter: u is the parent, x its record, and y what is stored
     pub ended-opened : (d : ProcessorId) (t : TaskId) {u : TaskId} {x y : Task} (board' : List ℕ)
         → m ≡ Terminated d t → u ≡ namedIn (parentsOf users) (t .0) → x ≡ taskIn (tasksOn board) u → y ≡ terminatedRule x d t
         → (Whole board') × (tasksOn board' ≡ taskStored (tasksOn board) u y) × (channelsOn board' ≡ channelsOn board)
-        → Opened operands users m from r (lent hintprocessors hintmoves heldprocessors heldnumbers notes board')
+        → Opened codes users m from r (lent hintprocessors hintmoves heldprocessors heldnumbers notes board')
     unfolding openedIn siteIn
-    ended-opened d t board' e eu ex ey put = λ count opcodes numbers.
+    ended-opened d t board' e eu ex ey put = λ count numbers.
         let v = namedIn (parentsOf users) (t .0) in
         alone-acted (sendersOf users) (receiversOf users) from (lent hintprocessors hintmoves heldprocessors heldnumbers notes board')
         v d (at v d) (terminatedRule (taskIn (tasksOn board) v) d t) Nothing (rw e refl) a (put .0) (put .1 ∙ rw (ey, ex, eu) refl) (rw (put .2) refl)
@@ -81,9 +81,9 @@ module _ (operands users hintprocessors hintmoves heldprocessors heldnumbers not
         → m ≡ Migration d t → x ≡ taskIn (tasksOn board) t → isIn Moving x ≡ true → y ≡ onMigration x (Migration d t)
         → (Whole mid) × (tasksOn mid ≡ taskStored (tasksOn board) t y) × (channelsOn mid ≡ channelsOn board)
         → StoredBy (swept (sendersOf users) (receiversOf users) (Arrival t d (x .moves))) (lent hintprocessors hintmoves heldprocessors heldnumbers notes mid) after
-        → Opened operands users m from r after
+        → Opened codes users m from r after
     unfolding openedIn siteIn
-    moved-opened d t mid {after} e ex moving ey put s = λ count opcodes numbers.
+    moved-opened d t mid {after} e ex moving ey put s = λ count numbers.
         let q = taskIn (tasksOn board) t in
         let is : isIn Moving q ≡ true = rw ex at moving in
         alone-acted (sendersOf users) (receiversOf users) from after t d (at t d) (onMigration q (Migration d t)) (Arrival t d (q .moves)) (rw (e, is) refl) a
@@ -91,14 +91,14 @@ module _ (operands users hintprocessors hintmoves heldprocessors heldnumbers not
 
     -- one of a task that is not moving
     pub stayed-opened : (d : ProcessorId) (t : TaskId) {x : Task} → m ≡ Migration d t → x ≡ taskIn (tasksOn board) t → isIn Moving x ≡ false → Whole board
-        → Opened operands users m from r from
+        → Opened codes users m from r from
     unfolding openedIn siteIn
-    stayed-opened d t e ex still z = λ count opcodes numbers.
+    stayed-opened d t e ex still z = λ count numbers.
         let q = taskIn (tasksOn board) t in
         let is : isIn Moving q ≡ false = rw ex at still in
         alone-acted (sendersOf users) (receiversOf users) from from t d (at t d) q Nothing (rw (e, is) refl) a z (sym (taskStored-own (tasksOn board) t)) refl
 
     -- no letter
-    pub none-opened : m ≡ Empty → Whole board → Opened operands users m from r from
+    pub none-opened : m ≡ Empty → Whole board → Opened codes users m from r from
     unfolding openedIn taskStored cellPut
-    none-opened e z = λ count opcodes numbers. rw e (record { whole = z; act = a; tasks = refl; store = refl })
+    none-opened e z = λ count numbers. rw e (record { whole = z; act = a; tasks = refl; store = refl })

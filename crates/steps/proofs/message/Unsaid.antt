@@ -26,15 +26,15 @@ use Rattle.board.specs.Rigs.{Opening}
 abbrev rest : List ℕ
 rest = 0 ∷ 5 ∷ 6 ∷ []
 
-pub unsaid : (operands users : List ℕ) (l : Lent) (m : Message) {r : Act} → OneOf rest (tagOf the-type m) → r ≡ plainAct → Opening operands users m l r
+pub unsaid : (codes users : List ℕ) (l : Lent) (m : Message) {r : Act} → OneOf rest (tagOf the-type m) → r ≡ plainAct → Opening codes users m l r
 unfolding openedIn
-unsaid operands users l Empty here a = λ count opcodes numbers. a
-unsaid operands users l (Offered c o h) here a = absurd (miss rest 1 tt here)
-unsaid operands users l (Advert c d from) here a = absurd (miss rest 2 tt here)
-unsaid operands users l (ReadyToReceive c d h) here a = absurd (miss rest 3 tt here)
-unsaid operands users l (Data c d w) here a = absurd (miss rest 4 tt here)
-unsaid operands users l (Terminated d t) here a = λ count opcodes numbers. a
-unsaid operands users l (Migration d t) {r} here a = λ count opcodes numbers.
-    let x = siteIn operands (tasksOf l) (storeOf l) (alone t d) in
+unsaid codes users l Empty here a = λ count numbers. a
+unsaid codes users l (Offered c o h) here a = absurd (miss rest 1 tt here)
+unsaid codes users l (Advert c d from) here a = absurd (miss rest 2 tt here)
+unsaid codes users l (ReadyToReceive c d h) here a = absurd (miss rest 3 tt here)
+unsaid codes users l (Data c d w) here a = absurd (miss rest 4 tt here)
+unsaid codes users l (Terminated d t) here a = λ count numbers. a
+unsaid codes users l (Migration d t) {r} here a = λ count numbers.
+    let x = siteIn codes (tasksOf l) (storeOf l) (alone t d) in
     pick-either (λ (k : Change). r ≡ acceptedAct (k .outcome)) (isIn Moving (x .sender))
     (change (alone t d) (tasksOnly x (arrived (x .sender) d) (x .receiver) NoPosting) (Arrival t d (x .sender .moves))) (taskChange (alone t d) x (x .sender)) a a

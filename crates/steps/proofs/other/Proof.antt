@@ -17,7 +17,7 @@ use Rattle.steps.proofs.other.Tie as tie
 
 -- the facts, what is lent, and the verdict
 abbrev given : tie.Start → Facts
-given s = let a = s .args in factsIn (a .n .tasks) (a .opcodes .now) (a .operands .now) (a .numbers .now) (a .users .now)
+given s = let a = s .args in factsIn (a .n .tasks) (a .codes .now) (a .numbers .now) (a .users .now)
 
 abbrev here : tie.Start → Lent
 here s = let a = s .args in lent (a .hintprocessors .now) (a .hintmoves .now) (a .heldprocessors .now) (a .heldnumbers .now) (a .notes .now) (a .board .now)

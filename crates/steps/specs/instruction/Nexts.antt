@@ -12,8 +12,8 @@ use Rattle.steps.specs.declared.instruction.next.Next.{Next}
 use Rattle.steps.specs.declared.instruction.next.Next.the-variants.{Refused, Runs}
 
 -- the record and the instruction, where the first tests refuse nothing
-unfoldable pub nextOf : List ℕ → List ℕ → ℕ → List Task → TaskId → Next
-nextOf opcodes operands count ts t =
-    let q = runRefusal opcodes operands count ts t in
+unfoldable pub nextOf : List ℕ → ℕ → List Task → TaskId → Next
+nextOf codes count ts t =
+    let q = runRefusal codes count ts t in
     let x = taskIn ts t in
-    pick (isAccepted q) (Runs x (instructionIn opcodes operands t (x .pc))) (Refused q)
+    pick (isAccepted q) (Runs x (instructionIn codes t (x .pc))) (Refused q)

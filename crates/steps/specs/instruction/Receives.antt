@@ -22,13 +22,13 @@ receiveScope senders ts t c = scope (namedIn senders (c .0)) t c (taskIn ts t .p
 
 -- what its rule leaves
 abbrev pub receiveOutcome : List ℕ → List ℕ → List ℕ → List Task → Store → TaskId → ChannelId → Outcome
-receiveOutcome operands numbers senders ts s t c =
+receiveOutcome codes numbers senders ts s t c =
     let k = receiveScope senders ts t c in
-    receiveRule (siteIn operands ts s k) c (lastOf numbers (k .sender) (taskIn ts (k .sender) .pc))
+    receiveRule (siteIn codes ts s k) c (lastOf numbers (k .sender) (taskIn ts (k .sender) .pc))
 
 abbrev pub receiveVerdict : List ℕ → List ℕ → List ℕ → ℕ → ℕ → List Task → Store → TaskId → ChannelId → Verdict
-receiveVerdict operands numbers senders n used ts s t c =
-    fittingIn n used (change (receiveScope senders ts t c) (receiveOutcome operands numbers senders ts s t c) Nothing)
+receiveVerdict codes numbers senders n used ts s t c =
+    fittingIn n used (change (receiveScope senders ts t c) (receiveOutcome codes numbers senders ts s t c) Nothing)
 
 -- what it supposes to be decided: a task, its desk, its place, the sender, and the number called
 pub record Receivable (senders : List ℕ) (ts : List Task) (k : Channels) (t : TaskId) (c : ChannelId) : Type 0 where

@@ -22,12 +22,12 @@ sendScope receivers ts t c = scope t (namedIn receivers (c .0)) c (taskIn ts t .
 
 -- what its rule leaves
 abbrev pub sendOutcome : List ℕ → List ℕ → List ℕ → List Task → Store → TaskId → ChannelId → Outcome
-sendOutcome operands numbers receivers ts s t c =
-    sendRule (siteIn operands ts s (sendScope receivers ts t c)) c (getD numbers (slotAt t (taskIn ts t .pc - 1)) 0)
+sendOutcome codes numbers receivers ts s t c =
+    sendRule (siteIn codes ts s (sendScope receivers ts t c)) c (getD numbers (slotAt t (taskIn ts t .pc - 1)) 0)
 
 abbrev pub sendVerdict : List ℕ → List ℕ → List ℕ → ℕ → ℕ → List Task → Store → TaskId → ChannelId → Verdict
-sendVerdict operands numbers receivers n used ts s t c =
-    fittingIn n used (change (sendScope receivers ts t c) (sendOutcome operands numbers receivers ts s t c) Nothing)
+sendVerdict codes numbers receivers n used ts s t c =
+    fittingIn n used (change (sendScope receivers ts t c) (sendOutcome codes numbers receivers ts s t c) Nothing)
 
 -- what it supposes to be decided: a task, its desk, its place, and the receiver
 pub record Sendable (receivers : List ℕ) (ts : List Task) (t : TaskId) (c : ChannelId) : Type 0 where

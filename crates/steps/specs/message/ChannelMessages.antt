@@ -42,28 +42,28 @@ pub record IsWord (m : Message) : Type 0 where
   pub is : m ≡ Data channel processor word
 
 -- an offer can be opened beside some notes
-abbrev pub OfferOpens : (operands users hintprocessors hintmoves heldprocessors heldnumbers board : List ℕ) → Message → Type 0
-OfferOpens operands users hintprocessors hintmoves heldprocessors heldnumbers board m =
+abbrev pub OfferOpens : (codes users hintprocessors hintmoves heldprocessors heldnumbers board : List ℕ) → Message → Type 0
+OfferOpens codes users hintprocessors hintmoves heldprocessors heldnumbers board m =
     (IsOffer m)
-    × (Some (λ notes. Opens operands users (lent hintprocessors hintmoves heldprocessors heldnumbers notes board) m))
+    × (Some (λ notes. Opens codes users (lent hintprocessors hintmoves heldprocessors heldnumbers notes board) m))
 
 -- an advert, beside some pointers and held offers
-abbrev pub AdvertOpens : (operands users notes board : List ℕ) → Message → Type 0
-AdvertOpens operands users notes board m =
+abbrev pub AdvertOpens : (codes users notes board : List ℕ) → Message → Type 0
+AdvertOpens codes users notes board m =
     (IsAdvert m)
     × (Some (λ hintprocessors. Some (λ hintmoves. Some (λ heldprocessors. Some (λ heldnumbers.
-    Opens operands users (lent hintprocessors hintmoves heldprocessors heldnumbers notes board) m)))))
+    Opens codes users (lent hintprocessors hintmoves heldprocessors heldnumbers notes board) m)))))
 
 -- a call, beside some held offers and notes
-abbrev pub CallOpens : (operands users hintprocessors hintmoves board : List ℕ) → Message → Type 0
-CallOpens operands users hintprocessors hintmoves board m =
+abbrev pub CallOpens : (codes users hintprocessors hintmoves board : List ℕ) → Message → Type 0
+CallOpens codes users hintprocessors hintmoves board m =
     (IsCall m)
     × (Some (λ heldprocessors. Some (λ heldnumbers. Some (λ notes.
-    Opens operands users (lent hintprocessors hintmoves heldprocessors heldnumbers notes board) m))))
+    Opens codes users (lent hintprocessors hintmoves heldprocessors heldnumbers notes board) m))))
 
 -- a word letter, beside some tables
-abbrev pub WordOpens : (operands users board : List ℕ) → Message → Type 0
-WordOpens operands users board m =
+abbrev pub WordOpens : (codes users board : List ℕ) → Message → Type 0
+WordOpens codes users board m =
     (IsWord m)
     × (Some (λ hintprocessors. Some (λ hintmoves. Some (λ heldprocessors. Some (λ heldnumbers. Some (λ notes.
-    Opens operands users (lent hintprocessors hintmoves heldprocessors heldnumbers notes board) m))))))
+    Opens codes users (lent hintprocessors hintmoves heldprocessors heldnumbers notes board) m))))))

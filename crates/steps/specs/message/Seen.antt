@@ -24,11 +24,11 @@ abbrev pub receiverSite : Task → Bool → Cell → Site
 receiverSite b receiving cell = record { sender = noTask; receiver = b; sending = false; receiving = receiving; cell = cell }
 
 -- channel c's site with this cell, as its receiver has it
-abbrev pub atReceiver : (operands users board : List ℕ) → ChannelId → Cell → Site
-atReceiver operands users board c cell =
+abbrev pub atReceiver : (codes users board : List ℕ) → ChannelId → Cell → Site
+atReceiver codes users board c cell =
     let u = namedIn (receiversOf users) (c .0) in
     let b = taskIn (tasksOn board) u in
-    receiverSite b (isOnIn operands Receiving u c b) cell
+    receiverSite b (isOnIn codes Receiving u c b) cell
 
 -- a site with nobody at the receiving end
 abbrev pub senderSite : Task → Bool → Cell → Site
@@ -51,6 +51,6 @@ abbrev pub wordSees : Site → Site
 wordSees x = receiverSite (x .receiver) (x .receiving) (record { entry = noCell .entry; channel = x .cell .channel })
 
 -- what the rule of the letter m leaves of what it sees
-abbrev pub Found : (Site → Message → Outcome) → (Site → Site) → (operands users : List ℕ) → Message → Lent → Outcome → Type 0
-Found rule sees operands users m l o =
-    o ≡ rule (sees (siteIn operands (tasksOf l) (storeOf l) (messageScope (sendersOf users) (receiversOf users) (parentsOf users) m))) m
+abbrev pub Found : (Site → Message → Outcome) → (Site → Site) → (codes users : List ℕ) → Message → Lent → Outcome → Type 0
+Found rule sees codes users m l o =
+    o ≡ rule (sees (siteIn codes (tasksOf l) (storeOf l) (messageScope (sendersOf users) (receiversOf users) (parentsOf users) m))) m

@@ -22,15 +22,15 @@ pub record IsMover (m : Message) : Type 0 where
   pub task : TaskId
   pub is : m ≡ Migration processor task
 
--- an ended letter can be opened beside some operands and tables
+-- an ended letter can be opened beside some codes and tables
 abbrev pub EndedOpens : (users board : List ℕ) → Message → Type 0
 EndedOpens users board m =
     (IsEnded m)
-    × (Some (λ operands. Some (λ hintprocessors. Some (λ hintmoves. Some (λ heldprocessors. Some (λ heldnumbers. Some (λ notes.
-    Opens operands users (lent hintprocessors hintmoves heldprocessors heldnumbers notes board) m)))))))
+    × (Some (λ codes. Some (λ hintprocessors. Some (λ hintmoves. Some (λ heldprocessors. Some (λ heldnumbers. Some (λ notes.
+    Opens codes users (lent hintprocessors hintmoves heldprocessors heldnumbers notes board) m)))))))
 
--- a mover letter, beside some operands and notes
+-- a mover letter, beside some codes and notes
 abbrev pub MoverOpens : (users hintprocessors hintmoves heldprocessors heldnumbers board : List ℕ) → Message → Type 0
 MoverOpens users hintprocessors hintmoves heldprocessors heldnumbers board m =
     (IsMover m)
-    × (Some (λ operands. Some (λ notes. Opens operands users (lent hintprocessors hintmoves heldprocessors heldnumbers notes board) m)))
+    × (Some (λ codes. Some (λ notes. Opens codes users (lent hintprocessors hintmoves heldprocessors heldnumbers notes board) m)))

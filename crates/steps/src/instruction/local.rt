@@ -10,6 +10,7 @@ ghost use Rattle.plan_index.specs.user_table.Users.{receiversOf, parentsOf, Ind
 ghost use Rattle.board.specs.Lent.{lent, Whole, tasksOn};
 ghost use Rattle.board.specs.Acted.{Acted, actOf};
 ghost use Rattle.steps.specs.instruction.Locals.{CanCreate, CanFinish, createVerdict, finishVerdict, aloneVerdict};
+use board::Board;
 use board::act::Act;
 use board::act::Size;
 use board::act::fits;
@@ -31,7 +32,7 @@ pub fn create<'a>(
     users: &'a [u8; 1024],
     hintprocessors: &'a mut [u8; 768],
     hintmoves: &'a mut [u16; 768],
-    board: &'a mut [u64; 256],
+    board: &'a mut Board,
     t: TaskId,
     x: Task,
     u: TaskId,
@@ -57,7 +58,7 @@ pub fn create<'a>(
 }
 
 // What a finish of task t, with record x, leaves of its parent and of the task, and its letter.
-fn finished<'a>(users: &'a [u8; 1024], board: &'a [u64; 256], t: TaskId, x: Task) -> Finished
+fn finished<'a>(users: &'a [u8; 1024], board: &'a Board, t: TaskId, x: Task) -> Finished
     requires { ⌜ CanFinish (parentsOf (now users)) t x ⌝ }
     ensures { λ r. ⌜ r ≡ finishRule t x (taskIn (tasksOn (now (board .entry))) (namedIn (parentsOf (now (users .entry))) (t .0))) ⌝ }
 {
@@ -67,13 +68,7 @@ fn finished<'a>(users: &'a [u8; 1024], board: &'a [u64; 256], t: TaskId, x: Task
 }
 
 // A finish of task t, with record x, unless its letter does not fit.
-pub fn finish<'a>(
-    users: &'a [u8; 1024],
-    board: &'a mut [u64; 256],
-    n: Size,
-    t: TaskId,
-    x: Task,
-) -> Act
+pub fn finish<'a>(users: &'a [u8; 1024], board: &'a mut Board, n: Size, t: TaskId, x: Task) -> Act
     requires { ⌜ (Whole (now board)) × (n .used ≤ 256) × (CanFinish (parentsOf (now users)) t x) ⌝ }
     ensures { λ r. ⌜ ((senders receivers hintprocessors hintmoves heldprocessors heldnumbers notes : List ℕ)
         → Acted senders receivers (finishVerdict (parentsOf (now (users .entry))) (n .processors) (n .used) (tasksOn (now (board .entry))) t x)
@@ -97,7 +92,7 @@ pub fn finish<'a>(
 // The same, decided and not done.
 pub fn finish_decided<'a>(
     users: &'a [u8; 1024],
-    board: &'a [u64; 256],
+    board: &'a Board,
     n: Size,
     t: TaskId,
     x: Task,
@@ -114,7 +109,7 @@ pub fn finish_decided<'a>(
 }
 
 // Task t becomes y, and nothing else changes.
-pub fn alone(board: &mut [u64; 256], t: TaskId, y: Task) -> Act
+pub fn alone(board: &mut Board, t: TaskId, y: Task) -> Act
     requires { ⌜ (t .0 ≤ 64) × Whole (now board) ⌝ }
     ensures { λ r. ⌜ ((senders receivers hintprocessors hintmoves heldprocessors heldnumbers notes : List ℕ) (d : ProcessorId)
         → Acted senders receivers (aloneVerdict t d y)

@@ -3,6 +3,7 @@ ghost use mathlib.Core.Path.{_≡_};
 ghost use Rattle.board.specs.Lent.{tasksOn};
 ghost use Rattle.steps.specs.instruction.Refusals.{Placed};
 ghost use Rattle.steps.specs.instruction.Nexts.{nextOf};
+use board::Board;
 use board::task_at;
 use plan::FINISH;
 use plan::Instruction;
@@ -18,15 +19,9 @@ pub enum Next {
 }
 
 // What a run of task t finds: 10, no such task; 11, not ready; 12, a finish with living children.
-pub fn next_of<'a>(
-    opcodes: &'a [u8; 4096],
-    operands: &'a [u16; 4096],
-    board: &'a [u64; 256],
-    count: u8,
-    t: TaskId,
-) -> Next
+pub fn next_of<'a>(codes: &'a [u32; 4096], board: &'a Board, count: u8, t: TaskId) -> Next
     requires { ⌜ Placed count (tasksOn (now board)) ⌝ }
-    ensures { λ r. ⌜ r ≡ nextOf (now (opcodes .entry)) (now (operands .entry)) count (tasksOn (now (board .entry))) t ⌝ }
+    ensures { λ r. ⌜ r ≡ nextOf (now (codes .entry)) count (tasksOn (now (board .entry))) t ⌝ }
 {
     if !base::is_within(1, base::wide8(count), base::wide8(t.0)) {
         return Next::Refused(StepAnswer::NoTask);
@@ -35,7 +30,7 @@ pub fn next_of<'a>(
     if !task_rules::state::is_in(x, TaskState::Ready) {
         return Next::Refused(StepAnswer::NotReady);
     }
-    let i = board::fetch::instruction_in(opcodes, operands, t, x.pc);
+    let i = board::fetch::instruction_in(codes, t, x.pc);
     if i.opcode == FINISH {
         if !task_rules::children::is_childless(x) {
             return Next::Refused(StepAnswer::FinishWithChildren);

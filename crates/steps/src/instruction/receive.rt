@@ -7,6 +7,7 @@ ghost use Rattle.board.specs.Lent.{lent, Whole, tasksOn, channelsOn, tasksOf, s
 ghost use Rattle.board.specs.Acted.{Acted, actOf};
 ghost use Rattle.steps.specs.instruction.Receives.{Receivable, CanReceive, receiveOutcome, receiveVerdict};
 use crate::instruction::fitted;
+use board::Board;
 use board::act::Act;
 use board::act::Size;
 use board::act::accepted;
@@ -28,24 +29,24 @@ use rules::task::TaskState;
 
 // What a receive of task t on channel c leaves, with no pointer and no held offer: they are not seen, and stay.
 pub fn receive_outcome<'a>(
-    operands: &'a [u16; 4096],
+    codes: &'a [u32; 4096],
     numbers: &'a [u8; 4096],
     users: &'a [u8; 1024],
     notes: &'a [u8; 768],
-    board: &'a [u64; 256],
+    board: &'a Board,
     t: TaskId,
     c: ChannelId,
 ) -> Outcome
     requires { ⌜ Receivable (sendersOf (now users)) (tasksOn (now board)) (channelsOn (now board)) t c ⌝ }
     ensures { λ r. ⌜ (let l = lent [] [] [] [] (now (notes .entry)) (now (board .entry)) in
-        r ≡ receiveOutcome (now (operands .entry)) (now (numbers .entry)) (sendersOf (now (users .entry))) (tasksOf l) (storeOf l) t c) ⌝ }
+        r ≡ receiveOutcome (now (codes .entry)) (now (numbers .entry)) (sendersOf (now (users .entry))) (tasksOf l) (storeOf l) t c) ⌝ }
 {
     let b = task_at(board, t);
     let u = users::sender(users, c);
     let a = task_at(board, u);
     let noted = note_at(notes, b.processor, c);
     let channel = channel_at(board, c);
-    let sending = board::cell::is_on(operands, TaskState::Sending, u, c, a);
+    let sending = board::cell::is_on(codes, TaskState::Sending, u, c, a);
     let hint = cell_rules::order::unknown();
     let held = cell_rules::order::no_offer();
     let cell = board::cell::cell_of(hint, held, noted, channel);
@@ -62,11 +63,11 @@ pub fn receive_outcome<'a>(
 
 // A receive of task t on channel c. Whatever the pointers and the held offers are, they stay.
 pub fn receive<'a>(
-    operands: &'a [u16; 4096],
+    codes: &'a [u32; 4096],
     numbers: &'a [u8; 4096],
     users: &'a [u8; 1024],
     notes: &'a mut [u8; 768],
-    board: &'a mut [u64; 256],
+    board: &'a mut Board,
     n: Size,
     t: TaskId,
     c: ChannelId,
@@ -76,11 +77,11 @@ pub fn receive<'a>(
     ensures { λ r. ⌜ ((receivers hintprocessors hintmoves heldprocessors heldnumbers : List ℕ)
         → let l = lent hintprocessors hintmoves heldprocessors heldnumbers (now (notes .entry)) (now (board .entry)) in
         Acted (sendersOf (now (users .entry))) receivers
-        (receiveVerdict (now (operands .entry)) (now (numbers .entry)) (sendersOf (now (users .entry))) (n .processors) (n .used) (tasksOf l) (storeOf l) t c)
+        (receiveVerdict (now (codes .entry)) (now (numbers .entry)) (sendersOf (now (users .entry))) (n .processors) (n .used) (tasksOf l) (storeOf l) t c)
         l r
         (lent hintprocessors hintmoves heldprocessors heldnumbers (now (notes .exit)) (now (board .exit)))) ⌝ }
 {
-    let o = receive_outcome(operands, numbers, users, notes, board, t, c);
+    let o = receive_outcome(codes, numbers, users, notes, board, t, c);
     let posting = o.posting;
     if !fits(n, posting) {
         return refused(StepAnswer::NetworkFull);
@@ -102,11 +103,11 @@ pub fn receive<'a>(
 
 // What a receive of task t on channel c would say and post.
 pub fn receive_decided<'a>(
-    operands: &'a [u16; 4096],
+    codes: &'a [u32; 4096],
     numbers: &'a [u8; 4096],
     users: &'a [u8; 1024],
     notes: &'a [u8; 768],
-    board: &'a [u64; 256],
+    board: &'a Board,
     n: Size,
     t: TaskId,
     c: ChannelId,
@@ -114,8 +115,8 @@ pub fn receive_decided<'a>(
     requires { ⌜ CanReceive (sendersOf (now users)) (n .used) (tasksOn (now board)) (channelsOn (now board)) t c ⌝ }
     ensures { λ r. ⌜ ((hintprocessors hintmoves heldprocessors heldnumbers : List ℕ)
         → let l = lent hintprocessors hintmoves heldprocessors heldnumbers (now (notes .entry)) (now (board .entry)) in
-        r ≡ actOf (receiveVerdict (now (operands .entry)) (now (numbers .entry)) (sendersOf (now (users .entry))) (n .processors) (n .used) (tasksOf l) (storeOf l) t c)) ⌝ }
+        r ≡ actOf (receiveVerdict (now (codes .entry)) (now (numbers .entry)) (sendersOf (now (users .entry))) (n .processors) (n .used) (tasksOf l) (storeOf l) t c)) ⌝ }
 {
-    let o = receive_outcome(operands, numbers, users, notes, board, t, c);
+    let o = receive_outcome(codes, numbers, users, notes, board, t, c);
     fitted::fitted(n, o)
 }

@@ -6,21 +6,16 @@ ghost use Rattle.board.specs.Lent.{tasksOn};
 ghost use Rattle.steps.specs.instruction.Refusals.{Placed};
 use crate::instruction::next::Next;
 use crate::instruction::next::next_of;
+use board::Board;
 use plan::TaskId;
 use rules::step::StepAnswer;
 
 // 10, 11 or 12 to a run of task t; accepted where none refuses.
-pub fn run_refusal<'a>(
-    opcodes: &'a [u8; 4096],
-    operands: &'a [u16; 4096],
-    board: &'a [u64; 256],
-    count: u8,
-    t: TaskId,
-) -> StepAnswer
+pub fn run_refusal<'a>(codes: &'a [u32; 4096], board: &'a Board, count: u8, t: TaskId) -> StepAnswer
     requires { ⌜ Placed count (tasksOn (now board)) ⌝ }
-    ensures { λ r. ⌜ r ≡ runRefusal (now (opcodes .entry)) (now (operands .entry)) count (tasksOn (now (board .entry))) t ⌝ }
+    ensures { λ r. ⌜ r ≡ runRefusal (now (codes .entry)) count (tasksOn (now (board .entry))) t ⌝ }
 {
-    let found = next_of(opcodes, operands, board, count, t);
+    let found = next_of(codes, board, count, t);
     match found {
         Next::Refused(q) => q,
         Next::Runs(_, _) => StepAnswer::Accepted,

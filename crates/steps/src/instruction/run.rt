@@ -15,6 +15,7 @@ use crate::instruction::receive::receive;
 use crate::instruction::receive::receive_decided;
 use crate::instruction::send::send;
 use crate::instruction::send::send_decided;
+use board::Board;
 use board::act::Act;
 use board::act::Size;
 use board::act::posted;
@@ -31,8 +32,7 @@ use rules::rule::Posting;
 
 // A run of task t, carried out.
 pub fn run<'a>(
-    opcodes: &'a [u8; 4096],
-    operands: &'a [u16; 4096],
+    codes: &'a [u32; 4096],
     numbers: &'a [u8; 4096],
     users: &'a [u8; 1024],
     hintprocessors: &'a mut [u8; 768],
@@ -40,20 +40,20 @@ pub fn run<'a>(
     heldprocessors: &'a mut [u8; 768],
     heldnumbers: &'a mut [u8; 768],
     notes: &'a mut [u8; 768],
-    board: &'a mut [u64; 256],
+    board: &'a mut Board,
     n: Size,
     t: TaskId,
 ) -> Act
-    requires { ⌜ RigOn (now opcodes) (now operands) (now numbers) (now users) n
+    requires { ⌜ RigOn (now codes) (now numbers) (now users) n
         (lent (now hintprocessors) (now hintmoves) (now heldprocessors) (now heldnumbers) (now notes) (now board)) ⌝ }
     ensures { λ r. ⌜ (let l = lent (now (hintprocessors .entry)) (now (hintmoves .entry)) (now (heldprocessors .entry)) (now (heldnumbers .entry)) (now (notes .entry)) (now (board .entry)) in
         Acted (sendersOf (now (users .entry))) (receiversOf (now (users .entry)))
-        (judgedRun (factsIn (n .tasks) (now (opcodes .entry)) (now (operands .entry)) (now (numbers .entry)) (now (users .entry))) (n .processors) (tasksOf l) (storeOf l) (n .used) t)
+        (judgedRun (factsIn (n .tasks) (now (codes .entry)) (now (numbers .entry)) (now (users .entry))) (n .processors) (tasksOf l) (storeOf l) (n .used) t)
         l
         r
         (lent (now (hintprocessors .exit)) (now (hintmoves .exit)) (now (heldprocessors .exit)) (now (heldnumbers .exit)) (now (notes .exit)) (now (board .exit)))) ⌝ }
 {
-    let found = next_of(opcodes, operands, board, n.tasks, t);
+    let found = next_of(codes, board, n.tasks, t);
     match found {
         Next::Refused(q) => refused(q),
         Next::Runs(x, i) => {
@@ -71,7 +71,7 @@ pub fn run<'a>(
                 SEND => {
                     let c = ChannelId(i.operand as u8);
                     send(
-                        operands,
+                        codes,
                         numbers,
                         users,
                         hintprocessors,
@@ -86,7 +86,7 @@ pub fn run<'a>(
                 }
                 RECEIVE => {
                     let c = ChannelId(i.operand as u8);
-                    receive(operands, numbers, users, notes, board, n, t, c)
+                    receive(codes, numbers, users, notes, board, n, t, c)
                 }
                 SET => {
                     let y = task_rules::instructions::set_rule(x, i);
@@ -103,8 +103,7 @@ pub fn run<'a>(
 
 // A run of task t, decided and not done.
 pub fn run_decided<'a>(
-    opcodes: &'a [u8; 4096],
-    operands: &'a [u16; 4096],
+    codes: &'a [u32; 4096],
     numbers: &'a [u8; 4096],
     users: &'a [u8; 1024],
     hintprocessors: &'a [u8; 768],
@@ -112,16 +111,16 @@ pub fn run_decided<'a>(
     heldprocessors: &'a [u8; 768],
     heldnumbers: &'a [u8; 768],
     notes: &'a [u8; 768],
-    board: &'a [u64; 256],
+    board: &'a Board,
     n: Size,
     t: TaskId,
 ) -> Act
-    requires { ⌜ RigOn (now opcodes) (now operands) (now numbers) (now users) n
+    requires { ⌜ RigOn (now codes) (now numbers) (now users) n
         (lent (now hintprocessors) (now hintmoves) (now heldprocessors) (now heldnumbers) (now notes) (now board)) ⌝ }
     ensures { λ r. ⌜ (let l = lent (now (hintprocessors .entry)) (now (hintmoves .entry)) (now (heldprocessors .entry)) (now (heldnumbers .entry)) (now (notes .entry)) (now (board .entry)) in
-        r ≡ actOf (judgedRun (factsIn (n .tasks) (now (opcodes .entry)) (now (operands .entry)) (now (numbers .entry)) (now (users .entry))) (n .processors) (tasksOf l) (storeOf l) (n .used) t)) ⌝ }
+        r ≡ actOf (judgedRun (factsIn (n .tasks) (now (codes .entry)) (now (numbers .entry)) (now (users .entry))) (n .processors) (tasksOf l) (storeOf l) (n .used) t)) ⌝ }
 {
-    let found = next_of(opcodes, operands, board, n.tasks, t);
+    let found = next_of(codes, board, n.tasks, t);
     match found {
         Next::Refused(q) => refused(q),
         Next::Runs(x, i) => {
@@ -131,7 +130,7 @@ pub fn run_decided<'a>(
                 SEND => {
                     let c = ChannelId(i.operand as u8);
                     send_decided(
-                        operands,
+                        codes,
                         numbers,
                         users,
                         hintprocessors,
@@ -146,7 +145,7 @@ pub fn run_decided<'a>(
                 }
                 RECEIVE => {
                     let c = ChannelId(i.operand as u8);
-                    receive_decided(operands, numbers, users, notes, board, n, t, c)
+                    receive_decided(codes, numbers, users, notes, board, n, t, c)
                 }
                 _ => posted(Posting::Nothing),
             }

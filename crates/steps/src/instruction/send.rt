@@ -7,6 +7,7 @@ ghost use Rattle.board.specs.Lent.{lent, Whole, tasksOn, tasksOf, storeOf};
 ghost use Rattle.board.specs.Acted.{Acted, actOf};
 ghost use Rattle.steps.specs.instruction.Sends.{Sendable, CanSend, sendOutcome, sendVerdict};
 use crate::instruction::fitted;
+use board::Board;
 use board::act::Act;
 use board::act::Size;
 use board::act::accepted;
@@ -30,20 +31,20 @@ use rules::task::TaskState;
 
 // What a send of task t on channel c leaves, with nothing noted: the note is not seen, and stays.
 pub fn send_outcome<'a>(
-    operands: &'a [u16; 4096],
+    codes: &'a [u32; 4096],
     numbers: &'a [u8; 4096],
     users: &'a [u8; 1024],
     hintprocessors: &'a [u8; 768],
     hintmoves: &'a [u16; 768],
     heldprocessors: &'a [u8; 768],
     heldnumbers: &'a [u8; 768],
-    board: &'a [u64; 256],
+    board: &'a Board,
     t: TaskId,
     c: ChannelId,
 ) -> Outcome
     requires { ⌜ Sendable (receiversOf (now users)) (tasksOn (now board)) t c ⌝ }
     ensures { λ r. ⌜ (let l = lent (now (hintprocessors .entry)) (now (hintmoves .entry)) (now (heldprocessors .entry)) (now (heldnumbers .entry)) [] (now (board .entry)) in
-        r ≡ sendOutcome (now (operands .entry)) (now (numbers .entry)) (receiversOf (now (users .entry))) (tasksOf l) (storeOf l) t c) ⌝ }
+        r ≡ sendOutcome (now (codes .entry)) (now (numbers .entry)) (receiversOf (now (users .entry))) (tasksOf l) (storeOf l) t c) ⌝ }
 {
     let a = task_at(board, t);
     let d = a.processor;
@@ -52,7 +53,7 @@ pub fn send_outcome<'a>(
     let hint = hint_at(hintprocessors, hintmoves, d, c);
     let held = held_at(heldprocessors, heldnumbers, d, c);
     let channel = channel_at(board, c);
-    let receiving = board::cell::is_on(operands, TaskState::Receiving, u, c, b);
+    let receiving = board::cell::is_on(codes, TaskState::Receiving, u, c, b);
     let cell = board::cell::cell_of(hint, held, ProcessorId(0), channel);
     let site = Site {
         sender: a,
@@ -68,14 +69,14 @@ pub fn send_outcome<'a>(
 
 // A send of task t on channel c. Whatever the notes are, they stay.
 pub fn send<'a>(
-    operands: &'a [u16; 4096],
+    codes: &'a [u32; 4096],
     numbers: &'a [u8; 4096],
     users: &'a [u8; 1024],
     hintprocessors: &'a [u8; 768],
     hintmoves: &'a [u16; 768],
     heldprocessors: &'a mut [u8; 768],
     heldnumbers: &'a mut [u8; 768],
-    board: &'a mut [u64; 256],
+    board: &'a mut Board,
     n: Size,
     t: TaskId,
     c: ChannelId,
@@ -84,12 +85,12 @@ pub fn send<'a>(
     ensures { λ r. ⌜ ((senders notes : List ℕ)
         → let l = lent (now (hintprocessors .entry)) (now (hintmoves .entry)) (now (heldprocessors .entry)) (now (heldnumbers .entry)) notes (now (board .entry)) in
         Acted senders (receiversOf (now (users .entry)))
-        (sendVerdict (now (operands .entry)) (now (numbers .entry)) (receiversOf (now (users .entry))) (n .processors) (n .used) (tasksOf l) (storeOf l) t c)
+        (sendVerdict (now (codes .entry)) (now (numbers .entry)) (receiversOf (now (users .entry))) (n .processors) (n .used) (tasksOf l) (storeOf l) t c)
         l r
         (lent (now (hintprocessors .entry)) (now (hintmoves .entry)) (now (heldprocessors .exit)) (now (heldnumbers .exit)) notes (now (board .exit)))) ⌝ }
 {
     let o = send_outcome(
-        operands,
+        codes,
         numbers,
         users,
         hintprocessors,
@@ -121,14 +122,14 @@ pub fn send<'a>(
 
 // What a send of task t on channel c would say and post.
 pub fn send_decided<'a>(
-    operands: &'a [u16; 4096],
+    codes: &'a [u32; 4096],
     numbers: &'a [u8; 4096],
     users: &'a [u8; 1024],
     hintprocessors: &'a [u8; 768],
     hintmoves: &'a [u16; 768],
     heldprocessors: &'a [u8; 768],
     heldnumbers: &'a [u8; 768],
-    board: &'a [u64; 256],
+    board: &'a Board,
     n: Size,
     t: TaskId,
     c: ChannelId,
@@ -136,10 +137,10 @@ pub fn send_decided<'a>(
     requires { ⌜ CanSend (receiversOf (now users)) (n .used) (tasksOn (now board)) t c ⌝ }
     ensures { λ r. ⌜ ((notes : List ℕ)
         → let l = lent (now (hintprocessors .entry)) (now (hintmoves .entry)) (now (heldprocessors .entry)) (now (heldnumbers .entry)) notes (now (board .entry)) in
-        r ≡ actOf (sendVerdict (now (operands .entry)) (now (numbers .entry)) (receiversOf (now (users .entry))) (n .processors) (n .used) (tasksOf l) (storeOf l) t c)) ⌝ }
+        r ≡ actOf (sendVerdict (now (codes .entry)) (now (numbers .entry)) (receiversOf (now (users .entry))) (n .processors) (n .used) (tasksOf l) (storeOf l) t c)) ⌝ }
 {
     let o = send_outcome(
-        operands,
+        codes,
         numbers,
         users,
         hintprocessors,

@@ -4,6 +4,7 @@ ghost use Prim.Native.Nat.{ℕ};
 ghost use Rattle.board.specs.Lent.{lent};
 ghost use Rattle.board.specs.Rigs.{Opened};
 ghost use Rattle.steps.specs.message.TaskMessages.{EndedOpens};
+use board::Board;
 use board::act::Act;
 use board::act::posted;
 use board::put_task;
@@ -12,10 +13,10 @@ use rules::message::Message;
 use rules::rule::Posting;
 
 // The parent of the child that ended loses it, if it is at the letter's desk with that child living.
-pub fn ended<'a>(users: &'a [u8; 1024], board: &'a mut [u64; 256], m: Message) -> Act
+pub fn ended<'a>(users: &'a [u8; 1024], board: &'a mut Board, m: Message) -> Act
     requires { ⌜ EndedOpens (now users) (now board) m ⌝ }
-    ensures { λ r. ⌜ ((operands hintprocessors hintmoves heldprocessors heldnumbers notes : List ℕ)
-        → Opened operands (now (users .entry)) m
+    ensures { λ r. ⌜ ((codes hintprocessors hintmoves heldprocessors heldnumbers notes : List ℕ)
+        → Opened codes (now (users .entry)) m
         (lent hintprocessors hintmoves heldprocessors heldnumbers notes (now (board .entry)))
         r
         (lent hintprocessors hintmoves heldprocessors heldnumbers notes (now (board .exit)))) ⌝ }

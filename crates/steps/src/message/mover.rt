@@ -4,6 +4,7 @@ ghost use Prim.Native.Nat.{ℕ};
 ghost use Rattle.board.specs.Lent.{lent};
 ghost use Rattle.board.specs.Rigs.{Opened};
 ghost use Rattle.steps.specs.message.TaskMessages.{MoverOpens};
+use board::Board;
 use board::act::Act;
 use board::act::posted;
 use board::put_task;
@@ -21,12 +22,12 @@ pub fn mover<'a>(
     hintmoves: &'a mut [u16; 768],
     heldprocessors: &'a mut [u8; 768],
     heldnumbers: &'a mut [u8; 768],
-    board: &'a mut [u64; 256],
+    board: &'a mut Board,
     m: Message,
 ) -> Act
     requires { ⌜ MoverOpens (now users) (now hintprocessors) (now hintmoves) (now heldprocessors) (now heldnumbers) (now board) m ⌝ }
-    ensures { λ r. ⌜ ((operands notes : List ℕ)
-        → Opened operands (now (users .entry)) m
+    ensures { λ r. ⌜ ((codes notes : List ℕ)
+        → Opened codes (now (users .entry)) m
         (lent (now (hintprocessors .entry)) (now (hintmoves .entry)) (now (heldprocessors .entry)) (now (heldnumbers .entry)) notes (now (board .entry)))
         r
         (lent (now (hintprocessors .exit)) (now (hintmoves .exit)) (now (heldprocessors .exit)) (now (heldnumbers .exit)) notes (now (board .exit)))) ⌝ }

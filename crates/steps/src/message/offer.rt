@@ -7,6 +7,7 @@ ghost use Rattle.board.specs.Rigs.{Opened, Opening};
 ghost use Rattle.steps.specs.message.ChannelMessages.{OfferOpens};
 ghost use Rattle.steps.specs.message.Seen.{offerSees, Found};
 use crate::message::site;
+use board::Board;
 use board::act::Act;
 use board::act::accepted;
 use board::act::posted;
@@ -17,17 +18,17 @@ use rules::rule::Posting;
 
 // What an offer leaves; nothing is stored.
 fn offer_outcome<'a>(
-    operands: &'a [u16; 4096],
+    codes: &'a [u32; 4096],
     users: &'a [u8; 1024],
     hintprocessors: &'a [u8; 768],
     hintmoves: &'a [u16; 768],
     heldprocessors: &'a [u8; 768],
     heldnumbers: &'a [u8; 768],
-    board: &'a [u64; 256],
+    board: &'a Board,
     m: Message,
 ) -> Outcome
-    requires { ⌜ OfferOpens (now operands) (now users) (now hintprocessors) (now hintmoves) (now heldprocessors) (now heldnumbers) (now board) m ⌝ }
-    ensures { λ r. ⌜ ((notes : List ℕ) → Found onOffer offerSees (now (operands .entry)) (now (users .entry)) m
+    requires { ⌜ OfferOpens (now codes) (now users) (now hintprocessors) (now hintmoves) (now heldprocessors) (now heldnumbers) (now board) m ⌝ }
+    ensures { λ r. ⌜ ((notes : List ℕ) → Found onOffer offerSees (now (codes .entry)) (now (users .entry)) m
         (lent (now (hintprocessors .entry)) (now (hintmoves .entry)) (now (heldprocessors .entry)) (now (heldnumbers .entry)) notes (now (board .entry))) r) ⌝ }
 {
     let Message::Offered(c, _, h) = m else {
@@ -38,23 +39,23 @@ fn offer_outcome<'a>(
     let held = board::held_at(heldprocessors, heldnumbers, d, c);
     let channel = board::channel_at(board, c);
     let cell = board::cell::cell_of(hint, held, ProcessorId(0), channel);
-    let x = site::at_receiver(operands, users, board, c, cell);
+    let x = site::at_receiver(codes, users, board, c, cell);
     channel_rules::offers::offer(x, m)
 }
 
 // An offer is opened: the held offer and the channel are stored. Whatever the notes are, they stay.
 pub fn offer<'a>(
-    operands: &'a [u16; 4096],
+    codes: &'a [u32; 4096],
     users: &'a [u8; 1024],
     hintprocessors: &'a [u8; 768],
     hintmoves: &'a [u16; 768],
     heldprocessors: &'a mut [u8; 768],
     heldnumbers: &'a mut [u8; 768],
-    board: &'a mut [u64; 256],
+    board: &'a mut Board,
     m: Message,
 ) -> Act
-    requires { ⌜ OfferOpens (now operands) (now users) (now hintprocessors) (now hintmoves) (now heldprocessors) (now heldnumbers) (now board) m ⌝ }
-    ensures { λ r. ⌜ ((notes : List ℕ) → Opened (now (operands .entry)) (now (users .entry)) m
+    requires { ⌜ OfferOpens (now codes) (now users) (now hintprocessors) (now hintmoves) (now heldprocessors) (now heldnumbers) (now board) m ⌝ }
+    ensures { λ r. ⌜ ((notes : List ℕ) → Opened (now (codes .entry)) (now (users .entry)) m
         (lent (now (hintprocessors .entry)) (now (hintmoves .entry)) (now (heldprocessors .entry)) (now (heldnumbers .entry)) notes (now (board .entry))) r
         (lent (now (hintprocessors .entry)) (now (hintmoves .entry)) (now (heldprocessors .exit)) (now (heldnumbers .exit)) notes (now (board .exit)))) ⌝ }
 {
@@ -62,7 +63,7 @@ pub fn offer<'a>(
         return posted(Posting::Nothing);
     };
     let o = offer_outcome(
-        operands,
+        codes,
         users,
         hintprocessors,
         hintmoves,
@@ -80,21 +81,21 @@ pub fn offer<'a>(
 
 // What opening an offer would do.
 pub fn offer_decided<'a>(
-    operands: &'a [u16; 4096],
+    codes: &'a [u32; 4096],
     users: &'a [u8; 1024],
     hintprocessors: &'a [u8; 768],
     hintmoves: &'a [u16; 768],
     heldprocessors: &'a [u8; 768],
     heldnumbers: &'a [u8; 768],
-    board: &'a [u64; 256],
+    board: &'a Board,
     m: Message,
 ) -> Act
-    requires { ⌜ OfferOpens (now operands) (now users) (now hintprocessors) (now hintmoves) (now heldprocessors) (now heldnumbers) (now board) m ⌝ }
-    ensures { λ r. ⌜ ((notes : List ℕ) → Opening (now (operands .entry)) (now (users .entry)) m
+    requires { ⌜ OfferOpens (now codes) (now users) (now hintprocessors) (now hintmoves) (now heldprocessors) (now heldnumbers) (now board) m ⌝ }
+    ensures { λ r. ⌜ ((notes : List ℕ) → Opening (now (codes .entry)) (now (users .entry)) m
         (lent (now (hintprocessors .entry)) (now (hintmoves .entry)) (now (heldprocessors .entry)) (now (heldnumbers .entry)) notes (now (board .entry))) r) ⌝ }
 {
     let o = offer_outcome(
-        operands,
+        codes,
         users,
         hintprocessors,
         hintmoves,

@@ -10,6 +10,7 @@ ghost use Rattle.rig_parts.specs.Scopes.{namedIn};
 ghost use Rattle.plan_index.specs.user_table.Users.{receiversOf};
 ghost use Rattle.board.specs.Lent.{tasksOn};
 ghost use Rattle.steps.specs.message.Seen.{atReceiver};
+use board::Board;
 use plan::ChannelId;
 use plan::ProcessorId;
 use rules::channel::Cell;
@@ -37,20 +38,20 @@ pub fn no_cell() -> Cell
 
 // Channel c's site with this cell, as its receiver has it.
 pub fn at_receiver<'a>(
-    operands: &'a [u16; 4096],
+    codes: &'a [u32; 4096],
     users: &'a [u8; 1024],
-    board: &'a [u64; 256],
+    board: &'a Board,
     c: ChannelId,
     cell: Cell,
 ) -> Site
     requires { ⌜ (c .0 ≤ 128)
         × (namedIn (receiversOf (now users)) (c .0) .0 ≤ 64)
         × (taskIn (tasksOn (now board)) (namedIn (receiversOf (now users)) (c .0)) .pc ≤ 65) ⌝ }
-    ensures { λ r. ⌜ r ≡ atReceiver (now (operands .entry)) (now (users .entry)) (now (board .entry)) c cell ⌝ }
+    ensures { λ r. ⌜ r ≡ atReceiver (now (codes .entry)) (now (users .entry)) (now (board .entry)) c cell ⌝ }
 {
     let u = plan_index::user_table::users::receiver(users, c);
     let b = board::task_at(board, u);
-    let receiving = board::cell::is_on(operands, TaskState::Receiving, u, c, b);
+    let receiving = board::cell::is_on(codes, TaskState::Receiving, u, c, b);
     let nobody = board::fetch::no_task();
     Site {
         sender: nobody,

@@ -7,6 +7,7 @@ ghost use Rattle.board.specs.Rigs.{Opened, Opening};
 ghost use Rattle.steps.specs.message.ChannelMessages.{WordOpens};
 ghost use Rattle.steps.specs.message.Seen.{wordSees, Found};
 use crate::message::site;
+use board::Board;
 use board::act::Act;
 use board::act::accepted;
 use board::act::posted;
@@ -17,13 +18,13 @@ use rules::rule::Posting;
 
 // What a word letter leaves; nothing is stored.
 fn word_outcome<'a>(
-    operands: &'a [u16; 4096],
+    codes: &'a [u32; 4096],
     users: &'a [u8; 1024],
-    board: &'a [u64; 256],
+    board: &'a Board,
     m: Message,
 ) -> Outcome
-    requires { ⌜ WordOpens (now operands) (now users) (now board) m ⌝ }
-    ensures { λ r. ⌜ ((hintprocessors hintmoves heldprocessors heldnumbers notes : List ℕ) → Found onData wordSees (now (operands .entry)) (now (users .entry)) m
+    requires { ⌜ WordOpens (now codes) (now users) (now board) m ⌝ }
+    ensures { λ r. ⌜ ((hintprocessors hintmoves heldprocessors heldnumbers notes : List ℕ) → Found onData wordSees (now (codes .entry)) (now (users .entry)) m
         (lent hintprocessors hintmoves heldprocessors heldnumbers notes (now (board .entry))) r) ⌝ }
 {
     let Message::Data(c, _, _) = m else {
@@ -33,26 +34,26 @@ fn word_outcome<'a>(
     let unknown = cell_rules::order::unknown();
     let none = cell_rules::order::no_offer();
     let cell = board::cell::cell_of(unknown, none, ProcessorId(0), channel);
-    let x = site::at_receiver(operands, users, board, c, cell);
+    let x = site::at_receiver(codes, users, board, c, cell);
     channel_rules::messages::data(x, m)
 }
 
 // A word letter is opened: the receiver and the channel are stored. Whatever the tables are, they stay.
 pub fn word<'a>(
-    operands: &'a [u16; 4096],
+    codes: &'a [u32; 4096],
     users: &'a [u8; 1024],
-    board: &'a mut [u64; 256],
+    board: &'a mut Board,
     m: Message,
 ) -> Act
-    requires { ⌜ WordOpens (now operands) (now users) (now board) m ⌝ }
-    ensures { λ r. ⌜ ((hintprocessors hintmoves heldprocessors heldnumbers notes : List ℕ) → Opened (now (operands .entry)) (now (users .entry)) m
+    requires { ⌜ WordOpens (now codes) (now users) (now board) m ⌝ }
+    ensures { λ r. ⌜ ((hintprocessors hintmoves heldprocessors heldnumbers notes : List ℕ) → Opened (now (codes .entry)) (now (users .entry)) m
         (lent hintprocessors hintmoves heldprocessors heldnumbers notes (now (board .entry))) r
         (lent hintprocessors hintmoves heldprocessors heldnumbers notes (now (board .exit)))) ⌝ }
 {
     let Message::Data(c, _, _) = m else {
         return posted(Posting::Nothing);
     };
-    let o = word_outcome(operands, users, board, m);
+    let o = word_outcome(codes, users, board, m);
     let u = plan_index::user_table::users::receiver(users, c);
     let receiver = o.receiver;
     let left = o.cell;
@@ -63,15 +64,15 @@ pub fn word<'a>(
 
 // What opening a word letter would do.
 pub fn word_decided<'a>(
-    operands: &'a [u16; 4096],
+    codes: &'a [u32; 4096],
     users: &'a [u8; 1024],
-    board: &'a [u64; 256],
+    board: &'a Board,
     m: Message,
 ) -> Act
-    requires { ⌜ WordOpens (now operands) (now users) (now board) m ⌝ }
-    ensures { λ r. ⌜ ((hintprocessors hintmoves heldprocessors heldnumbers notes : List ℕ) → Opening (now (operands .entry)) (now (users .entry)) m
+    requires { ⌜ WordOpens (now codes) (now users) (now board) m ⌝ }
+    ensures { λ r. ⌜ ((hintprocessors hintmoves heldprocessors heldnumbers notes : List ℕ) → Opening (now (codes .entry)) (now (users .entry)) m
         (lent hintprocessors hintmoves heldprocessors heldnumbers notes (now (board .entry))) r) ⌝ }
 {
-    let o = word_outcome(operands, users, board, m);
+    let o = word_outcome(codes, users, board, m);
     accepted(o)
 }

@@ -55,7 +55,7 @@ ended-requires c κs =
     let told = c .before in
     let s = told .before .before in
     let x = told .enum-told6 .given in
-    (record { processor = x .0 .0; child = x .0 .1 .0; is = x .1 }, record { list = s .args .operands .now; holds = by-board (s .pre) })
+    (record { processor = x .0 .0; child = x .0 .1 .0; is = x .1 }, record { list = s .args .codes .now; holds = by-board (s .pre) })
 
 enum-told-7 : tie.Need-enum-told-7
 enum-told-7 c = search needs
@@ -65,13 +65,13 @@ mover-requires c κs =
     let told = c .before .before .before .before .before in
     let s = told .before .before in
     let x = told .enum-told7 .given in
-    (record { processor = x .0 .0; task = x .0 .1 .0; is = x .1 }, record { list = s .args .operands .now; holds = but-notes (s .pre) })
+    (record { processor = x .0 .0; task = x .0 .1 .0; is = x .1 }, record { list = s .args .codes .now; holds = but-notes (s .pre) })
 
 returns : tie.Need-returns
 returns c =
     let s = c .before .before .before in
     let a = s .args in
-    none-opened (a .operands .now) (a .users .now) (a .hintprocessors .now) (a .hintmoves .now) (a .heldprocessors .now) (a .heldnumbers .now) (a .notes .now) (a .board .now)
+    none-opened (a .codes .now) (a .users .now) (a .hintprocessors .now) (a .hintmoves .now) (a .heldprocessors .now) (a .heldnumbers .now) (a .notes .now) (a .board .now)
     (c .posted .ensures) (c .before .enum-told .given .1) (s .pre .rig .whole)
 
 returns-2 : tie.Need-returns-2
@@ -95,12 +95,12 @@ returns-5 c =
 returns-6 : tie.Need-returns-6
 returns-6 c =
     let a = c .before .before .before .before .args in
-    c .ended .ensures (a .operands .now) (a .hintprocessors .now) (a .hintmoves .now) (a .heldprocessors .now) (a .heldnumbers .now) (a .notes .now)
+    c .ended .ensures (a .codes .now) (a .hintprocessors .now) (a .hintmoves .now) (a .heldprocessors .now) (a .heldnumbers .now) (a .notes .now)
 
 returns-7 : tie.Need-returns-7
 returns-7 c =
     let a = c .before .before .before .before .before .before .before .before .args in
-    c .mover .ensures (a .operands .now) (a .notes .now)
+    c .mover .ensures (a .codes .now) (a .notes .now)
 
 pub deliver-spec : {M : Type 1} → statement M
 deliver-spec =

@@ -62,7 +62,7 @@ returns-4 c =
 returns-5 : tie.Need-returns-5
 returns-5 c =
     let a = c .before .before .args in
-    unsaid (a .operands .now) (a .users .now)
+    unsaid (a .codes .now) (a .users .now)
     (lent (a .hintprocessors .now) (a .hintmoves .now) (a .heldprocessors .now) (a .heldnumbers .now) (a .notes .now) (a .board .now))
     (a .m) (c .before .match .keys5) (c .posted .ensures)
 

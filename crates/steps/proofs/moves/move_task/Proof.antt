@@ -73,8 +73,14 @@ returns c =
 task-at-requires : tie.Need-task-at-requires
 task-at-requires c κs = few (c .before)
 
+-- a number of desks has 8 bits
+narrow : (s : tie.Start) → s .args .n .processors < 256
+narrow s = search needs
+
 cast-t18 : tie.Need-cast-t18
-cast-t18 c = record { fits = lt-of-le-of-lt (within-high 1 _ _ (passed (c .before .before .before) .processor)) (search needs) }
+cast-t18 c =
+    let e = c .before .before .before in
+    record { fits = lt-of-le-of-lt (within-high 1 _ _ (passed e .processor)) (narrow (from (e .before))) }
 
 -- the task that was fetched
 module _ (c : tie.After-task-at) where

@@ -1,7 +1,8 @@
 -- `word_run`: nothing where a test fails, else the task's new record is stored.
 use mathlib.Core.Path.{_≡_, refl, sym, ap, _∙_, subst}
 use mathlib.Core.Bool.{true}
-use Prim.Native.Nat.{_≤_}
+use mathlib.Core.List.{List}
+use Prim.Native.Nat.{ℕ, _≤_}
 use native.Mathlib.Omega.{arith}
 use borrow.Author.Needs.{needs}
 use borrow.Author.Tests.{not-false, eq-eqb}
@@ -19,8 +20,8 @@ use Rattle.rig_parts.specs.Fetches.{instructionIn}
 use Rattle.rig_parts.proofs.BoundsParts.{count-few, used-few}
 use Rattle.rig_parts.proofs.BoundsReady.{nextAt, place-some, place-last}
 use Rattle.plan_index.specs.user_table.Users.{sendersOf, receiversOf}
-use Rattle.board.specs.Lent.{lent, tasksOn, storeOf}
-use Rattle.board.specs.Rigs.{factsIn}
+use Rattle.board.specs.Lent.{lent, tasksOn, storeOf, TaskPut}
+use Rattle.board.specs.Rigs.{factsIn, Worded}
 use Rattle.board.specs.Verdicts.{stepVerdict}
 use Rattle.steps.specs.Words.{wordChanged}
 use Rattle.steps.proofs.Acting.{tested}
@@ -46,7 +47,7 @@ from4 c = from3 (third c)
 
 -- the facts of some plan, the task, its next instruction
 abbrev given : tie.Start → Facts
-given s = let a = s .args in let h = s .pre .1 in factsIn (a .n .tasks) (a .opcodes .now) (a .operands .now) (h .numbers) (h .users)
+given s = let a = s .args in let h = s .pre .1 in factsIn (a .n .tasks) (a .codes .now) (h .numbers) (h .users)
 
 abbrev named : tie.Start → TaskId
 named s = taskId (s .args .s .task)
@@ -75,7 +76,7 @@ last c = rw (fetch c .task-at .ensures) (place-last (from4 c .pre .1 .rig .parts
 next-is : (c : tie.After-instruction-in) → c .instruction-in .result ≡ next (from4 (c .before))
 next-is c =
     let a = from4 (c .before) .args in
-    c .instruction-in .ensures ∙ ap (λ (z : Task). instructionIn (a .opcodes .now) (a .operands .now) (taskId (a .s .task)) (z .pc)) (fetch (c .before) .task-at .ensures)
+    c .instruction-in .ensures ∙ ap (λ (z : Task). instructionIn (a .codes .now) (taskId (a .s .task)) (z .pc)) (fetch (c .before) .task-at .ensures)
 
 returns : tie.Need-returns
 returns c = ((λ e. refl), (λ e. never e))
@@ -113,36 +114,44 @@ instruction-in-requires c κs =
 returns-5 : tie.Need-returns-5
 returns-5 c = ((λ e. refl), (λ e. never e))
 
-word-changed-requires : tie.Need-word-changed-requires
-word-changed-requires c κs = omega (arith, last (c .before .before .before))
-
-put-task-requires : tie.Need-put-task-requires
-put-task-requires c κs = let e = c .before .before .before .before .before in (few (third e), from4 e .pre .0)
-
-returns-6 : tie.Need-returns-6
-returns-6 c =
-    let w = c .before .before in
-    let o = w .before in
+-- the change of the task is all that is left
+changed : (o : tie.Else5)
+    → let i = o .before .before in
+    let s = from4 (i .before) in
+    (board' : List ℕ) → TaskPut (named s) (wordChanged (fetch (i .before) .task-at .result) (i .instruction-in .result)) (s .args .board .now) board'
+    → Worded (s .args .codes .now) (s .args .n) (s .args .s) (s .args .board .now) true board'
+changed o board' e =
     let i = o .before .before in
     let r = i .before in
     let s = from4 r in
     let a = s .args in
     let ts = tasksOn (a .board .now) in
-    let y : w .word-changed .result ≡ wordChanged (found s) (next s) =
-    w .word-changed .ensures ∙ ap (λ (z : Task). wordChanged z (i .instruction-in .result)) (fetch r .task-at .ensures) ∙ ap (λ (z : Instruction). wordChanged (found s) z) (next-is i) in
+    let y : wordChanged (fetch r .task-at .result) (i .instruction-in .result) ≡ wordChanged (found s) (next s) =
+    ap (λ (z : Task). wordChanged z (i .instruction-in .result)) (fetch r .task-at .ensures) ∙ ap (λ (z : Instruction). wordChanged (found s) z) (next-is i) in
     let high : 6 ≤ next s .opcode = subst (λ (z : Instruction). 6 ≤ z .opcode) (next-is i) (omega (arith, o .if5 .left)) in
-    let e = c .put-task .ensures in
     let z = second (third r) in
     let kind : a .s .kind ≡ 1 = omega (arith, z .before .before .if1 .left) in
     let none : a .s .number ≡ 0 = omega (arith, z .if2 .left) in (
       (λ q. never (sym q)),
       (λ q numbers users hp hm op on notes.
-          let f = factsIn (a .n .tasks) (a .opcodes .now) (a .operands .now) numbers users in
+          let f = factsIn (a .n .tasks) (a .codes .now) numbers users in
           let st = storeOf (lent hp hm op on notes (a .board .now)) in
-          word-acted (sendersOf users) (receiversOf users) hp hm op on notes (a .board .now) (c .put-task .last .0) (named s) (wordChanged (found s) (next s)) (stepVerdict f (a .n .processors) ts st (a .n .used) (a .s)) (a .operands .now) (found s .processor)
+          word-acted (sendersOf users) (receiversOf users) hp hm op on notes (a .board .now) board' (named s) (wordChanged (found s) (next s)) (stepVerdict f (a .n .processors) ts st (a .n .used) (a .s)) (a .codes .now) (found s .processor)
           (word-judged f (a .n .processors) ts st (a .n .used) (a .s) (eq-eqb (a .s .kind) 1 kind) none (counted (third r)) (ready r) high (used-few (s .pre .1 .rig .parts)))
           (e .0, e .1 ∙ ap (taskStored ts (named s)) y, e .2)),
     )
+
+change-requires : tie.Need-change-requires
+change-requires c κs = let e = c .before .before .before .before .before .before in (few (third e), omega (arith, last e), from4 e .pre .0)
+
+returns-6 : tie.Need-returns-6
+returns-6 c = changed (c .before .before .before .before) _ (c .change .ensures)
+
+change-requires-2 : tie.Need-change-requires-2
+change-requires-2 c κs = let e = c .before .before .before .before .before .before in (few (third e), omega (arith, last e), from4 e .pre .0)
+
+returns-7 : tie.Need-returns-7
+returns-7 c = changed (c .before .before .before .before) _ (c .change2 .ensures)
 
 pub word-run-spec : {M : Type 1} → statement M
 word-run-spec =
@@ -159,6 +168,7 @@ word-run-spec =
     returns-4
     instruction-in-requires
     returns-5
-    word-changed-requires
-    put-task-requires
-    returns-6)
+    change-requires
+    returns-6
+    change-requires-2
+    returns-7)

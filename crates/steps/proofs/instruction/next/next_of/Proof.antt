@@ -34,7 +34,7 @@ abbrev task : tie.Else1 → Task
 task c = taskIn (tasksOn (start c .args .board .now)) (start c .args .t)
 
 abbrev next : tie.Else1 → Instruction
-next c = let a = start c .args in instructionIn (a .opcodes .now) (a .operands .now) (a .t) (task c .pc)
+next c = let a = start c .args in instructionIn (a .codes .now) (a .t) (task c .pc)
 
 ready-is : (c : tie.After-is-in) → c .is-in .result ≡ isIn Ready (task (c .before .before))
 ready-is c = rw (c .before .task-at .ensures) at (c .is-in .ensures)
@@ -47,11 +47,11 @@ next-is c = rw (c .before .before .before .task-at .ensures) at (c .instruction-
 
 -- what is found where no test refuses
 runs : (c : tie.After-instruction-in) → isFinish (next (c .before .before .before .before)) && not (isChildless (task (c .before .before .before .before))) ≡ false → Runs (c .before .before .before .task-at .result) (c .instruction-in .result)
-    ≡ nextOf (c .before .before .before .before .before .before .before .before .args .opcodes .now) (c .before .before .before .before .before .before .before .before .args .operands .now) (c .before .before .before .before .before .before .before .before .args .count) (tasksOn (c .before .before .before .before .before .before .before .before .args .board .now)) (c .before .before .before .before .before .before .before .before .args .t)
+    ≡ nextOf (c .before .before .before .before .before .before .before .before .args .codes .now) (c .before .before .before .before .before .before .before .before .args .count) (tasksOn (c .before .before .before .before .before .before .before .before .args .board .now)) (c .before .before .before .before .before .before .before .before .args .t)
 runs c e =
     let a = c .before .before .before .before .before .before .before .before .args in
     rw (c .before .before .before .task-at .ensures, next-is c)
-    (can-run (a .opcodes .now) (a .operands .now) (a .count) (tasksOn (a .board .now)) (a .t) (counted (c .before .before .before .before)) (ready (c .before)) e)
+    (can-run (a .codes .now) (a .count) (tasksOn (a .board .now)) (a .t) (counted (c .before .before .before .before)) (ready (c .before)) e)
 
 -- whether it is a finish
 kind-is : (c : tie.After-instruction-in) → isFinish (next (c .before .before .before .before)) ≡ isFinish (c .instruction-in .result)
@@ -75,7 +75,7 @@ is-within-requires c κs = search needs
 returns : tie.Need-returns
 returns c =
     let a = c .before .before .before .before .args in
-    no-task (a .opcodes .now) (a .operands .now) (a .count) (tasksOn (a .board .now)) (a .t) (sym (within-is (c .before)) ∙ not-true (c .before .is-within .result) (c .if1 .taken))
+    no-task (a .codes .now) (a .count) (tasksOn (a .board .now)) (a .t) (sym (within-is (c .before)) ∙ not-true (c .before .is-within .result) (c .if1 .taken))
 
 task-at-requires : tie.Need-task-at-requires
 task-at-requires c κs = omega (arith, c .before .before .before .before .pre .few, within-high 1 (c .before .before .before .before .args .count) (c .before .before .before .before .args .t .0) (counted c))
@@ -86,7 +86,7 @@ is-in-requires c κs = search needs
 returns-2 : tie.Need-returns-2
 returns-2 c =
     let a = c .before .before .before .before .before .before .before .args in
-    not-ready (a .opcodes .now) (a .operands .now) (a .count) (tasksOn (a .board .now)) (a .t) (counted (c .before .before .before)) (sym (ready-is (c .before)) ∙ not-true (c .before .is-in .result) (c .if2 .taken))
+    not-ready (a .codes .now) (a .count) (tasksOn (a .board .now)) (a .t) (counted (c .before .before .before)) (sym (ready-is (c .before)) ∙ not-true (c .before .is-in .result) (c .if2 .taken))
 
 instruction-in-requires : tie.Need-instruction-in-requires
 instruction-in-requires c κs =
@@ -103,7 +103,7 @@ is-childless-requires c κs = search needs
 returns-3 : tie.Need-returns-3
 returns-3 c =
     let a = c .before .before .before .before .before .before .before .before .before .before .before .before .args in
-    with-children (a .opcodes .now) (a .operands .now) (a .count) (tasksOn (a .board .now)) (a .t) (counted (c .before .before .before .before .before .before .before .before)) (ready (c .before .before .before .before .before))
+    with-children (a .codes .now) (a .count) (tasksOn (a .board .now)) (a .t) (counted (c .before .before .before .before .before .before .before .before)) (ready (c .before .before .before .before .before))
     (rw (finish-is (c .before .before), sym (childless-is (c .before)), not-true (c .before .is-childless .result) (c .if4 .taken)) refl)
 
 returns-4 : tie.Need-returns-4

@@ -28,7 +28,7 @@ ruled c = fit c .before .before
 processor : (c : tie.After-receive-outcome) → let s = start c .args in c .receive-outcome .result .receiver .processor ≡ taskIn (tasksOn (s .board .now)) (s .t) .processor
 processor c =
     let s = start c .args in
-    receive-processor (s .operands .now) (s .numbers .now) (sendersOf (s .users .now)) (s .notes .now) (s .board .now) (s .t) (s .c) (start c .pre .1 .receivable .at .channel-low) (c .receive-outcome .ensures)
+    receive-processor (s .codes .now) (s .numbers .now) (sendersOf (s .users .now)) (s .notes .now) (s .board .now) (s .t) (s .c) (start c .pre .1 .receivable .at .channel-low) (c .receive-outcome .ensures)
 
 receive-outcome-requires : tie.Need-receive-outcome-requires
 receive-outcome-requires c κs = search needs
@@ -49,7 +49,7 @@ returns c =
     let k = receiveScope (sendersOf (s .users .now)) (tasksOn (s .board .now)) (s .t) (s .c) in
     λ receivers hp hm op on.
     none-fits (s .n .processors) (s .n .used) k (sendersOf (s .users .now)) receivers
-    (receive-kept (s .operands .now) (s .numbers .now) (sendersOf (s .users .now)) (s .notes .now) (s .board .now) (s .t) (s .c) (g .at .channel-low) hp hm op on (x .receive-outcome .ensures))
+    (receive-kept (s .codes .now) (s .numbers .now) (sendersOf (s .users .now)) (s .notes .now) (s .board .now) (s .t) (s .c) (g .at .channel-low) hp hm op on (x .receive-outcome .ensures))
     (fits .ensures) (not-true (fits .result) (c .before .if1 .taken)) (c .refused .ensures) (start x .pre .0)
 
 sender-requires : tie.Need-sender-requires
@@ -92,7 +92,7 @@ returns-2 c =
     let before = lent hp hm op on (s .notes .now) (s .board .now) in
     let after = lent hp hm op on (noted .put-note .last .0) (own .last .0) in
     all-stored (s .n .processors) (s .n .used) k (sendersOf (s .users .now)) receivers
-    (receive-kept (s .operands .now) (s .numbers .now) (sendersOf (s .users .now)) (s .notes .now) (s .board .now) (s .t) (s .c) (g .at .channel-low) hp hm op on (x .receive-outcome .ensures))
+    (receive-kept (s .codes .now) (s .numbers .now) (sendersOf (s .users .now)) (s .notes .now) (s .board .now) (s .t) (s .c) (g .at .channel-low) hp hm op on (x .receive-outcome .ensures))
     (fits .ensures) before after (g .at .channel-low) (not-false (fits .result) (fit u .if1 .left)) (own .ensures .0)
     (own .ensures .2 ∙ both-stored (tasksOn (s .board .now)) (x .receive-outcome .result) (u .sender2 .ensures) refl (one .1) (two .ensures .1))
     (note-stored hp hm op on (s .notes .now) (s .board .now) (two .last .0) (own .last .0)

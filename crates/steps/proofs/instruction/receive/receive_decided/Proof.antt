@@ -23,7 +23,7 @@ returns c =
     let k = receiveScope (sendersOf (s .users .now)) (tasksOn (s .board .now)) (s .t) (s .c) in
     λ hp hm op on.
     decided (s .n .processors) (s .n .used) k (x .receive-outcome .result)
-    (receive-kept (s .operands .now) (s .numbers .now) (sendersOf (s .users .now)) (s .notes .now) (s .board .now) (s .t) (s .c) some hp hm op on (x .receive-outcome .ensures))
+    (receive-kept (s .codes .now) (s .numbers .now) (sendersOf (s .users .now)) (s .notes .now) (s .board .now) (s .t) (s .c) some hp hm op on (x .receive-outcome .ensures))
     (c .fitted .ensures k Nothing)
 
 pub receive-decided-spec : {M : Type 1} → statement M

@@ -66,7 +66,7 @@ returns c =
     let a = on .before .before .before in
     let b = receiver a in
     let s = b .before .args in
-    receive-fetched (s .operands .now) (s .numbers .now) (sendersOf (s .users .now)) (s .notes .now) (s .board .now) (s .t) (s .c) (b .before .pre .at .channel-low)
+    receive-fetched (s .codes .now) (s .numbers .now) (sendersOf (s .users .now)) (s .notes .now) (s .board .now) (s .t) (s .c) (b .before .pre .at .channel-low)
     (b .task-at .ensures) (a .before .sender .ensures) (a .task-at2 .ensures) (on .before .before .note-at .ensures) (on .before .channel-at .ensures)
     (on .is-on .ensures) (x .before .before .unknown .ensures) (x .before .no-offer .ensures) (x .cell-of .ensures) (c .before .last-number .ensures)
     (c .receive-rule .ensures)

@@ -10,10 +10,10 @@ use Rattle.steps.proofs.instruction.refusal.run_refusal.Tie as tie
 
 -- the answer to what is found
 answered : (c : tie.After-next-of) (k : Next) → c .next-of .result ≡ k
-    → let a = c .before .args in answerTo k ≡ runRefusal (a .opcodes .now) (a .operands .now) (a .count) (tasksOn (a .board .now)) (a .t)
+    → let a = c .before .args in answerTo k ≡ runRefusal (a .codes .now) (a .count) (tasksOn (a .board .now)) (a .t)
 answered c k e =
     let a = c .before .args in
-    rw (sym e, c .next-of .ensures) (next-answer (a .opcodes .now) (a .operands .now) (a .count) (tasksOn (a .board .now)) (a .t))
+    rw (sym e, c .next-of .ensures) (next-answer (a .codes .now) (a .count) (tasksOn (a .board .now)) (a .t))
 
 next-of-requires : tie.Need-next-of-requires
 next-of-requires c κs = search needs

@@ -28,7 +28,7 @@ use Rattle.steps.proofs.instruction.run.run.Tie as tie
 
 -- what is derived of the plan, what is lent, and the verdict
 abbrev given : tie.Start → Facts
-given c = let a = c .args in factsIn (a .n .tasks) (a .opcodes .now) (a .operands .now) (a .numbers .now) (a .users .now)
+given c = let a = c .args in factsIn (a .n .tasks) (a .codes .now) (a .numbers .now) (a .users .now)
 
 abbrev here : tie.Start → Lent
 here c = let a = c .args in lent (a .hintprocessors .now) (a .hintmoves .now) (a .heldprocessors .now) (a .heldnumbers .now) (a .notes .now) (a .board .now)
@@ -45,7 +45,7 @@ done c {v} {r} {after} e d = subst (λ (z : Verdict). Done c z r after) (sym e) 
 
 -- what is found
 found-is : (c : tie.After-next-of) (k : Next) → c .next-of .result ≡ k
-    → let s = c .before .before in nextOf (given s .opcodes) (given s .operands) (given s .tasks) (tasksOf (here s)) (s .args .t) ≡ k
+    → let s = c .before .before in nextOf (given s .codes) (given s .tasks) (tasksOf (here s)) (s .args .t) ≡ k
 found-is c k e = sym (c .next-of .ensures) ∙ e
 
 -- the ready task, and its next instruction
@@ -88,8 +88,8 @@ refused-requires c κs = search needs
 enum-known-found-2 : tie.Need-enum-known-found-2
 enum-known-found-2 c = search needs
 
-cast-t27 : tie.Need-cast-t27
-cast-t27 c = omega (arith, argument-few (going (c .before .before)) opCreate (c .before .match2 .keys1) refl)
+cast-t26 : tie.Need-cast-t26
+cast-t26 c = omega (arith, argument-few (going (c .before .before)) opCreate (c .before .match2 .keys1) refl)
 
 create-requires : tie.Need-create-requires
 create-requires c κs = let b = c .before .before .before .before .before in (start b .pre .whole, start b .pre .indexed, create-can (going b) (c .before .before .before .before .match2 .keys1))
@@ -103,14 +103,14 @@ alone-requires c κs = let b = c .before .before .before in (task-few (going b),
 finish-requires : tie.Need-finish-requires
 finish-requires c κs = let b = c .before .before in (start b .pre .whole, used-few (start b .pre .parts), finish-can (going b))
 
-cast-t33 : tie.Need-cast-t33
-cast-t33 c = omega (arith, argument-few (going (c .before .before)) opSend (c .before .match2 .keys4) refl)
+cast-t32 : tie.Need-cast-t32
+cast-t32 c = omega (arith, argument-few (going (c .before .before)) opSend (c .before .match2 .keys4) refl)
 
 send-requires : tie.Need-send-requires
 send-requires c κs = let b = c .before .before .before .before .before .before .before in (start b .pre .whole, sends-can (going b) (c .before .before .before .before .before .before .match2 .keys4))
 
-cast-t39 : tie.Need-cast-t39
-cast-t39 c = omega (arith, argument-few (going (c .before .before)) opReceive (c .before .match2 .keys5) refl)
+cast-t38 : tie.Need-cast-t38
+cast-t38 c = omega (arith, argument-few (going (c .before .before)) opReceive (c .before .match2 .keys5) refl)
 
 receive-requires : tie.Need-receive-requires
 receive-requires c κs = let b = c .before .before .before .before in (start b .pre .whole, receives-can (going b) (c .before .before .before .match2 .keys5))
@@ -185,14 +185,14 @@ run-spec =
     enum-known-found
     refused-requires
     enum-known-found-2
-    cast-t27
+    cast-t26
     create-requires
     sync-rule-requires
     alone-requires
     finish-requires
-    cast-t33
+    cast-t32
     send-requires
-    cast-t39
+    cast-t38
     receive-requires
     set-rule-requires
     alone-requires-2

@@ -21,14 +21,14 @@ use Rattle.steps.proofs.instruction.run.run_decided.Tie as tie
 
 -- what is derived of the plan, and what is lent
 abbrev given : tie.Start → Facts
-given c = let a = c .args in factsIn (a .n .tasks) (a .opcodes .now) (a .operands .now) (a .numbers .now) (a .users .now)
+given c = let a = c .args in factsIn (a .n .tasks) (a .codes .now) (a .numbers .now) (a .users .now)
 
 abbrev here : tie.Start → Lent
 here c = let a = c .args in lent (a .hintprocessors .now) (a .hintmoves .now) (a .heldprocessors .now) (a .heldnumbers .now) (a .notes .now) (a .board .now)
 
 -- what is found
 found-is : (c : tie.After-next-of) (k : Next) → c .next-of .result ≡ k
-    → let s = c .before in nextOf (given s .opcodes) (given s .operands) (given s .tasks) (tasksOf (here s)) (s .args .t) ≡ k
+    → let s = c .before in nextOf (given s .codes) (given s .tasks) (tasksOf (here s)) (s .args .t) ≡ k
 found-is c k e = sym (c .next-of .ensures) ∙ e
 
 -- the ready task, and its next instruction
@@ -64,14 +64,14 @@ enum-known-found-2 c = search needs
 finish-decided-requires : tie.Need-finish-decided-requires
 finish-decided-requires c κs = let b = c .before in (used-few (start b .pre .parts), finish-can (going b))
 
-cast-t22 : tie.Need-cast-t22
-cast-t22 c = omega (arith, argument-few (going (c .before .before)) opSend (c .before .match2 .keys2) refl)
+cast-t21 : tie.Need-cast-t21
+cast-t21 c = omega (arith, argument-few (going (c .before .before)) opSend (c .before .match2 .keys2) refl)
 
 send-decided-requires : tie.Need-send-decided-requires
 send-decided-requires c κs = sends-can (going (c .before .before)) (c .before .match2 .keys2)
 
-cast-t23 : tie.Need-cast-t23
-cast-t23 c = omega (arith, argument-few (going (c .before .before)) opReceive (c .before .match2 .keys3) refl)
+cast-t22 : tie.Need-cast-t22
+cast-t22 c = omega (arith, argument-few (going (c .before .before)) opReceive (c .before .match2 .keys3) refl)
 
 receive-decided-requires : tie.Need-receive-decided-requires
 receive-decided-requires c κs = receives-can (going (c .before .before)) (c .before .match2 .keys3)
@@ -117,9 +117,9 @@ run-decided-spec =
     refused-requires
     enum-known-found-2
     finish-decided-requires
-    cast-t22
+    cast-t21
     send-decided-requires
-    cast-t23
+    cast-t22
     receive-decided-requires
     posted-requires
     returns

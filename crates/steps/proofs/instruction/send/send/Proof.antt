@@ -29,7 +29,7 @@ ruled c = fit c .before .before
 processor : (c : tie.After-send-outcome) → let s = start c .args in c .send-outcome .result .sender .processor ≡ taskIn (tasksOn (s .board .now)) (s .t) .processor
 processor c =
     let s = start c .args in
-    send-processor (s .operands .now) (s .numbers .now) (receiversOf (s .users .now)) (s .hintprocessors .now) (s .hintmoves .now) (s .heldprocessors .now) (s .heldnumbers .now) (s .board .now) (s .t) (s .c) (start c .pre .1 .sendable .at .channel-low) (c .send-outcome .ensures)
+    send-processor (s .codes .now) (s .numbers .now) (receiversOf (s .users .now)) (s .hintprocessors .now) (s .hintmoves .now) (s .heldprocessors .now) (s .heldnumbers .now) (s .board .now) (s .t) (s .c) (start c .pre .1 .sendable .at .channel-low) (c .send-outcome .ensures)
 
 send-outcome-requires : tie.Need-send-outcome-requires
 send-outcome-requires c κs = search needs
@@ -50,7 +50,7 @@ returns c =
     let k = sendScope (receiversOf (s .users .now)) (tasksOn (s .board .now)) (s .t) (s .c) in
     λ senders notes.
     none-fits (s .n .processors) (s .n .used) k senders (receiversOf (s .users .now))
-    (send-noted (s .operands .now) (s .numbers .now) (receiversOf (s .users .now)) (s .hintprocessors .now) (s .hintmoves .now) (s .heldprocessors .now) (s .heldnumbers .now) (s .board .now) (s .t) (s .c) (g .at .channel-low) notes (x .send-outcome .ensures))
+    (send-noted (s .codes .now) (s .numbers .now) (receiversOf (s .users .now)) (s .hintprocessors .now) (s .hintmoves .now) (s .heldprocessors .now) (s .heldnumbers .now) (s .board .now) (s .t) (s .c) (g .at .channel-low) notes (x .send-outcome .ensures))
     (fits .ensures) (not-true (fits .result) (c .before .if1 .taken)) (c .refused .ensures) (start x .pre .0)
 
 receiver-requires : tie.Need-receiver-requires
@@ -93,12 +93,12 @@ returns-2 c =
     let before = lent (s .hintprocessors .now) (s .hintmoves .now) (s .heldprocessors .now) (s .heldnumbers .now) notes (s .board .now) in
     let after = lent (s .hintprocessors .now) (s .hintmoves .now) (held .put-held .last .0) (held .put-held .last .1 .0) notes (own .last .0) in
     all-stored (s .n .processors) (s .n .used) k senders (receiversOf (s .users .now))
-    (send-noted (s .operands .now) (s .numbers .now) (receiversOf (s .users .now)) (s .hintprocessors .now) (s .hintmoves .now) (s .heldprocessors .now) (s .heldnumbers .now) (s .board .now) (s .t) (s .c) (g .at .channel-low) notes (x .send-outcome .ensures))
+    (send-noted (s .codes .now) (s .numbers .now) (receiversOf (s .users .now)) (s .hintprocessors .now) (s .hintmoves .now) (s .heldprocessors .now) (s .heldnumbers .now) (s .board .now) (s .t) (s .c) (g .at .channel-low) notes (x .send-outcome .ensures))
     (fits .ensures) before after (g .at .channel-low) (not-false (fits .result) (fit u .if1 .left)) (own .ensures .0)
     (own .ensures .2 ∙ both-stored (tasksOn (s .board .now)) (x .send-outcome .result) refl (u .receiver2 .ensures) (one .1) (two .ensures .1))
     (held-stored (s .hintprocessors .now) (s .hintmoves .now) (s .heldprocessors .now) (s .heldnumbers .now) notes (s .board .now) (two .last .0) (own .last .0)
     (k .processor) (s .c) (x .send-outcome .result .cell)
-    (send-hint (s .operands .now) (s .numbers .now) (receiversOf (s .users .now)) (s .hintprocessors .now) (s .hintmoves .now) (s .heldprocessors .now) (s .heldnumbers .now) (s .board .now) (s .t) (s .c) (g .at .channel-low) (x .send-outcome .ensures))
+    (send-hint (s .codes .now) (s .numbers .now) (receiversOf (s .users .now)) (s .hintprocessors .now) (s .hintmoves .now) (s .heldprocessors .now) (s .heldnumbers .now) (s .board .now) (s .t) (s .c) (g .at .channel-low) (x .send-outcome .ensures))
     offer (two .ensures .2 ∙ one .2) (own .ensures .1))
     (c .accepted .ensures)
 

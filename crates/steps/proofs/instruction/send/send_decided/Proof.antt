@@ -23,7 +23,7 @@ returns c =
     let k = sendScope (receiversOf (s .users .now)) (tasksOn (s .board .now)) (s .t) (s .c) in
     λ notes.
     decided (s .n .processors) (s .n .used) k (x .send-outcome .result)
-    (send-noted (s .operands .now) (s .numbers .now) (receiversOf (s .users .now)) (s .hintprocessors .now) (s .hintmoves .now) (s .heldprocessors .now) (s .heldnumbers .now) (s .board .now) (s .t) (s .c) some notes (x .send-outcome .ensures))
+    (send-noted (s .codes .now) (s .numbers .now) (receiversOf (s .users .now)) (s .hintprocessors .now) (s .hintmoves .now) (s .heldprocessors .now) (s .heldnumbers .now) (s .board .now) (s .t) (s .c) some notes (x .send-outcome .ensures))
     (c .fitted .ensures k Nothing)
 
 pub send-decided-spec : {M : Type 1} → statement M

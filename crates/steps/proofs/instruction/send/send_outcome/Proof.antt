@@ -83,7 +83,7 @@ returns c =
     let b = hint .before in
     let a = sender b in
     let s = a .before .args in
-    send-fetched (s .operands .now) (s .numbers .now) (receiversOf (s .users .now)) (s .hintprocessors .now) (s .hintmoves .now) (s .heldprocessors .now) (s .heldnumbers .now) (s .board .now) (s .t) (s .c) (a .before .pre .at .channel-low)
+    send-fetched (s .codes .now) (s .numbers .now) (receiversOf (s .users .now)) (s .hintprocessors .now) (s .hintmoves .now) (s .heldprocessors .now) (s .heldnumbers .now) (s .board .now) (s .t) (s .c) (a .before .pre .at .channel-low)
     (a .task-at .ensures) (b .before .receiver .ensures) (b .task-at2 .ensures) (hint .hint-at .ensures) (channel .before .held-at .ensures)
     (channel .channel-at .ensures) (x .before .is-on .ensures) (x .cell-of .ensures) (second .before .wide8 .ensures) (second .wide82 .ensures)
     (c .send-rule .ensures)

@@ -44,7 +44,7 @@ returns-2 c =
     let from = c .before .before .before .before .before .before .before .advert-outcome in
     let own = c .before .put-channel in
     λ hintprocessors hintmoves heldprocessors heldnumbers.
-    opened (advert-kind (x .0) (x .1 .0) (x .1 .1 .0)) (k .m .given .1) (s .operands .now) (s .users .now)
+    opened (advert-kind (x .0) (x .1 .0) (x .1 .1 .0)) (k .m .given .1) (s .codes .now) (s .users .now)
     (lent hintprocessors hintmoves heldprocessors heldnumbers (s .notes .now) (s .board .now)) (bounds k .cell .channel-low)
     (lent hintprocessors hintmoves heldprocessors heldnumbers (c .before .before .before .put-note .last .0) (own .last .0))
     (from .ensures hintprocessors hintmoves heldprocessors heldnumbers) (c .accepted .ensures)

@@ -17,7 +17,7 @@ returns c =
     let s = c .before .before .args in
     let m = c .before .before .pre .0 in
     λ hintprocessors hintmoves heldprocessors heldnumbers.
-    opening (advert-kind (m .channel) (m .processor) (m .from)) (m .is) (s .operands .now) (s .users .now)
+    opening (advert-kind (m .channel) (m .processor) (m .from)) (m .is) (s .codes .now) (s .users .now)
     (lent hintprocessors hintmoves heldprocessors heldnumbers (s .notes .now) (s .board .now))
     (c .before .advert-outcome .ensures hintprocessors hintmoves heldprocessors heldnumbers) (c .accepted .ensures)
 

@@ -50,7 +50,7 @@ returns-2 c =
     let task = c .before .before .before .before .put-task in
     let hint = c .before .put-hint in
     λ heldprocessors heldnumbers notes.
-    opened (call-kind (x .0) (x .1 .0) (x .1 .1 .0)) (k .m .given .1) (s .operands .now) (s .users .now)
+    opened (call-kind (x .0) (x .1 .0) (x .1 .1 .0)) (k .m .given .1) (s .codes .now) (s .users .now)
     (lent (s .hintprocessors .now) (s .hintmoves .now) heldprocessors heldnumbers notes (s .board .now)) (bounds k .cell .channel-low)
     (lent (hint .last .0) (hint .last .1 .0) heldprocessors heldnumbers notes (task .last .0))
     (from .ensures heldprocessors heldnumbers notes) (c .accepted .ensures)

@@ -17,7 +17,7 @@ returns c =
     let s = c .before .before .args in
     let m = c .before .before .pre .0 in
     λ heldprocessors heldnumbers notes.
-    opening (call-kind (m .channel) (m .processor) (m .pointer)) (m .is) (s .operands .now) (s .users .now)
+    opening (call-kind (m .channel) (m .processor) (m .pointer)) (m .is) (s .codes .now) (s .users .now)
     (lent (s .hintprocessors .now) (s .hintmoves .now) heldprocessors heldnumbers notes (s .board .now))
     (c .before .call-outcome .ensures heldprocessors heldnumbers notes) (c .accepted .ensures)
 

@@ -55,8 +55,8 @@ returns-2 c =
     let message = parent .before .before in
     let s = message .before .before .args in
     let x = message .m .given in
-    λ operands hintprocessors hintmoves heldprocessors heldnumbers notes.
-    ended-opened operands (s .users .now) hintprocessors hintmoves heldprocessors heldnumbers notes (s .board .now) (c .posted2 .ensures) (x .0 .0) (x .0 .1 .0) (put .put-task .last .0)
+    λ codes hintprocessors hintmoves heldprocessors heldnumbers notes.
+    ended-opened codes (s .users .now) hintprocessors hintmoves heldprocessors heldnumbers notes (s .board .now) (c .posted2 .ensures) (x .0 .0) (x .0 .1 .0) (put .put-task .last .0)
     (x .1) (parent .parent .ensures) (seen .task-at .ensures) (ended .terminated .ensures) (put .put-task .ensures)
 
 pub ended-spec : {M : Type 1} → statement M

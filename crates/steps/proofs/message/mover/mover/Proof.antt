@@ -40,8 +40,8 @@ returns-2 c =
     let start = message seen .before .before in
     let s = start .args in
     let x = message seen .m .given in
-    λ operands notes.
-    stayed-opened operands (s .users .now) (s .hintprocessors .now) (s .hintmoves .now) (s .heldprocessors .now) (s .heldnumbers .now) notes (s .board .now) (c .posted2 .ensures)
+    λ codes notes.
+    stayed-opened codes (s .users .now) (s .hintprocessors .now) (s .hintmoves .now) (s .heldprocessors .now) (s .heldnumbers .now) notes (s .board .now) (c .posted2 .ensures)
     (x .0 .0) (x .0 .1 .0) (x .1) (seen .task-at .ensures) (sym (told .is-in .ensures) ∙ not-true (told .is-in .result) (c .before .if1 .taken)) (start .pre .1 .holds .holds .rig .whole)
 
 migration-requires : tie.Need-migration-requires
@@ -70,8 +70,8 @@ returns-3 c =
     let seen = told .before in
     let s = message seen .before .before .args in
     let x = message seen .m .given in
-    λ operands notes.
-    moved-opened operands (s .users .now) (s .hintprocessors .now) (s .hintmoves .now) (s .heldprocessors .now) (s .heldnumbers .now) notes (s .board .now) (c .posted3 .ensures)
+    λ codes notes.
+    moved-opened codes (s .users .now) (s .hintprocessors .now) (s .hintmoves .now) (s .heldprocessors .now) (s .heldnumbers .now) notes (s .board .now) (c .posted3 .ensures)
     (x .0 .0) (x .0 .1 .0) (put .put-task .last .0) (x .1) (seen .task-at .ensures) (sym (told .is-in .ensures) ∙ not-false (told .is-in .result) (left .before .if1 .left)) (left .migration .ensures)
     (put .put-task .ensures) (c .before .arrive .ensures notes)
 

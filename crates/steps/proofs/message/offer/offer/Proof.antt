@@ -47,7 +47,7 @@ returns-2 c =
     let own = c .before .put-channel in
     let d = x .1 .1 .0 .processor in
     λ notes.
-    opened (offer-kind (x .0) (x .1 .0) (x .1 .1 .0)) (k .m .given .1) (s .operands .now) (s .users .now)
+    opened (offer-kind (x .0) (x .1 .0) (x .1 .1 .0)) (k .m .given .1) (s .codes .now) (s .users .now)
     (lent (s .hintprocessors .now) (s .hintmoves .now) (s .heldprocessors .now) (s .heldnumbers .now) notes (s .board .now)) (bounds k .cell .channel-low)
     (lent (s .hintprocessors .now) (s .hintmoves .now) (held .last .0) (held .last .1 .0) notes (own .last .0))
     (from .ensures notes) (c .accepted .ensures)

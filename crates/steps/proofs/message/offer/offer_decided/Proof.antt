@@ -17,7 +17,7 @@ returns c =
     let s = c .before .before .args in
     let m = c .before .before .pre .0 in
     λ notes.
-    opening (offer-kind (m .channel) (m .made) (m .along)) (m .is) (s .operands .now) (s .users .now)
+    opening (offer-kind (m .channel) (m .made) (m .along)) (m .is) (s .codes .now) (s .users .now)
     (lent (s .hintprocessors .now) (s .hintmoves .now) (s .heldprocessors .now) (s .heldnumbers .now) notes (s .board .now))
     (c .before .offer-outcome .ensures notes) (c .accepted .ensures)
 

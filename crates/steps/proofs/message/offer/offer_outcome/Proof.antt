@@ -46,7 +46,7 @@ returns-2 c =
     let k = c .before .before .before .before .before .before .before .before in
     let x = k .m .given .0 in
     λ notes.
-    found (offer-kind (x .0) (x .1 .0) (x .1 .1 .0)) (k .m .given .1) (s .operands .now) (s .users .now)
+    found (offer-kind (x .0) (x .1 .0) (x .1 .1 .0)) (k .m .given .1) (s .codes .now) (s .users .now)
     (lent (s .hintprocessors .now) (s .hintmoves .now) (s .heldprocessors .now) (s .heldnumbers .now) notes (s .board .now)) (bounds k .cell .channel-low)
     (rw (
       c .before .at-receiver .ensures,

@@ -52,7 +52,7 @@ returns-2 c =
     let task = c .before .before .before .put-task in
     let own = c .before .put-channel in
     λ hintprocessors hintmoves heldprocessors heldnumbers notes.
-    opened (word-kind (x .0) (x .1 .0) (x .1 .1 .0)) (k .m .given .1) (s .operands .now) (s .users .now)
+    opened (word-kind (x .0) (x .1 .0) (x .1 .1 .0)) (k .m .given .1) (s .codes .now) (s .users .now)
     (lent hintprocessors hintmoves heldprocessors heldnumbers notes (s .board .now)) (bounds k .cell .channel-low)
     (lent hintprocessors hintmoves heldprocessors heldnumbers notes (own .last .0))
     (from .ensures hintprocessors hintmoves heldprocessors heldnumbers notes) (c .accepted .ensures)

@@ -17,7 +17,7 @@ returns c =
     let s = c .before .before .args in
     let m = c .before .before .pre .0 in
     λ hintprocessors hintmoves heldprocessors heldnumbers notes.
-    opening (word-kind (m .channel) (m .processor) (m .word)) (m .is) (s .operands .now) (s .users .now)
+    opening (word-kind (m .channel) (m .processor) (m .word)) (m .is) (s .codes .now) (s .users .now)
     (lent hintprocessors hintmoves heldprocessors heldnumbers notes (s .board .now))
     (c .before .word-outcome .ensures hintprocessors hintmoves heldprocessors heldnumbers notes) (c .accepted .ensures)
 

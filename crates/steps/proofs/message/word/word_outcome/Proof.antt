@@ -46,7 +46,7 @@ returns-2 c =
     let k = c .before .before .before .before .before .before .before in
     let x = k .m .given .0 in
     λ hintprocessors hintmoves heldprocessors heldnumbers notes.
-    found (word-kind (x .0) (x .1 .0) (x .1 .1 .0)) (k .m .given .1) (s .operands .now) (s .users .now)
+    found (word-kind (x .0) (x .1 .0) (x .1 .1 .0)) (k .m .given .1) (s .codes .now) (s .users .now)
     (lent hintprocessors hintmoves heldprocessors heldnumbers notes (s .board .now)) (bounds k .cell .channel-low)
     (rw (
       c .before .at-receiver .ensures,
