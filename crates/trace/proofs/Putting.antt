@@ -9,11 +9,13 @@ use lib.ListN.{length, set, take, drop, length-append, length-drop}
 use lib.Seq.{set-split, length-take-le, take-at, drop-append-add, drop-drop}
 use Rattle.plan.specs.declared.ChannelId.{ChannelId}
 use Rattle.plan.specs.declared.Word.{Word as WordOf}
+use Rattle.plan.specs.Words.{wordNumbers}
 use Rattle.rules.specs.declared.rule.Received.the-variants.{Nothing, Word}
 use Rattle.rules.specs.declared.step.Report.{Report}
 use Rattle.rules.specs.Answers.{stepNumber}
 use Rattle.rules.specs.Trace.{decimal, fields, stepLine}
-use Rattle.trace.proofs.Decimals.{decimal-one, decimal-more, length-more}
+use Rattle.trace.proofs.Decimals.{decimal-one, decimal-more, length-more, five-digits}
+use Rattle.trace.specs.Lines.{levelFields}
 use Rattle.trace.specs.Output.{Emitted, Put, PutTo}
 use Rattle.trace.proofs.Emitting.{fits}
 
@@ -91,7 +93,7 @@ line-end {r = r} {p = p} x s n e h l =
 pub head-length : (k a : ℕ) → length (decimal k ++ (32 ∷ decimal a)) ≡ length (decimal k) + length (decimal a) + 1
 head-length k a = omega (arith, length-append (decimal k) (32 ∷ decimal a))
 
--- a line of two numbers, and of four
+-- a line of two numbers, and of two numbers, a channel and a word
 pub two-text : (k a : ℕ) → (decimal k ++ (32 ∷ decimal a)) ++ (10 ∷ []) ≡ decimal k ++ fields (a ∷ [])
 unfolding fields
 two-text k a = simp append-assoc
@@ -99,14 +101,26 @@ two-text k a = simp append-assoc
 pub two-length : (k a : ℕ) → length (decimal k ++ fields (a ∷ [])) ≡ length (decimal k) + length (decimal a) + 2
 two-length k a = rw (← two-text k a) (omega (arith, length-append (decimal k ++ (32 ∷ decimal a)) (10 ∷ []), head-length k a))
 
-module _ (k a c w : ℕ) where
-  pub four-text : (((decimal k ++ (32 ∷ decimal a)) ++ (32 ∷ decimal c)) ++ (32 ∷ decimal w)) ++ (10 ∷ []) ≡ decimal k ++ fields (a ∷ c ∷ w ∷ [])
-  unfolding fields
-  four-text = simp append-assoc
+pub levels-length : (w : WordOf) → length (levelFields w) ≡ length (decimal (w .0)) + length (decimal (w .1)) + length (decimal (w .2)) + length (decimal (w .3)) + 4
+unfolding levelFields
+levels-length w = simp length-append (omega arith)
 
-  pub four-length : length (decimal k ++ fields (a ∷ c ∷ w ∷ []))
-      ≡ length (decimal k) + length (decimal a) + length (decimal c) + length (decimal w) + 4
-  four-length = rw (← four-text) (simp length-append (omega arith))
+pub levels-short : (w : WordOf) → w .0 < 65536 → w .1 < 65536 → w .2 < 65536 → w .3 < 65536 → length (levelFields w) ≤ 24
+levels-short w p q r s =
+    let a = five-digits (w .0) (omega arith) in
+    let b = five-digits (w .1) (omega arith) in
+    let c = five-digits (w .2) (omega arith) in
+    let d = five-digits (w .3) (omega arith) in
+    omega (arith, levels-length w)
+
+module _ (k a c : ℕ) (w : WordOf) where
+  pub word-text : (((decimal k ++ (32 ∷ decimal a)) ++ (32 ∷ decimal c)) ++ levelFields w) ++ (10 ∷ []) ≡ decimal k ++ fields (a ∷ c ∷ wordNumbers w)
+  unfolding fields levelFields
+  word-text = simp append-assoc
+
+  pub word-length : length (decimal k ++ fields (a ∷ c ∷ wordNumbers w))
+      ≡ length (decimal k) + length (decimal a) + length (decimal c) + length (levelFields w) + 3
+  word-length = rw (← word-text) (simp length-append (omega arith))
 
 -- the line of a step that received nothing, and of one that received the word w on channel c
 module _ (k : ℕ) (q : Report) (a : ℕ) (e : a ≡ stepNumber (q .answer)) where
@@ -114,6 +128,6 @@ module _ (k : ℕ) (q : Report) (a : ℕ) (e : a ≡ stepNumber (q .answer)) whe
   unfolding stepLine
   step-none n = rw (n, e) refl
 
-  pub step-word : (c : ChannelId) (w : WordOf) → q .received ≡ Word c w → (x y : ℕ) → x ≡ c .0 → y ≡ w .0 → decimal k ++ fields (a ∷ x ∷ y ∷ []) ≡ stepLine k q
+  pub step-word : (c : ChannelId) (w : WordOf) → q .received ≡ Word c w → (x : ℕ) → x ≡ c .0 → decimal k ++ fields (a ∷ x ∷ wordNumbers w) ≡ stepLine k q
   unfolding stepLine
-  step-word c w n x y ex ey = rw (n, e, ex, ey) refl
+  step-word c w n x ex = rw (n, e, ex) refl

@@ -1,9 +1,14 @@
--- The words that lines begin with, and the text of the last line.
+-- The fields of a word, the words that lines begin with, and the text of the last line.
 use mathlib.Core.Bool.{Bool}
 use mathlib.Core.List.{List, [], _∷_, _++_}
 use Prim.Native.Nat.{ℕ}
 use Rattle.base.specs.Choice.{pick}
-use Rattle.rules.specs.Trace.{fields}
+use Rattle.plan.specs.declared.Word.{Word}
+use Rattle.rules.specs.Trace.{decimal, fields}
+
+-- a word's four levels, level 0 first, each behind a space
+unfoldable pub levelFields : Word → List ℕ
+levelFields w = (((32 ∷ decimal (w .0)) ++ (32 ∷ decimal (w .1))) ++ (32 ∷ decimal (w .2))) ++ (32 ∷ decimal (w .3))
 
 -- the word that the line of a marked task begins with
 abbrev pub overWord : List ℕ

@@ -4,12 +4,14 @@ ghost use mathlib.Core.List.{_∷_, [], _++_};
 ghost use Prim.Native.Nat.{_+_, _<_, _≤_};
 ghost use lib.ListN.{length};
 ghost use lib.Dec.{leb};
+ghost use Rattle.plan.specs.Words.{wordNumbers};
 ghost use Rattle.rules.specs.Trace.{decimal, fields, stepLine, overLine};
-ghost use Rattle.trace.specs.Lines.{overWord, endWord, endText};
+ghost use Rattle.trace.specs.Lines.{levelFields, overWord, endWord, endText};
 ghost use Rattle.trace.specs.Output.{Emitted, Put, PutTo};
 use super::answer_number;
 use super::digit;
 use super::flag;
+use plan::Word;
 use rules::rule::Received;
 use rules::step::Report;
 
@@ -111,6 +113,39 @@ fn put_field(out: &mut [u8], at: usize, n: usize) -> usize
     put_number(out, at + 1, n)
 }
 
+// A level, behind a space.
+fn put_level(out: &mut [u8], at: usize, n: u16) -> usize
+    requires { ⌜ at + length (32 ∷ decimal n) ≤ length (now out) ⌝ }
+    ensures { λ r. ⌜ PutTo (now (out .entry)) at (32 ∷ decimal n) r (now (out .exit)) ⌝ }
+{
+    put_field(out, at, base::wide16(n))
+}
+
+// How many digits it has.
+fn level_digits(n: u16) -> usize
+    ensures { λ r. ⌜ (r ≡ length (decimal n)) × (r ≤ 5) ⌝ }
+{
+    digits(base::wide16(n))
+}
+
+// The four levels of a word, level 0 first, each behind a space.
+fn put_levels(out: &mut [u8], at: usize, w: Word) -> usize
+    requires { ⌜ at + length (levelFields w) ≤ length (now out) ⌝ }
+    ensures { λ r. ⌜ PutTo (now (out .entry)) at (levelFields w) r (now (out .exit)) ⌝ }
+{
+    let first = put_level(out, at, w.0);
+    let second = put_level(out, first, w.1);
+    let third = put_level(out, second, w.2);
+    put_level(out, third, w.3)
+}
+
+// How long they are.
+fn levels_length(w: Word) -> usize
+    ensures { λ r. ⌜ (r ≡ length (levelFields w)) × (r ≤ 24) ⌝ }
+{
+    level_digits(w.0) + level_digits(w.1) + level_digits(w.2) + level_digits(w.3) + 4
+}
+
 // The numbers of a step and of its answer, at the front.
 fn put_head(rest: &mut [u8], k: usize, a: usize) -> usize
     requires { ⌜ (k < 100000) × (a < 100000) × (length (decimal k ++ (32 ∷ decimal a)) ≤ length (now rest)) ⌝ }
@@ -120,26 +155,26 @@ fn put_head(rest: &mut [u8], k: usize, a: usize) -> usize
     put_field(rest, end, a)
 }
 
-// Whether a line of two numbers fits into what is left: no line is longer than 24 bytes.
+// Whether a line of two numbers fits into what is left: no line is longer than 42 bytes.
 fn head_fits(left: usize, k: usize, a: usize) -> bool
     requires { ⌜ (k < 100000) × (a < 100000) ⌝ }
     ensures { λ r. ⌜ r ≡ leb (length (decimal k ++ fields (a ∷ []))) left ⌝ }
 {
-    if 24 <= left {
+    if 42 <= left {
         return true;
     }
     digits(k) + digits(a) + 2 <= left
 }
 
-// Whether a line of four numbers does.
-fn received_fits(left: usize, k: usize, a: usize, c: usize, w: usize) -> bool
-    requires { ⌜ (k < 100000) × (a < 100000) × (c < 100000) × (w < 100000) ⌝ }
-    ensures { λ r. ⌜ r ≡ leb (length (decimal k ++ fields (a ∷ c ∷ w ∷ []))) left ⌝ }
+// Whether a line of two numbers, a channel and a word does.
+fn received_fits(left: usize, k: usize, a: usize, c: usize, w: Word) -> bool
+    requires { ⌜ (k < 100000) × (a < 100000) × (c < 100000) ⌝ }
+    ensures { λ r. ⌜ r ≡ leb (length (decimal k ++ fields (a ∷ c ∷ wordNumbers w))) left ⌝ }
 {
-    if 24 <= left {
+    if 42 <= left {
         return true;
     }
-    digits(k) + digits(a) + digits(c) + digits(w) + 4 <= left
+    digits(k) + digits(a) + digits(c) + levels_length(w) + 3 <= left
 }
 
 // A line of two numbers at the front, if it fits.
@@ -156,16 +191,16 @@ fn write_head(rest: &mut [u8], k: usize, a: usize) -> usize
 }
 
 // A line of two numbers, a channel and a word at the front, if it fits.
-fn write_received(rest: &mut [u8], k: usize, a: usize, c: usize, w: usize) -> usize
-    requires { ⌜ (k < 100000) × (a < 100000) × (c < 100000) × (w < 100000) ⌝ }
-    ensures { λ r. ⌜ Emitted (now (rest .entry)) 0 (decimal k ++ fields (a ∷ c ∷ w ∷ [])) r (now (rest .exit)) ⌝ }
+fn write_received(rest: &mut [u8], k: usize, a: usize, c: usize, w: Word) -> usize
+    requires { ⌜ (k < 100000) × (a < 100000) × (c < 100000) ⌝ }
+    ensures { λ r. ⌜ Emitted (now (rest .entry)) 0 (decimal k ++ fields (a ∷ c ∷ wordNumbers w)) r (now (rest .exit)) ⌝ }
 {
     if !received_fits(rest.len(), k, a, c, w) {
         return 0;
     }
     let head = put_head(rest, k, a);
     let channel = put_field(rest, head, c);
-    let word = put_field(rest, channel, w);
+    let word = put_levels(rest, channel, w);
     rest[word] = 10;
     word + 1
 }
@@ -180,7 +215,7 @@ fn write_step(rest: &mut [u8], k: usize, q: Report) -> usize
     let a = base::wide8(answer_number(answer));
     match received {
         Received::Nothing => write_head(rest, k, a),
-        Received::Word(c, w) => write_received(rest, k, a, base::wide8(c.0), base::wide16(w.0)),
+        Received::Word(c, w) => write_received(rest, k, a, base::wide8(c.0), w),
     }
 }
 

@@ -23,9 +23,6 @@ enum-known-received c = search needs
 wide8-requires-2 : tie.Need-wide8-requires-2
 wide8-requires-2 c κs = search needs
 
-wide16-requires : tie.Need-wide16-requires
-wide16-requires c κs = search needs
-
 write-received-requires : tie.Need-write-received-requires
 write-received-requires c κs = search needs
 
@@ -47,10 +44,10 @@ returns-2 : tie.Need-returns-2
 returns-2 c =
     let h = c .before .before in
     let w = h .before in
-    let known = w .before .before .before .before in
+    let known = w .before .before .before in
     let wide = known .before .before in
     let a = wide .before .before .before .args in
-    rw (← step-word (a .k) (a .q) (wide .wide8 .result) (wide .wide8 .ensures ∙ wide .before .answer-number .ensures) _ _ (known .received .given .1) _ _ (w .before .wide82 .ensures) (w .wide16 .ensures)) (h .write-received .ensures)
+    rw (← step-word (a .k) (a .q) (wide .wide8 .result) (wide .wide8 .ensures ∙ wide .before .answer-number .ensures) _ _ (known .received .given .1) _ (w .wide82 .ensures)) (h .write-received .ensures)
 
 pub write-step-spec : {M : Type 1} → statement M
 write-step-spec =
@@ -62,7 +59,6 @@ write-step-spec =
     write-head-requires
     enum-known-received
     wide8-requires-2
-    wide16-requires
     write-received-requires
     same-length
     returns
