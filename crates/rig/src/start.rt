@@ -10,6 +10,7 @@ ghost use Rattle.rules.specs.Numbers.{processorId};
 ghost use Rattle.rules.specs.Tasks.{unborn, born};
 ghost use Rattle.plan_index.specs.ends.Derived.{endsOf};
 ghost use Rattle.rig.specs.start.Parts.{startTasks, StartsOn};
+use board::Board;
 use board::put_task;
 use board::sweeps::locate;
 use plan::Plan;
@@ -37,7 +38,7 @@ fn unborn() -> Task
         processor: ProcessorId(0),
         pc: 1,
         home: ProcessorId(0),
-        word: Word(0),
+        word: Word(0, 0, 0, 0),
         overflow: false,
         moves: 0,
         children: 0,
@@ -105,8 +106,8 @@ fn no_channels() -> Channels
 }
 
 // The start on a board: an unborn task is at place 1, and has nothing else; task 1 is born at desk 1.
-pub fn start_board(board: &mut [u64; 256])
-    requires { ⌜ now board ≡ replicate 256 0 ⌝ }
+pub fn start_board(board: &mut Board)
+    requires { ⌜ now board ≡ replicate 320 0 ⌝ }
     ensures { λ r. ⌜ StartsOn (now (board .exit)) ⌝ }
 {
     let mut k: usize = 0;

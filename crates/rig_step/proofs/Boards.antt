@@ -26,36 +26,36 @@ use Rattle.rig_step.specs.Rigs.{RigWith}
 abbrev pub lentBy : Store → List ℕ → Lent
 lentBy s board = lent (s .tables .hintprocessors) (s .tables .hintmoves) (s .tables .heldprocessors) (s .tables .heldnumbers) (s .tables .notes) board
 
-module _ (count : ℕ) (opcodes operands numbers senders receivers parents : List ℕ) (n : ℕ) (ts : List Task) (k : Network) (s : Store) (users board : List ℕ)
+module _ (count : ℕ) (codes numbers senders receivers parents : List ℕ) (n : ℕ) (ts : List Task) (k : Network) (s : Store) (users board : List ℕ)
     (b : Built senders receivers parents users) (et : tasksOn board ≡ ts) (ec : channelsOn board ≡ s .channels) where
   abbrev given : Facts
-  given = facts count opcodes operands numbers senders receivers parents
+  given = facts count codes numbers senders receivers parents
 
   pub packed-rig : Rig given n ts k s → Whole board
-      → RigWith opcodes operands numbers users (record { tasks = count; processors = n; used = k .used }) k (lentBy s board)
+      → RigWith codes numbers users (record { tasks = count; processors = n; used = k .used }) k (lentBy s board)
   packed-rig g w = record { rig = rw (b .senders-of, b .receivers-of, b .parents-of, et, ec) g; messages = refl; whole = w; indexed = b .indexed }
 
   -- a step there is a step on the parts
-  turn-same : (x : Step) → turnOf (factsIn count opcodes operands numbers users) n (tasksOn board) k (storeOf (lentBy s board)) x ≡ turnOf given n ts k s x
+  turn-same : (x : Step) → turnOf (factsIn count codes numbers users) n (tasksOn board) k (storeOf (lentBy s board)) x ≡ turnOf given n ts k s x
   turn-same x = rw (b .senders-of, b .receivers-of, b .parents-of, et, ec) refl
 
   pub packed-turn : (x : Step) (l' : Lent) {q : Report} {us : List Task} {k' : Network} (steps : List ℕ) {before progress after : List ℕ} {c' : Channels}
-      → q ≡ turnOf (factsIn count opcodes operands numbers users) n (tasksOn board) k (storeOf (lentBy s board)) x .report
+      → q ≡ turnOf (factsIn count codes numbers users) n (tasksOn board) k (storeOf (lentBy s board)) x .report
       → fileSteps steps ≡ x ∷ []
-      → RanTo (turnsOf (factsIn count opcodes operands numbers users) n (tasksOn board) k (storeOf (lentBy s board)) (fileSteps steps)) before (tasksOf l') k' (storeOf l') progress after
+      → RanTo (turnsOf (factsIn count codes numbers users) n (tasksOn board) k (storeOf (lentBy s board)) (fileSteps steps)) before (tasksOf l') k' (storeOf l') progress after
       → us ≡ tasksOf l' → c' ≡ channelsOn (l' .board)
       → turned q us k' (record { tables = storeOf l' .tables; channels = c' }) ≡ turnOf given n ts k s x
   unfolding turnsOf
   packed-turn x l' {q} {us} {k'} steps {c' = c'} e f r eu ek =
-      let t = turnOf (factsIn count opcodes operands numbers users) n (tasksOn board) k (storeOf (lentBy s board)) x in
+      let t = turnOf (factsIn count codes numbers users) n (tasksOn board) k (storeOf (lentBy s board)) x in
       let ran = rw f at r in
       let all : turned q us k' (record { tables = storeOf l' .tables; channels = c' }) ≡ t =
       rw (e, eu ∙ ran .tasks, ran .network, ek) (ap (λ (z : Store). turned (t .report) (t .tasks) (t .network) z) (ran .store)) in
       all ∙ turn-same x
 
 -- who uses what in the plan of a rig
-pub few-of : {count : ℕ} {opcodes operands numbers senders receivers parents : List ℕ} {n : ℕ} {ts : List Task} {s : Store} {used : ℕ}
-    → PartsOf (facts count opcodes operands numbers senders receivers parents) n ts s used → Few senders receivers parents
+pub few-of : {count : ℕ} {codes numbers senders receivers parents : List ℕ} {n : ℕ} {ts : List Task} {s : Store} {used : ℕ}
+    → PartsOf (facts count codes numbers senders receivers parents) n ts s used → Few senders receivers parents
 few-of p =
     let r = p .system in
     subst (λ (f : Facts). Few (f .senders) (f .receivers) (f .parents)) (sym (p .facts-of)) (few-ends (r .plan) (sound r (p .shaped) (p .sound) .frame .plan))

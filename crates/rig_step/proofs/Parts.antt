@@ -23,7 +23,7 @@ bad-system r x h = rw h refl
 
 -- what a step reads of the rig's plan and of its ends
 abbrev pub factsBy : System → Ends → Facts
-factsBy r e = facts (r .plan .tasks) (r .plan .opcodes) (r .plan .operands) (e .numbers) (e .senders) (e .receivers) (e .parents)
+factsBy r e = facts (r .plan .tasks) (r .plan .codes) (e .numbers) (e .senders) (e .receivers) (e .parents)
 
 module _ (r : System) (z : Shaped r) (o : systemOk r ≡ true) (e : Ends) (d : e ≡ endsOf (r .plan)) where
   pub taken-apart : Rig (factsBy r e) (r .processors) (r .tasks) (r .network) (storeIn r)

@@ -44,10 +44,10 @@ module _ (f : Facts) (n : ℕ) (ts : List Task) (k : Network) (s : Store) (x : S
       ∙ ap (λ (t : Turn). t .report) (message-turn f n ts k s x p at some)
 
 -- what is lent is a rig, whatever its mail
-pub rig-on : {opcodes operands numbers users : List ℕ} {n : Size} {k : Network} {l : Lent} → RigWith opcodes operands numbers users n k l → RigOn opcodes operands numbers users n l
-rig-on {opcodes} {operands} {numbers} {users} {n} {k} {l} g =
+pub rig-on : {codes numbers users : List ℕ} {n : Size} {k : Network} {l : Lent} → RigWith codes numbers users n k l → RigOn codes numbers users n l
+rig-on {codes} {numbers} {users} {n} {k} {l} g =
     record {
       whole = g .whole;
-      parts = subst (λ (u : ℕ). PartsOf (factsIn (n .tasks) opcodes operands numbers users) (n .processors) (tasksOf l) (storeOf l) u) (sym (g .messages)) (g .rig .parts);
+      parts = subst (λ (u : ℕ). PartsOf (factsIn (n .tasks) codes numbers users) (n .processors) (tasksOf l) (storeOf l) u) (sym (g .messages)) (g .rig .parts);
       indexed = g .indexed;
     }

@@ -12,8 +12,8 @@ use Rattle.board.specs.declared.act.Size.{Size}
 use Rattle.board.specs.Lent.{Lent, Whole, tasksOf, storeOf}
 use Rattle.board.specs.Rigs.{factsIn}
 
-pub record RigWith (opcodes operands numbers users : List ℕ) (n : Size) (k : Network) (l : Lent) : Type 0 where
-  pub rig : Rig (factsIn (n .tasks) opcodes operands numbers users) (n .processors) (tasksOf l) k (storeOf l)
+pub record RigWith (codes numbers users : List ℕ) (n : Size) (k : Network) (l : Lent) : Type 0 where
+  pub rig : Rig (factsIn (n .tasks) codes numbers users) (n .processors) (tasksOf l) k (storeOf l)
   pub messages : n .used ≡ k .used
   pub whole : Whole (l .board)
   pub indexed : Indexed users

@@ -40,8 +40,7 @@ pub fn step(r: System, s: Step) -> Stepped
     let plan = r.plan;
     let e = plan_index::ends::derive(plan);
     let count = plan.tasks;
-    let opcodes = plan.opcodes;
-    let operands = plan.operands;
+    let codes = plan.codes;
     let numbers = e.numbers;
     let senders = e.senders;
     let receivers = e.receivers;
@@ -57,8 +56,7 @@ pub fn step(r: System, s: Step) -> Stepped
     let network = r.network;
     let t = turn(
         count,
-        &opcodes,
-        &operands,
+        &codes,
         &numbers,
         &senders,
         &receivers,

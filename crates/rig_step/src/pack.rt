@@ -3,6 +3,7 @@ ghost use mathlib.Core.Path.{_≡_};
 ghost use Prim.Native.Nat.{_<_};
 ghost use Rattle.rules.specs.Systems.{readChannel};
 ghost use Rattle.board.specs.Lent.{Whole, tasksOn, channelsOn};
+use board::Board;
 use board::channel_at;
 use board::put_channel;
 use board::put_task;
@@ -40,7 +41,7 @@ fn channel_of(channels: Channels, k: usize) -> Channel
 }
 
 // The board's tasks become these.
-pub fn put_tasks(board: &mut [u64; 256], tasks: [Task; 64])
+pub fn put_tasks(board: &mut Board, tasks: [Task; 64])
     requires { ⌜ Whole (now board) ⌝ }
     ensures { λ r. ⌜ (Whole (now (board .exit))) × (tasksOn (now (board .exit)) ≡ tasks) × (channelsOn (now (board .exit)) ≡ channelsOn (now (board .entry))) ⌝ }
 {
@@ -54,7 +55,7 @@ pub fn put_tasks(board: &mut [u64; 256], tasks: [Task; 64])
 }
 
 // The board's channels become these.
-pub fn put_channels(board: &mut [u64; 256], channels: Channels)
+pub fn put_channels(board: &mut Board, channels: Channels)
     requires { ⌜ Whole (now board) ⌝ }
     ensures { λ r. ⌜ (Whole (now (board .exit))) × (channelsOn (now (board .exit)) ≡ channels) × (tasksOn (now (board .exit)) ≡ tasksOn (now (board .entry))) ⌝ }
 {
@@ -67,7 +68,7 @@ pub fn put_channels(board: &mut [u64; 256], channels: Channels)
 }
 
 // The tasks of a board.
-pub fn tasks_on(board: &[u64; 256]) -> [Task; 64]
+pub fn tasks_on(board: &Board) -> [Task; 64]
     ensures { λ r. ⌜ r ≡ tasksOn (now (board .entry)) ⌝ }
 {
     let first = task_at(board, TaskId(1));
@@ -83,7 +84,7 @@ pub fn tasks_on(board: &[u64; 256]) -> [Task; 64]
 }
 
 // The channels of a board.
-pub fn channels_on(board: &[u64; 256]) -> Channels
+pub fn channels_on(board: &Board) -> Channels
     ensures { λ r. ⌜ r ≡ channelsOn (now (board .entry)) ⌝ }
 {
     let mut granted = [0u8; 128];

@@ -11,6 +11,7 @@ use crate::pack::channels_on;
 use crate::pack::put_channels;
 use crate::pack::put_tasks;
 use crate::pack::tasks_on;
+use board::Board;
 use board::act::Size;
 use network::position;
 use plan_index::user_table::users::build;
@@ -39,8 +40,7 @@ fn step_bytes(s: Step) -> [u8; 4]
 
 // What a step would say, with this mail.
 fn decided<'a>(
-    opcodes: &'a [u8; 4096],
-    operands: &'a [u16; 4096],
+    codes: &'a [u32; 4096],
     numbers: &'a [u8; 4096],
     users: &'a [u8; 1024],
     hintprocessors: &'a [u8; 768],
@@ -48,14 +48,14 @@ fn decided<'a>(
     heldprocessors: &'a [u8; 768],
     heldnumbers: &'a [u8; 768],
     notes: &'a [u8; 768],
-    board: &'a [u64; 256],
+    board: &'a Board,
     n: Size,
     network: Network,
     s: Step,
 ) -> Report
-    requires { ⌜ RigWith (now opcodes) (now operands) (now numbers) (now users) n network
+    requires { ⌜ RigWith (now codes) (now numbers) (now users) n network
         (lent (now hintprocessors) (now hintmoves) (now heldprocessors) (now heldnumbers) (now notes) (now board)) ⌝ }
-    ensures { λ r. ⌜ r ≡ saidOf (factsIn (n .tasks) (now (opcodes .entry)) (now (operands .entry)) (now (numbers .entry)) (now (users .entry))) (n .processors)
+    ensures { λ r. ⌜ r ≡ saidOf (factsIn (n .tasks) (now (codes .entry)) (now (numbers .entry)) (now (users .entry))) (n .processors)
         (lent (now (hintprocessors .entry)) (now (hintmoves .entry)) (now (heldprocessors .entry)) (now (heldnumbers .entry)) (now (notes .entry)) (now (board .entry)))
         network s ⌝ }
 {
@@ -64,7 +64,7 @@ fn decided<'a>(
         let slot = network.slots[p - 1];
         let m = slot.message;
         let r = message_decided(
-            operands,
+            codes,
             users,
             hintprocessors,
             hintmoves,
@@ -82,8 +82,7 @@ fn decided<'a>(
         };
     }
     let r = step_decided(
-        opcodes,
-        operands,
+        codes,
         numbers,
         users,
         hintprocessors,
@@ -106,8 +105,7 @@ fn decided<'a>(
 // One step: the parts are put on a board, and taken from it after the step.
 pub fn turn<'a>(
     count: u8,
-    opcodes: &'a [u8; 4096],
-    operands: &'a [u16; 4096],
+    codes: &'a [u32; 4096],
     numbers: &'a [u8; 4096],
     senders: &'a [u8; 129],
     receivers: &'a [u8; 129],
@@ -118,15 +116,15 @@ pub fn turn<'a>(
     store: Store,
     s: Step,
 ) -> Turn
-    requires { ⌜ Rig (facts count (now opcodes) (now operands) (now numbers) (now senders) (now receivers) (now parents))
+    requires { ⌜ Rig (facts count (now codes) (now numbers) (now senders) (now receivers) (now parents))
         processors tasks network store ⌝ }
     ensures { λ r. ⌜ r ≡ turnOf
-        (facts count (now (opcodes .entry)) (now (operands .entry)) (now (numbers .entry)) (now (senders .entry)) (now (receivers .entry)) (now (parents .entry)))
+        (facts count (now (codes .entry)) (now (numbers .entry)) (now (senders .entry)) (now (receivers .entry)) (now (parents .entry)))
         processors tasks network store s ⌝ }
 {
     let mut users = [0u8; 1024];
     build(senders, receivers, parents, &mut users);
-    let mut board = [0u64; 256];
+    let mut board = [0u64; 320];
     put_tasks(&mut board, tasks);
     let channels = store.channels;
     put_channels(&mut board, channels);
@@ -142,8 +140,7 @@ pub fn turn<'a>(
         used: network.used,
     };
     let report = decided(
-        opcodes,
-        operands,
+        codes,
         numbers,
         &users,
         &hintprocessors,
@@ -160,8 +157,7 @@ pub fn turn<'a>(
     let mut out = [0u8; 1];
     let mut progress = [0usize; 2];
     let network = run_steps(
-        opcodes,
-        operands,
+        codes,
         numbers,
         &users,
         &mut hintprocessors,

@@ -9,6 +9,7 @@ ghost use Rattle.run.specs.all_steps.Begins.{Begins};
 ghost use Rattle.run.specs.all_steps.Writes.{RanOn};
 use crate::all_steps::decode::step_at;
 use crate::lines::emit_next;
+use board::Board;
 use board::act::Size;
 use network::position;
 use rules::message::Network;
@@ -21,8 +22,7 @@ use steps::word::word_run;
 
 // Each step, and a line for it behind those before it, as long as they fit.
 pub fn run_steps<'a>(
-    opcodes: &'a [u8; 4096],
-    operands: &'a [u16; 4096],
+    codes: &'a [u32; 4096],
     numbers: &'a [u8; 4096],
     users: &'a [u8; 1024],
     hintprocessors: &'a mut [u8; 768],
@@ -30,7 +30,7 @@ pub fn run_steps<'a>(
     heldprocessors: &'a mut [u8; 768],
     heldnumbers: &'a mut [u8; 768],
     notes: &'a mut [u8; 768],
-    board: &'a mut [u64; 256],
+    board: &'a mut Board,
     size: Size,
     network: Network,
     steps: &'a [u8],
@@ -38,11 +38,11 @@ pub fn run_steps<'a>(
     progress: &'a mut [usize; 2],
 ) -> Network
     requires { ⌜
-        Begins (now opcodes) (now operands) (now numbers) (now users) size network
+        Begins (now codes) (now numbers) (now users) size network
         (lent (now hintprocessors) (now hintmoves) (now heldprocessors) (now heldnumbers) (now notes) (now board))
         (now steps) (now progress) ⌝ }
     ensures { λ r. ⌜
-        RanOn (factsIn (size .tasks) (now (opcodes .entry)) (now (operands .entry)) (now (numbers .entry)) (now (users .entry))) (size .processors)
+        RanOn (factsIn (size .tasks) (now (codes .entry)) (now (numbers .entry)) (now (users .entry))) (size .processors)
         (lent (now (hintprocessors .entry)) (now (hintmoves .entry)) (now (heldprocessors .entry)) (now (heldnumbers .entry)) (now (notes .entry)) (now (board .entry)))
         network (now (steps .entry)) (now (out .entry))
         (lent (now (hintprocessors .exit)) (now (hintmoves .exit)) (now (heldprocessors .exit)) (now (heldnumbers .exit)) (now (notes .exit)) (now (board .exit)))
@@ -62,7 +62,7 @@ pub fn run_steps<'a>(
             let slot = network.slots[place];
             let m = slot.message;
             let r = deliver(
-                operands,
+                codes,
                 users,
                 hintprocessors,
                 hintmoves,
@@ -96,7 +96,7 @@ pub fn run_steps<'a>(
                 processors: size.processors,
                 used: used,
             };
-            if word_run(opcodes, operands, board, now_size, s) {
+            if word_run(codes, board, now_size, s) {
                 // a set or an add: nothing is posted
                 let plain = Report {
                     answer: StepAnswer::Accepted,
@@ -106,8 +106,7 @@ pub fn run_steps<'a>(
             } else {
                 // any other step: what is posted goes behind the letters, one letter at once
                 let r = other(
-                    opcodes,
-                    operands,
+                    codes,
                     numbers,
                     users,
                     hintprocessors,

@@ -13,29 +13,29 @@ use Rattle.rules.specs.Answers.{isAccepted}
 use Rattle.rig_parts.specs.RunVerdicts.{runRefusal}
 use Rattle.rig.specs.rest.Rests.{quietIn}
 
-module _ (count : ℕ) (opcodes operands : List ℕ) (ts : List Task) where
+module _ (count : ℕ) (codes : List ℕ) (ts : List Task) where
   -- a run of task k + 1 is refused
   abbrev pub stuckAfter : ℕ → Bool
-  stuckAfter k = not (isAccepted (runRefusal opcodes operands count ts (taskId (suc k))))
+  stuckAfter k = not (isAccepted (runRefusal codes count ts (taskId (suc k))))
 
   -- by its number
-  stuck-is : (k : ℕ) {b : Bool} → isAccepted (runRefusal opcodes operands count ts (taskId (k + 1))) ≡ b → stuckAfter k ≡ not b
+  stuck-is : (k : ℕ) {b : Bool} → isAccepted (runRefusal codes count ts (taskId (k + 1))) ≡ b → stuckAfter k ≡ not b
   stuck-is k h = ap not (rw (add-one k) at h)
 
   -- one task more
-  pub stuck-more : (k : ℕ) → below k stuckAfter ≡ true → isAccepted (runRefusal opcodes operands count ts (taskId (k + 1))) ≡ false → below (k + 1) stuckAfter ≡ true
+  pub stuck-more : (k : ℕ) → below k stuckAfter ≡ true → isAccepted (runRefusal codes count ts (taskId (k + 1))) ≡ false → below (k + 1) stuckAfter ≡ true
   stuck-more k b h = below-more stuckAfter k b (stuck-is k h)
 
   module _ (used : ℕ) where
-    pub quiet-network : (used ≡ 0 → ⊥) → quietIn count opcodes operands ts used ≡ false
+    pub quiet-network : (used ≡ 0 → ⊥) → quietIn count codes ts used ≡ false
     unfolding quietIn
     quiet-network h = rw (ne-eqb used 0 h) refl
 
     -- one task that can run
-    pub quiet-fails : (k : ℕ) → used ≡ 0 → k < count → isAccepted (runRefusal opcodes operands count ts (taskId (k + 1))) ≡ true → quietIn count opcodes operands ts used ≡ false
+    pub quiet-fails : (k : ℕ) → used ≡ 0 → k < count → isAccepted (runRefusal codes count ts (taskId (k + 1))) ≡ true → quietIn count codes ts used ≡ false
     unfolding quietIn
     quiet-fails k e l h = rw e (below-fails stuckAfter count k l (stuck-is k h))
 
-    pub quiet-all : used ≡ 0 → below count stuckAfter ≡ true → quietIn count opcodes operands ts used ≡ true
+    pub quiet-all : used ≡ 0 → below count stuckAfter ≡ true → quietIn count codes ts used ≡ true
     unfolding quietIn
     quiet-all e h = rw e h

@@ -34,20 +34,20 @@ fits n few k =
 
 -- so the first tests alone refuse
 run-stuck : (f : Facts) (n : ℕ) (ts : List Task) (s : Store) → n ≤ 6 → (t : TaskId)
-    → isRefused (judgedRun f n ts s 0 t) ≡ not (isAccepted (runRefusal (f .opcodes) (f .operands) (f .tasks) ts t))
+    → isRefused (judgedRun f n ts s 0 t) ≡ not (isAccepted (runRefusal (f .codes) (f .tasks) ts t))
 unfolding judgedRun
 run-stuck f n ts s few t =
     let k = ranIn f ts s t (nextAt f ts t) in
-    refused-by (runRefusal (f .opcodes) (f .operands) (f .tasks) ts t) (fittingIn n 0 k) (fits n few k)
+    refused-by (runRefusal (f .codes) (f .tasks) ts t) (fittingIn n 0 k) (fits n few k)
 
 pub rest-quiet : {f : Facts} {n : ℕ} {ts : List Task} {s : Store} {used : ℕ} → PartsOf f n ts s used
-    → restIn f n ts s used ≡ quietIn (f .tasks) (f .opcodes) (f .operands) ts used
+    → restIn f n ts s used ≡ quietIn (f .tasks) (f .codes) ts used
 unfolding restIn quietIn
 rest-quiet {f} {n} {ts} {s} {used} p =
     by-cases
     (ℕ-discrete used 0)
     (λ (e : used ≡ 0).
     rw e
-    (fold-same _&&_ true (f .tasks) (λ k. isRefused (judgedRun f n ts s 0 (taskId (suc k)))) (stuckAfter (f .tasks) (f .opcodes) (f .operands) ts)
+    (fold-same _&&_ true (f .tasks) (λ k. isRefused (judgedRun f n ts s 0 (taskId (suc k)))) (stuckAfter (f .tasks) (f .codes) ts)
     (λ k l. run-stuck f n ts s (processors-few p) (taskId (suc k)))))
     (λ e. rw (ne-eqb used 0 e) refl)

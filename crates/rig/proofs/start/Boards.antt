@@ -8,28 +8,30 @@ use native.Mathlib.Decide.{ℕ-discrete}
 use lib.ListN.{getD, set, length, length-set, replicate, length-replicate, getD-replicate}
 use lib.Seq.{getD-set-same, getD-set-other}
 use Rattle.base.proofs.Tables.{all-same}
-use Rattle.board.specs.packing.Packed.{low16, byte2, byte3, byte4, byte5, mark6, taskOf}
+use Rattle.board.specs.packing.Packed.{low16, byte2, byte3, byte4, byte5, mark6, taskOf, wordOf}
 use Rattle.rules.specs.Tasks.{unborn}
 use Rattle.rules.specs.Starts.{noChannels}
-use Rattle.board.specs.Lent.{channelColumn, channelsOn, tasksOn}
+use Rattle.board.specs.Lent.{channelColumn, channelsOn, taskOn, tasksOn}
 
 -- nothing is on the board but the places of the first n tasks
 pub record Unborn (n : ℕ) (board : List ℕ) : Type 0 where
-  pub whole : length board ≡ 256
+  pub whole : length board ≡ 320
   pub channel : (k : ℕ) → k < 128 → getD board k 0 ≡ 0
   pub place : (k : ℕ) → k < n → getD board (128 + 2 * k) 0 ≡ 65536
   pub children : (k : ℕ) → k < 64 → getD board (129 + 2 * k) 0 ≡ 0
+  pub word : (k : ℕ) → k < 64 → getD board (256 + k) 0 ≡ 0
 
 abbrev pub zeros : List ℕ
-zeros = replicate 256 0
+zeros = replicate 320 0
 
 pub unborn-none : Unborn 0 zeros
 unborn-none =
     record {
-      whole = length-replicate {A = ℕ} 256 0;
-      channel = λ k h. getD-replicate 256 k 0 0 (omega arith);
+      whole = length-replicate {A = ℕ} 320 0;
+      channel = λ k h. getD-replicate 320 k 0 0 (omega arith);
       place = λ k h. absurd (omega arith);
-      children = λ k h. getD-replicate 256 (129 + 2 * k) 0 0 (omega arith);
+      children = λ k h. getD-replicate 320 (129 + 2 * k) 0 0 (omega arith);
+      word = λ k h. getD-replicate 320 (256 + k) 0 0 (omega arith);
     }
 
 pub unborn-more : (n : ℕ) (board : List ℕ) → n < 64 → Unborn n board → Unborn (n + 1) (set board (128 + 2 * n) 65536)
@@ -44,6 +46,7 @@ unborn-more n board h u =
           (λ (e : k ≡ n). rw e (getD-set-same board (128 + 2 * n) 65536 0 (omega arith)))
           (λ e. getD-set-other board (128 + 2 * n) (128 + 2 * k) 65536 0 (omega arith) ∙ u .place k (omega arith));
       children = λ k l. getD-set-other board (128 + 2 * n) (129 + 2 * k) 65536 0 (omega arith) ∙ u .children k l;
+      word = λ k l. getD-set-other board (128 + 2 * n) (256 + k) 65536 0 (omega arith) ∙ u .word k l;
     }
 
 module _ (n : ℕ) (board : List ℕ) (u : Unborn n board) where
@@ -56,6 +59,6 @@ module _ (n : ℕ) (board : List ℕ) (u : Unborn n board) where
   unborn-channels = rw (column byte5, column mark6, column byte3, column byte4, column byte2, column low16) refl
 
 pub unborn-tasks : (board : List ℕ) → Unborn 64 board → tasksOn board ≡ replicate 64 unborn
-unfolding tasksOn taskOf
+unfolding tasksOn taskOf wordOf
 unborn-tasks board u =
-    sym (all-same 64 (λ k. taskOf (getD board (128 + 2 * k) 0) (getD board (129 + 2 * k) 0)) unborn (λ k h. rw (u .place k h, u .children k h) refl))
+    sym (all-same 64 (taskOn board) unborn (λ k h. rw (u .place k h, u .children k h, u .word k h) refl))

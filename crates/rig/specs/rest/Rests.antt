@@ -10,5 +10,5 @@ use Rattle.rules.specs.Answers.{isAccepted}
 use Rattle.rig_parts.specs.RunVerdicts.{runRefusal}
 
 -- at rest, by the tasks, their next instructions and the number of letters
-unfoldable pub quietIn : ℕ → List ℕ → List ℕ → List Task → ℕ → Bool
-quietIn count opcodes operands ts used = eqb used 0 && upTo count (λ t. not (isAccepted (runRefusal opcodes operands count ts (taskId t))))
+unfoldable pub quietIn : ℕ → List ℕ → List Task → ℕ → Bool
+quietIn count codes ts used = eqb used 0 && upTo count (λ t. not (isAccepted (runRefusal codes count ts (taskId t))))

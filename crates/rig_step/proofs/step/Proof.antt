@@ -58,7 +58,7 @@ derive-requires c κs =
 
 turn-requires : tie.Need-turn-requires
 turn-requires c κs =
-    let d = c .before .before .before .before .before .before .before .before .before .before .before .before .before .before .before .before in
+    let d = c .before .before .before .before .before .before .before .before .before .before .before .before .before .before in
     let w = d .before .before in
     let b = w .before .before in
     taken-apart (b .args .r) (shaped b) (passed w) (d .derive .result) (d .derive .ensures)
@@ -66,7 +66,7 @@ turn-requires c κs =
 returns-2 : tie.Need-returns-2
 returns-2 c =
     let t = c .before .before .before .before .before .before in
-    let d = t .before .before .before .before .before .before .before .before .before .before .before .before .before .before .before .before .before in
+    let d = t .before .before .before .before .before .before .before .before .before .before .before .before .before .before .before in
     let w = d .before .before in
     let b = w .before .before in
     put-back (b .args .r) (shaped b) (passed w) (d .derive .result) (d .derive .ensures) (b .args .s) (t .turn .result) (t .turn .ensures)

@@ -31,20 +31,20 @@ pub few-users : {n : ℕ} {p : Plan} {f : Facts} → Begins n p f → Few (f .se
 few-users {n} {p} b = rw (b .derived) (few-ends p (b .accepted))
 
 -- what is derived of the plan, with who uses what in one table
-module _ (count : ℕ) (opcodes operands numbers : List ℕ) {senders receivers parents users : List ℕ} (t : Built senders receivers parents users) where
-  pub facts-in : factsIn count opcodes operands numbers users ≡ facts count opcodes operands numbers senders receivers parents
+module _ (count : ℕ) (codes numbers : List ℕ) {senders receivers parents users : List ℕ} (t : Built senders receivers parents users) where
+  pub facts-in : factsIn count codes numbers users ≡ facts count codes numbers senders receivers parents
   facts-in = rw (t .senders-of, t .receivers-of, t .parents-of) refl
 
   -- pointers are set for the channels that task 1 receives on; there is nothing else in the tables, and the start on the board
   abbrev pub begun : {n : ℕ} {p : Plan} {k : Network} {z : Tables} {hp hm board : List ℕ}
-      → Begins n p (facts count opcodes operands numbers senders receivers parents)
+      → Begins n p (facts count codes numbers senders receivers parents)
       → k ≡ noMessages
       → z ≡ noTables
       → StartsOn board
       → StoredBy (forEnds (receiversOf users) (taskId 1) (processorId 1) (Locate (processorId 1) 1))
       (lent (z .hintprocessors) (z .hintmoves) (z .heldprocessors) (z .heldnumbers) (z .notes) board)
       (lent hp hm (z .heldprocessors) (z .heldnumbers) (z .notes) board)
-      → Rig (factsIn count opcodes operands numbers users) n (tasksOn board) k (storeOf (lent hp hm (z .heldprocessors) (z .heldnumbers) (z .notes) board))
+      → Rig (factsIn count codes numbers users) n (tasksOn board) k (storeOf (lent hp hm (z .heldprocessors) (z .heldnumbers) (z .notes) board))
   begun {n} {p} {k} {z} {hp} {hm} {board} b network empty on located =
       let e = facts-in ∙ b .derived in
       let sweep : List ℕ → Store → Store = λ receivers. forEnds receivers (taskId 1) (processorId 1) (Locate (processorId 1) 1) in

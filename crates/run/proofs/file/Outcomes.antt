@@ -17,7 +17,6 @@ use Rattle.plan.specs.Programs.{programs, canonical}
 use Rattle.plan.specs.Refusals.{planAnswer}
 use Rattle.plan.specs.Files.{filePrograms, fileAnswer, startAnswer}
 use Rattle.plan.specs.Outcomes.{planRead}
-use Rattle.plan_laws.proofs.Answers.{plan-passed}
 use Rattle.plan_laws.proofs.Canonical.{meaning-canonical}
 use Rattle.plan_laws.proofs.LayoutRead.{file-plan}
 use Rattle.rules.specs.declared.step.RunAnswer.the-variants.{Traced, Unstarted, BadSteps, OutputShort}
@@ -44,7 +43,7 @@ module _ (p : List ℕ) {x : PlanRead} (h : x ≡ planRead p) where
 pub plan-ok : (p : List ℕ) → fileAnswer p ≡ Accepted → planAnswer (programs (canonical (filePrograms p))) ≡ Accepted
 plan-ok p a =
     let ok = file-plan p a in
-    rw (meaning-canonical (filePrograms p) (plan-passed (filePrograms p) ok .sizes)) ok
+    rw (meaning-canonical (filePrograms p) ok) ok
 
 pub start-is : (n : ℕ) (p : List ℕ) (x : Plan) → x ≡ canonical (filePrograms p) → started n x ≡ startOf n p
 unfolding startOf
@@ -62,7 +61,7 @@ pub begins : (n : ℕ) → within 1 6 n ≡ true → (x : Plan) → planAnswer (
     → senders ≡ endsOf x .senders
     → receivers ≡ endsOf x .receivers
     → parents ≡ endsOf x .parents
-    → Begins n x (facts (x .tasks) (x .opcodes) (x .operands) numbers senders receivers parents)
+    → Begins n x (facts (x .tasks) (x .codes) numbers senders receivers parents)
 begins n d x a h s r q =
     record { some = within-low 1 6 n d; most = within-high 1 6 n d; accepted = a; derived = rw (h, s, r, q) refl }
 

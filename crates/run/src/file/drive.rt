@@ -28,8 +28,7 @@ pub struct Driven {
 // tables have nothing yet.
 pub fn drive<'a>(
     count: u8,
-    opcodes: &'a [u8; 4096],
-    operands: &'a [u16; 4096],
+    codes: &'a [u32; 4096],
     numbers: &'a [u8; 4096],
     senders: &'a [u8; 129],
     receivers: &'a [u8; 129],
@@ -39,11 +38,11 @@ pub fn drive<'a>(
     out: &'a mut [u8],
 ) -> Driven
     requires { ⌜
-        (Begun processors (facts count (now opcodes) (now operands) (now numbers) (now senders) (now receivers) (now parents)))
+        (Begun processors (facts count (now codes) (now numbers) (now senders) (now receivers) (now parents)))
         × (length (now steps) / 4 ≤ 2000) ⌝ }
     ensures { λ d. ⌜
         TraceOf processors
-        (facts count (now (opcodes .entry)) (now (operands .entry)) (now (numbers .entry)) (now (senders .entry)) (now (receivers .entry)) (now (parents .entry)))
+        (facts count (now (codes .entry)) (now (numbers .entry)) (now (senders .entry)) (now (receivers .entry)) (now (parents .entry)))
         (now (steps .entry)) (now (out .entry)) d (now (out .exit)) ⌝ }
 {
     let mut users = [0u8; 1024];
@@ -54,7 +53,7 @@ pub fn drive<'a>(
     let mut heldprocessors = tables.heldprocessors;
     let mut heldnumbers = tables.heldnumbers;
     let mut notes = tables.notes;
-    let mut board = [0u64; 256];
+    let mut board = [0u64; 320];
     start_board(&mut board);
     let one = ProcessorId(1);
     let born = Hint {
@@ -77,8 +76,7 @@ pub fn drive<'a>(
     let network = no_messages();
     let mut progress = [0usize; 2];
     let network = run_steps(
-        opcodes,
-        operands,
+        codes,
         numbers,
         &users,
         &mut hintprocessors,
@@ -95,7 +93,7 @@ pub fn drive<'a>(
     );
     emit_marks(out, &mut progress, &board, count);
     let messages = network.used;
-    let rest = at_rest(count, opcodes, operands, &board, messages);
+    let rest = at_rest(count, codes, &board, messages);
     emit_last(out, &mut progress, rest, messages);
     let filled = progress[0];
     let whole = progress[1] == 0;

@@ -7,13 +7,14 @@ ghost use Rattle.trace.specs.Lines.{endText};
 ghost use Rattle.run.specs.all_steps.Writes.{LinesNext, LineNext};
 ghost use Rattle.run.specs.file.Writes.{markLine, markLines};
 use crate::lines::note;
+use board::Board;
 use board::task_at;
 use plan::TaskId;
 use trace::direct::emit_end;
 use trace::direct::emit_over;
 
 // The line of task t behind those before it, where the task is marked.
-fn emit_mark<'a>(out: &'a mut [u8], progress: &'a mut [usize; 2], board: &'a [u64; 256], t: u8)
+fn emit_mark<'a>(out: &'a mut [u8], progress: &'a mut [usize; 2], board: &'a Board, t: u8)
     requires { ⌜ (t ≤ 64) × (length (now progress) ≡ 2) × (getD (now progress) 0 0 ≤ length (now out)) ⌝ }
     ensures { λ r. ⌜ LinesNext (markLine (tasksOn (now (board .entry))) t) (now (progress .entry)) (now (out .entry)) (now (progress .exit)) (now (out .exit)) ⌝ }
 {
@@ -30,12 +31,7 @@ fn emit_mark<'a>(out: &'a mut [u8], progress: &'a mut [usize; 2], board: &'a [u6
 }
 
 // Those of tasks 1 to `tasks`, by rising number.
-pub fn emit_marks<'a>(
-    out: &'a mut [u8],
-    progress: &'a mut [usize; 2],
-    board: &'a [u64; 256],
-    tasks: u8,
-)
+pub fn emit_marks<'a>(out: &'a mut [u8], progress: &'a mut [usize; 2], board: &'a Board, tasks: u8)
     requires { ⌜ (tasks ≤ 64) × (length (now progress) ≡ 2) × (getD (now progress) 0 0 ≤ length (now out)) ⌝ }
     ensures { λ r. ⌜ LinesNext (markLines (tasksOn (now (board .entry))) tasks) (now (progress .entry)) (now (out .entry)) (now (progress .exit)) (now (out .exit)) ⌝ }
 {

@@ -51,13 +51,11 @@ pub fn run_file<'a>(processors: u32, plan: &'a [u8], steps: &'a [u8], out: &'a m
             let numbers = plan_index::ends::numbers::send_numbers(
                 read.plan.tasks,
                 &read.plan.lengths,
-                &read.plan.opcodes,
-                &read.plan.operands,
+                &read.plan.codes,
             );
             let d = drive(
                 read.plan.tasks,
-                &read.plan.opcodes,
-                &read.plan.operands,
+                &read.plan.codes,
                 &numbers,
                 &read.senders,
                 &read.receivers,

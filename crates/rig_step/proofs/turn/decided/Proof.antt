@@ -25,10 +25,10 @@ sub-slot c = search needs
 abbrev start : tie.After-position → tie.Start
 start c = c .before
 
-at : (c : tie.After-position) → c .position .result ≡ positionOf (start c .args .t12 .used) (start c .args .s)
+at : (c : tie.After-position) → c .position .result ≡ positionOf (start c .args .t11 .used) (start c .args .s)
 at c = c .position .ensures .0 ∙ ap (λ (u : ℕ). positionOf u (start c .args .s)) (start c .pre .messages)
 
-few : (c : tie.After-position) → (c .position .result ≤ start c .args .t12 .used) × (c .position .result ≤ 256)
+few : (c : tie.After-position) → (c .position .result ≤ start c .args .t11 .used) × (c .position .result ≤ 256)
 few c = omega (arith, c .position .ensures .1, start c .pre .messages, used-few (start c .pre .rig .parts))
 
 mul-slot : tie.Need-mul-slot
@@ -43,7 +43,6 @@ message-decided-requires c κs =
     let a = start (t .before) .args in
     let g = start (t .before) .pre in
     record {
-      opcodes = a .opcodes .now;
       numbers = a .numbers .now;
       size = a .n;
       rig = rig-on g;
@@ -56,11 +55,11 @@ returns c =
     let t = c .before .before in
     let a = start (t .before) .args in
     let l = lent (a .hintprocessors .now) (a .hintmoves .now) (a .heldprocessors .now) (a .heldnumbers .now) (a .notes .now) (a .board .now) in
-    message-says (factsIn (a .n .tasks) (a .opcodes .now) (a .operands .now) (a .numbers .now) (a .users .now)) (a .n .processors) (tasksOf l) (a .t12) (storeOf l) (a .s)
+    message-says (factsIn (a .n .tasks) (a .codes .now) (a .numbers .now) (a .users .now)) (a .n .processors) (tasksOf l) (a .t11) (storeOf l) (a .s)
     (t .before .position .result)
     (at (t .before))
     (t .if1 .taken)
-    (c .message-decided .ensures (a .n .tasks) (a .opcodes .now) (a .numbers .now))
+    (c .message-decided .ensures (a .n .tasks) (a .numbers .now))
 
 step-decided-requires : tie.Need-step-decided-requires
 step-decided-requires c κs = rig-on (start (c .before) .pre)
@@ -70,8 +69,8 @@ returns-2 c =
     let t = c .before in
     let a = start (t .before) .args in
     let l = lent (a .hintprocessors .now) (a .hintmoves .now) (a .heldprocessors .now) (a .heldnumbers .now) (a .notes .now) (a .board .now) in
-    let f = factsIn (a .n .tasks) (a .opcodes .now) (a .operands .now) (a .numbers .now) (a .users .now) in
-    other-says f (a .n .processors) (tasksOf l) (a .t12) (storeOf l) (a .s)
+    let f = factsIn (a .n .tasks) (a .codes .now) (a .numbers .now) (a .users .now) in
+    other-says f (a .n .processors) (tasksOf l) (a .t11) (storeOf l) (a .s)
     (sym (at (t .before)) ∙ t .if1 .left)
     (c .step-decided .ensures ∙ ap (λ (u : ℕ). actOf (stepVerdict f (a .n .processors) (tasksOf l) (storeOf l) u (a .s))) (start (t .before) .pre .messages))
 

@@ -36,12 +36,12 @@ module _ (c : tie.After-put-channels) where
   board = c .put-channels .last .0
 
   rig : let a = start c .args in
-      RigWith (a .opcodes .now) (a .operands .now) (a .numbers .now) (built c .build .last .1 .1 .1 .0) (record { tasks = a .count; processors = a .processors; used = a .network .used }) (a .network) (lentBy (a .store) board)
+      RigWith (a .codes .now) (a .numbers .now) (built c .build .last .1 .1 .1 .0) (record { tasks = a .count; processors = a .processors; used = a .network .used }) (a .network) (lentBy (a .store) board)
   rig =
       let a = start c .args in
       let t = tasks-on c .put-tasks .ensures in
       let k = c .put-channels .ensures in
-      packed-rig (a .count) (a .opcodes .now) (a .operands .now) (a .numbers .now) (a .senders .now) (a .receivers .now) (a .parents .now) (a .processors) (a .tasks) (a .network) (a .store) _ board
+      packed-rig (a .count) (a .codes .now) (a .numbers .now) (a .senders .now) (a .receivers .now) (a .parents .now) (a .processors) (a .tasks) (a .network) (a .store) _ board
       (built c .build .ensures)
       (k .2 ∙ t .1)
       (k .1)
@@ -86,8 +86,8 @@ returns c =
     let a = start o .args in
     let t = tasks-on o .put-tasks .ensures in
     let k = o .put-channels .ensures in
-    let h = ran .run-steps .last .1 .1 .1 .1 in
-    packed-turn (a .count) (a .opcodes .now) (a .operands .now) (a .numbers .now) (a .senders .now) (a .receivers .now) (a .parents .now) (a .processors) (a .tasks) (a .network) (a .store) _ (board o)
+    let h = ran .run-steps .last .1 .1 .1 in
+    packed-turn (a .count) (a .codes .now) (a .numbers .now) (a .senders .now) (a .receivers .now) (a .parents .now) (a .processors) (a .tasks) (a .network) (a .store) _ (board o)
     (built o .build .ensures)
     (k .2 ∙ t .1)
     (k .1)

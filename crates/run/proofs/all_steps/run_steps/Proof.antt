@@ -69,7 +69,6 @@ deliver-requires c κs =
     let a = start .args in
     let p = after-position .position in
     record {
-      opcodes = a .opcodes .now;
       numbers = a .numbers .now;
       size = size-at at-loop;
       rig = rig-on in-loop;
@@ -196,7 +195,7 @@ other-requires c κs =
     let at-loop = in-loop .before in
     let start = begun at-loop in
     let a = start .args in
-    subst (λ (z : List ℕ). RigOn (a .opcodes .now) (a .operands .now) (a .numbers .now) (a .users .now) (size-at at-loop) (with-board at-loop z))
+    subst (λ (z : List ℕ). RigOn (a .codes .now) (a .numbers .now) (a .users .now) (size-at at-loop) (with-board at-loop z))
     (sym (word-kept else2)) (rig-on in-loop)
 
 posts-requires : tie.Need-posts-requires Inv-loop2 μ-loop2 Inv-loop3 μ-loop3 Inv-loop μ-loop
@@ -299,7 +298,7 @@ loop-again c =
     let r = after-deliver .deliver .result in
     let x = after-step-at .step-at .result in
     let p = after-position .position .result in
-    let d = after-deliver .deliver .ensures (f .tasks) (f .opcodes) (f .numbers) in
+    let d = after-deliver .deliver .ensures (f .tasks) (f .numbers) in
     let last = after-deliver .deliver .last .1 .1 in
     let then = lent (last .0) (last .1 .0) (last .1 .1 .0) (last .1 .1 .1 .0) (last .1 .1 .1 .1 .0) (last .1 .1 .1 .1 .1 .0) in
     let turn = ap (λ (k : Network). turned (reportOf r) (tasksOf then) k (storeOf then)) (network-is after-wide8)
@@ -328,7 +327,7 @@ loop-again-2 c =
     let n = start .args .size .processors in
     let x = after-step-at .step-at .result in
     let d = after-word-run .word-run .ensures .1 (then2 .if2 .taken) (f .numbers) (start .args .users .now) (b .hintprocessors) (b .hintmoves) (b .heldprocessors) (b .heldnumbers) (b .notes) in
-    let then = with-board at-loop (after-word-run .word-run .last .1 .1 .0) in
+    let then = with-board at-loop (after-word-run .word-run .last .1 .0) in
     let none : positionOf (b .network .used) x ≡ 0 = sym (after-position .position .ensures .0) ∙ else1 .if1 .left in
     let turn = ap (λ (k : Network). turned (reportOf plainAct) (tasksOf then) k (storeOf then)) (sym (posted-none n (b .network) Nothing tt refl))
     ∙ acted-turn (f .senders) (f .receivers) n (b .network) here then plainAct (stepVerdict f n (tasksOf here) (storeOf here) (b .network .used) x) d

@@ -33,10 +33,10 @@ joins k m = refl
 
 -- what a step that delivers nothing leaves
 abbrev pub other-left : tie.After-other Inv-loop2 μ-loop2 Inv-loop3 μ-loop3 Inv-loop μ-loop → Lent
-other-left c = let last = c .other .last .1 .1 .1 .1 in lent (last .0) (last .1 .0) (last .1 .1 .0) (last .1 .1 .1 .0) (last .1 .1 .1 .1 .0) (last .1 .1 .1 .1 .1 .0)
+other-left c = let last = c .other .last .1 .1 .1 in lent (last .0) (last .1 .0) (last .1 .1 .0) (last .1 .1 .1 .0) (last .1 .1 .1 .1 .0) (last .1 .1 .1 .1 .1 .0)
 
 -- nothing was carried out by a word's run
-pub word-kept : (c : tie.Else2 Inv-loop2 μ-loop2 Inv-loop3 μ-loop3 Inv-loop μ-loop) → c .before .word-run .last .1 .1 .0 ≡ entered (chosen c) .before .loop .board
+pub word-kept : (c : tie.Else2 Inv-loop2 μ-loop2 Inv-loop3 μ-loop3 Inv-loop μ-loop) → c .before .word-run .last .1 .0 ≡ entered (chosen c) .before .loop .board
 word-kept c = c .before .word-run .ensures .0 (c .if2 .left)
 
 -- so the step was carried out on what was lent
@@ -112,8 +112,8 @@ at-most c =
     let b = at-loop .loop in
     let m = getD (b .network .slots) (after-position .position .result - 1) noSlot .message in
     let k = messageScope (f .senders) (f .receivers) (f .parents) m in
-    subst (λ (r : Act). AtMostOne (r .posting)) (sym (c .deliver .ensures (f .tasks) (f .opcodes) (f .numbers) .act))
-    (message-posts k m (siteIn (f .operands) (tasksOf (here at-loop)) (storeOf (here at-loop)) k))
+    subst (λ (r : Act). AtMostOne (r .posting)) (sym (c .deliver .ensures (f .tasks) (f .numbers) .act))
+    (message-posts k m (siteIn (f .codes) (tasksOf (here at-loop)) (storeOf (here at-loop)) k))
 
 pub network-is : (c : tie.After-wide8 Inv-loop2 μ-loop2 Inv-loop3 μ-loop3 Inv-loop μ-loop)
     → let k = entered (opened (c .before .before .before .before .before) .before) .before .loop .network in

@@ -19,29 +19,29 @@ use Rattle.run.proofs.all_steps.run_steps.Tie as tie
 
 -- j letters behind the delivered one have moved down
 abbrev pub Inv-loop2 : tie.InvT-loop2
-Inv-loop2 opcodes operands numbers users hintprocessors hintmoves heldprocessors heldnumbers notes board size steps out progress n network₀ k next used p place r last j₀ network j =
+Inv-loop2 codes numbers users hintprocessors hintmoves heldprocessors heldnumbers notes board size steps out progress n network₀ k next used p place r last j₀ network j =
     (place + j ≤ last) × (network ≡ holding (network₀ .used) (shifted (network₀ .slots) place j))
 
 abbrev pub μ-loop2 : tie.MeasureT-loop2
-μ-loop2 opcodes operands numbers users hintprocessors hintmoves heldprocessors heldnumbers notes board size steps out progress n network₀ k next used p place r last j₀ network j =
+μ-loop2 codes numbers users hintprocessors hintmoves heldprocessors heldnumbers notes board size steps out progress n network₀ k next used p place r last j₀ network j =
     last - j
 
 -- e rounds have posted their letters
 abbrev pub Inv-loop3 : tie.InvT-loop3
-Inv-loop3 opcodes operands numbers users hintprocessors hintmoves heldprocessors heldnumbers notes board size steps out progress n network₀ k next used p r posting rounds e₀ network e =
+Inv-loop3 codes numbers users hintprocessors hintmoves heldprocessors heldnumbers notes board size steps out progress n network₀ k next used p r posting rounds e₀ network e =
     (e ≤ rounds) × (network ≡ after posting network₀ e)
 
 abbrev pub μ-loop3 : tie.MeasureT-loop3
-μ-loop3 opcodes operands numbers users hintprocessors hintmoves heldprocessors heldnumbers notes board size steps out progress n network₀ k next used p r posting rounds e₀ network e =
+μ-loop3 codes numbers users hintprocessors hintmoves heldprocessors heldnumbers notes board size steps out progress n network₀ k next used p r posting rounds e₀ network e =
     rounds - e
 
 -- k steps are carried out, and their lines written
 abbrev pub Inv-loop : tie.InvT-loop
-Inv-loop opcodes operands numbers users hintprocessors₀ hintmoves₀ heldprocessors₀ heldnumbers₀ notes₀ board₀ size steps out₀ progress₀ n network₀ k₀ hintprocessors hintmoves heldprocessors heldnumbers notes board out progress network k =
-    (k ≤ n) × Whole board × Going (factsIn (size .tasks) opcodes operands numbers users) (size .processors) (tasksOf (lent hintprocessors₀ hintmoves₀ heldprocessors₀ heldnumbers₀ notes₀ board₀)) network₀ (storeOf (lent hintprocessors₀ hintmoves₀ heldprocessors₀ heldnumbers₀ notes₀ board₀)) (stepAt steps) out₀ k (tasksOf (lent hintprocessors hintmoves heldprocessors heldnumbers notes board)) network (storeOf (lent hintprocessors hintmoves heldprocessors heldnumbers notes board)) progress out
+Inv-loop codes numbers users hintprocessors₀ hintmoves₀ heldprocessors₀ heldnumbers₀ notes₀ board₀ size steps out₀ progress₀ n network₀ k₀ hintprocessors hintmoves heldprocessors heldnumbers notes board out progress network k =
+    (k ≤ n) × Whole board × Going (factsIn (size .tasks) codes numbers users) (size .processors) (tasksOf (lent hintprocessors₀ hintmoves₀ heldprocessors₀ heldnumbers₀ notes₀ board₀)) network₀ (storeOf (lent hintprocessors₀ hintmoves₀ heldprocessors₀ heldnumbers₀ notes₀ board₀)) (stepAt steps) out₀ k (tasksOf (lent hintprocessors hintmoves heldprocessors heldnumbers notes board)) network (storeOf (lent hintprocessors hintmoves heldprocessors heldnumbers notes board)) progress out
 
 abbrev pub μ-loop : tie.MeasureT-loop
-μ-loop opcodes operands numbers users hintprocessors₀ hintmoves₀ heldprocessors₀ heldnumbers₀ notes₀ board₀ size steps out₀ progress₀ n network₀ k₀ hintprocessors hintmoves heldprocessors heldnumbers notes board out progress network k =
+μ-loop codes numbers users hintprocessors₀ hintmoves₀ heldprocessors₀ heldnumbers₀ notes₀ board₀ size steps out₀ progress₀ n network₀ k₀ hintprocessors hintmoves heldprocessors heldnumbers notes board out progress network k =
     n - k
 
 -- the stages of a step: where its letter was found, where a word's run was tried, where its way was chosen, where it began; and where the run did
@@ -62,7 +62,7 @@ begun c = c .before .before .before
 
 -- the facts of the plan, and what is lent when a step begins
 abbrev pub given : tie.Start Inv-loop2 μ-loop2 Inv-loop3 μ-loop3 Inv-loop μ-loop → Facts
-given c = let a = c .args in factsIn (a .size .tasks) (a .opcodes .now) (a .operands .now) (a .numbers .now) (a .users .now)
+given c = let a = c .args in factsIn (a .size .tasks) (a .codes .now) (a .numbers .now) (a .users .now)
 
 abbrev pub here : tie.At-loop Inv-loop2 μ-loop2 Inv-loop3 μ-loop3 Inv-loop μ-loop → Lent
 here c = let b = c .loop in lent (b .hintprocessors) (b .hintmoves) (b .heldprocessors) (b .heldnumbers) (b .notes) (b .board)
@@ -80,7 +80,7 @@ parts c = c .before .loop .inv .2 .rig .parts
 
 -- with the index of its plan
 pub rig-on : (c : tie.In-loop Inv-loop2 μ-loop2 Inv-loop3 μ-loop3 Inv-loop μ-loop)
-    → let a = begun (c .before) .args in RigOn (a .opcodes .now) (a .operands .now) (a .numbers .now) (a .users .now) (size-at (c .before)) (here (c .before))
+    → let a = begun (c .before) .args in RigOn (a .codes .now) (a .numbers .now) (a .users .now) (size-at (c .before)) (here (c .before))
 rig-on c =
     let at-loop = c .before in
     let start = begun at-loop in

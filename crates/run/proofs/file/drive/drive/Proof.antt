@@ -31,10 +31,10 @@ with-no-messages c = c .before .before .before .before .before .before .before .
 
 -- what is derived of the plan, as it is passed, and with who uses what in one table
 abbrev derived : tie.Start → Facts
-derived c = let a = c .args in facts (a .count) (a .opcodes .now) (a .operands .now) (a .numbers .now) (a .senders .now) (a .receivers .now) (a .parents .now)
+derived c = let a = c .args in facts (a .count) (a .codes .now) (a .numbers .now) (a .senders .now) (a .receivers .now) (a .parents .now)
 
 abbrev given : tie.After-build → Facts
-given c = let a = begin c .args in factsIn (a .count) (a .opcodes .now) (a .operands .now) (a .numbers .now) (c .build .last .1 .1 .1 .0)
+given c = let a = begin c .args in factsIn (a .count) (a .codes .now) (a .numbers .now) (c .build .last .1 .1 .1 .0)
 
 -- what is lent at the start
 abbrev begins-on : tie.After-locate → Lent
@@ -61,7 +61,7 @@ rig c b =
     let a = start .args in
     let z = after-no-tables .no-tables in
     let on = after-start-board .start-board in
-    begun (a .count) (a .opcodes .now) (a .operands .now) (a .numbers .now) (after-build .build .ensures) b (c .no-messages .ensures) (z .ensures) (on .ensures)
+    begun (a .count) (a .codes .now) (a .numbers .now) (after-build .build .ensures) b (c .no-messages .ensures) (z .ensures) (on .ensures)
     (after-locate .locate .ensures (z .result .heldprocessors) (z .result .heldnumbers) (z .result .notes) (on .last .0) (on .ensures .whole))
 
 -- that of the plan that is known

@@ -36,18 +36,18 @@ plan-passes : (c : tie.Else2) → planAnswer (programs (c .before .before .befor
 plan-passes c = rw (plan-is c) (plan-ok (c .before .before .before .before .before .before .before .before .before .before .args .plan .now) (file (c .before .before)))
 
 -- where the sends are numbered, and what is passed before
-abbrev numbered : tie.After-drive-arg5 → tie.After-send-numbers
-numbered c = c .before .before .before .before .before .before .before
+abbrev numbered : tie.After-drive-arg4 → tie.After-send-numbers
+numbered c = c .before .before .before .before .before .before
 
-abbrev passed : tie.After-send-numbers-arg3 → tie.Else2
-passed c = c .before .before .before .before
+abbrev passed : tie.After-send-numbers-arg2 → tie.Else2
+passed c = c .before .before .before
 
 -- a run of the plan begins
 began : (c : tie.After-send-numbers)
     → let p = passed (c .before) in
     let r = p .before .before .before .before .load .result in
     Begins (p .before .before .before .before .before .before .before .before .before .before .args .processors) (r .plan)
-    (facts (r .plan .tasks) (r .plan .opcodes) (r .plan .operands) (c .send-numbers .result) (r .senders) (r .receivers) (r .parents))
+    (facts (r .plan .tasks) (r .plan .codes) (c .send-numbers .result) (r .senders) (r .receivers) (r .parents))
 unfolding endsOf
 began c =
     let p = passed (c .before) in
