@@ -4,6 +4,7 @@ ghost use Rattle.io.specs.Counts.{Counts};
 use libc::STDOUT_FILENO;
 use plan::CREATE;
 use plan::FINISH;
+use plan::Instruction;
 use plan::Plan;
 use plan::PlanAnswer;
 use rules::step::Step;
@@ -105,17 +106,26 @@ fn sums_over() {
     );
 }
 
+// The four bytes of an instruction on no level.
+fn code(opcode: u8, operand: u16) -> u32 {
+    let i = Instruction {
+        opcode: opcode,
+        level: 0,
+        operand: operand,
+    };
+    i.code()
+}
+
 // A plan of one task that only finishes.
 fn single_finish() -> Plan {
     let mut lengths = [0u8; 64];
     lengths[0] = 1;
-    let mut opcodes = [0u8; 4096];
-    opcodes[0] = FINISH;
+    let mut codes = [0u32; 4096];
+    codes[0] = code(FINISH, 0);
     Plan {
         tasks: 1,
         lengths: lengths,
-        opcodes: opcodes,
-        operands: [0; 4096],
+        codes: codes,
     }
 }
 
@@ -184,17 +194,14 @@ fn creating() -> Plan {
     let mut lengths = [0u8; 64];
     lengths[0] = 2;
     lengths[1] = 1;
-    let mut opcodes = [0u8; 4096];
-    opcodes[0] = CREATE;
-    opcodes[1] = FINISH;
-    opcodes[64] = FINISH;
-    let mut operands = [0u16; 4096];
-    operands[0] = 2;
+    let mut codes = [0u32; 4096];
+    codes[0] = code(CREATE, 2);
+    codes[1] = code(FINISH, 0);
+    codes[64] = code(FINISH, 0);
     Plan {
         tasks: 2,
         lengths: lengths,
-        opcodes: opcodes,
-        operands: operands,
+        codes: codes,
     }
 }
 
