@@ -7,8 +7,10 @@ use native.Mathlib.Omega.{arith}
 use lib.Dec.{eqb}
 use lib.ListN.{getD, set, length, length-set}
 use lib.Seq.{set-getD}
+use borrow.Author.Tests.{ne-eqb}
 use Rattle.plan.specs.declared.ProcessorId.{ProcessorId}
 use Rattle.plan.specs.declared.ChannelId.{ChannelId}
+use Rattle.plan.specs.declared.TaskId.{TaskId}
 use Rattle.plan.specs.declared.Word.{Word}
 use Rattle.rules.specs.declared.channel.Channel.{Channel}
 use Rattle.rules.specs.declared.channel.Cell.{Cell}
@@ -19,9 +21,9 @@ use Rattle.rules.specs.declared.task.TaskState.the-variants.{Unborn, Ready, Wai
 use Rattle.rules.specs.declared.channel.Hint.{Hint}
 use Rattle.rules.specs.Cells.{withNoted}
 use Rattle.rules.specs.Tasks.{noTask}
-use Rattle.rules.specs.Systems.{entryIndex, readChannel, writeChannel, store, cellStored}
-use Rattle.board.specs.packing.Packed.{taskOf, taskWord, wordOf, wordNumber, stateOf, stateNumber, channelOf, channelWord, travellingWord, low16, byte2, byte3, byte4, byte5, mark6, bit}
-use Rattle.board.specs.Lent.{lent, channelColumn, channelsOn, tasksOn, storeOf, hintIn, heldIn, noteIn, ChannelPut, travels}
+use Rattle.rules.specs.Systems.{entryIndex, readChannel, writeChannel, store, cellStored, taskIn}
+use Rattle.board.specs.packing.Packed.{taskOf, taskWord, wordOf, wordNumber, firstNumber, stateOf, stateNumber, channelOf, channelWord, travellingWord, low16, byte2, byte3, byte4, byte5, mark6, bit}
+use Rattle.board.specs.Lent.{lent, channelColumn, channelsOn, tasksOn, storeOf, hintIn, heldIn, noteIn, SameAbove, ChannelPut, travels}
 use Rattle.board.proofs.Laws.{getD-channel, set-channel, keep-channel-above, getD-task, set-task, keep-tasks}
 
 pub task-read : (board : List ℕ) (n : ℕ) {m : ℕ} → m ≡ n → 1 ≤ n → n ≤ 64
@@ -31,6 +33,13 @@ task-read board n {m} e one most =
     let b : 126 + 2 * m + 1 ≡ 129 + 2 * (n - 1) = omega arith in
     let d : 255 + m ≡ 256 + (n - 1) = omega arith in
     rw b (rw a (rw d (sym (getD-task board (n - 1) noTask (omega arith)))))
+
+-- its word
+pub word-read : (board : List ℕ) (t : TaskId) {m : ℕ} → m ≡ t .0 → 1 ≤ t .0 → t .0 ≤ 64 → taskIn (tasksOn board) t .word ≡ wordOf (getD board (255 + m) 0)
+unfolding taskIn taskOf
+word-read board t {m} e one most =
+    let d : 255 + m ≡ 256 + (t .0 - 1) = omega arith in
+    rw (ne-eqb (t .0) 0 (λ q. omega arith), getD-task board (t .0 - 1) noTask (omega arith), d) refl
 
 state-below : (s : TaskState) → stateNumber s < 128
 state-below Unborn = omega arith
@@ -102,6 +111,15 @@ same-task x n =
 
     p6 : taskWord x / 281474976710656 % 65536 ≡ x .moves
     p6 = omega (arith, state-below (x .state), bit-below (x .overflow), n)
+
+-- a number whose levels above 0 are those of w, with another level 0
+pub first-number : (v : ℕ) (w : Word) → SameAbove (wordOf v) w → firstNumber v (w .0) ≡ wordNumber w
+unfolding wordOf
+first-number v w s =
+    let a = s .0 in
+    let b = s .1 in
+    let c = s .2 in
+    omega arith
 
 module _ (board : List ℕ) (n : ℕ) (x : Task) {m w v : ℕ} (e : m ≡ n) (one : 1 ≤ n) (most : n ≤ 64) (long : length board ≡ 320) (we : w ≡ taskWord x) (ve : v ≡ wordNumber (x .word)) (small : NarrowTask x) where
   abbrev after : List ℕ

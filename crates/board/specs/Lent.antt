@@ -8,6 +8,7 @@ use Rattle.base.specs.Lists.{table}
 use Rattle.plan.specs.declared.ProcessorId.{ProcessorId}
 use Rattle.plan.specs.declared.ChannelId.{ChannelId}
 use Rattle.plan.specs.declared.TaskId.{TaskId}
+use Rattle.plan.specs.declared.Word.{Word}
 use Rattle.rules.specs.declared.channel.Channel.{Channel}
 use Rattle.rules.specs.declared.channel.Hint.{Hint}
 use Rattle.rules.specs.declared.channel.Offer.{Offer}
@@ -101,6 +102,10 @@ HeldPut i o heldprocessors heldnumbers heldprocessors' heldnumbers' = (heldproce
 
 abbrev pub TaskPut : TaskId → Task → List ℕ → List ℕ → Type 0
 TaskPut t x board board' = (Whole board') × (tasksOn board' ≡ taskStored (tasksOn board) t x) × (channelsOn board' ≡ channelsOn board)
+
+-- two words differ on level 0 at most
+abbrev pub SameAbove : Word → Word → Type 0
+SameAbove w z = (w .1 ≡ z .1) × (w .2 ≡ z .2) × (w .3 ≡ z .3)
 
 abbrev pub ChannelPut : ℕ → Channel → List ℕ → List ℕ → Type 0
 ChannelPut i y board board' = (Whole board') × (channelsOn board' ≡ writeChannel (channelsOn board) i y) × (tasksOn board' ≡ tasksOn board)

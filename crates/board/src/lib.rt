@@ -15,7 +15,7 @@ ghost use mathlib.Core.Path.{_≡_};
 ghost use Prim.Native.Nat.{_≤_, _<_, _-_, _+_, _*_};
 ghost use lib.ListN.{set};
 ghost use Rattle.rules.specs.Systems.{entryIndex, readChannel, writeChannel, taskIn};
-ghost use Rattle.board.specs.Lent.{Whole, AtCell, tasksOn, channelsOn, hintEntry, heldEntry, hintIn, heldIn, noteIn, HintPut, HeldPut, TaskPut, ChannelPut, travels};
+ghost use Rattle.board.specs.Lent.{Whole, AtCell, tasksOn, channelsOn, hintEntry, heldEntry, hintIn, heldIn, noteIn, HintPut, HeldPut, TaskPut, SameAbove, ChannelPut, travels};
 use plan::ChannelId;
 use plan::ProcessorId;
 use plan::TaskId;
@@ -77,6 +77,20 @@ pub fn put_task(board: &mut Board, t: TaskId, x: Task)
         board[at + 1] = x.children;
         board[255 + n] = crate::packing::word_number(word);
     }
+}
+
+// Task t becomes x, whose word is as it was above level 0: of its number the other levels stay where they are.
+pub fn put_first_level(board: &mut Board, t: TaskId, x: Task)
+    requires { ⌜ (1 ≤ t .0) × (t .0 ≤ 64) × Whole (now board) × SameAbove (taskIn (tasksOn (now board)) t .word) (x .word) ⌝ }
+    ensures { λ r. ⌜ TaskPut t x (now (board .entry)) (now (board .exit)) ⌝ }
+{
+    let n = base::wide8(t.0);
+    let at = 126 + 2 * n;
+    let word = x.word;
+    let v = board[255 + n];
+    board[at] = crate::packing::task_word(x);
+    board[at + 1] = x.children;
+    board[255 + n] = crate::packing::with_first_level(v, word.0);
 }
 
 // The own entry of a channel, at k.

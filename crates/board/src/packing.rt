@@ -3,7 +3,7 @@
 ghost use mathlib.Core.Path.{_≡_};
 ghost use Prim.Native.Nat.{_%_, _<_};
 ghost use lib.Dec.{eqb};
-ghost use Rattle.board.specs.packing.Packed.{channelOf, channelWord, travellingWord, stateOf, stateNumber, taskOf, taskWord, wordOf, wordNumber, bit};
+ghost use Rattle.board.specs.packing.Packed.{channelOf, channelWord, travellingWord, stateOf, stateNumber, taskOf, taskWord, wordOf, wordNumber, firstNumber, bit};
 use plan::ProcessorId;
 use plan::Word;
 use rules::channel::Channel;
@@ -145,6 +145,13 @@ pub fn word_number(w: Word) -> u64
     ensures { λ r. ⌜ r ≡ wordNumber w ⌝ }
 {
     w.0 as u64 + 65536 * (w.1 as u64) + 4294967296 * (w.2 as u64) + 281474976710656 * (w.3 as u64)
+}
+
+// The number of a word with another level 0.
+pub fn with_first_level(v: u64, n: u16) -> u64
+    ensures { λ r. ⌜ r ≡ firstNumber v n ⌝ }
+{
+    65536 * (v / 65536 % 281474976710656) + n as u64
 }
 
 // A task, read from its three numbers.

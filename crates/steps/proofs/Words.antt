@@ -10,6 +10,8 @@ use Rattle.base.specs.Choice.{within}
 use Rattle.base.proofs.Tests.{tests-differ}
 use Rattle.plan.specs.declared.TaskId.{TaskId}
 use Rattle.plan.specs.declared.ProcessorId.{ProcessorId}
+use Rattle.plan.specs.declared.Instruction.{Instruction}
+use Rattle.plan.specs.Words.{withLevel, setWord, addWord}
 use Rattle.rules.specs.declared.task.Task.{Task}
 use Rattle.rules.specs.declared.task.TaskState.the-variants.{Ready}
 use Rattle.rules.specs.declared.step.Step.{Step}
@@ -29,7 +31,7 @@ use Rattle.rig_parts.specs.Scopes.{alone, runScope}
 use Rattle.rig_parts.specs.RunVerdicts.{runRefusal, judgedRun, ranIn, runChange, sendIn, taskChange}
 use Rattle.rig_parts.proofs.BoundsReady.{nextAt}
 use Rattle.steps.specs.Words.{wordChanged}
-use Rattle.board.specs.Lent.{lent, Whole, tasksOn, channelsOn, storeOf}
+use Rattle.board.specs.Lent.{lent, Whole, tasksOn, channelsOn, storeOf, SameAbove}
 use Rattle.board.specs.Acted.{Acted, plainAct}
 use Rattle.board.specs.Verdicts.{stepVerdict}
 use Rattle.steps.proofs.Acting.{stored-none}
@@ -42,6 +44,12 @@ by-bool false p q = q refl
 -- no run that was not carried out was
 pub never : {P : Type 0} → false ≡ true → P
 never e = absurd (tests-differ e refl)
+
+-- a set or an add on level 0 leaves the other levels
+pub above-kept : (x : Task) (i : Instruction) → i .level ≡ 0 → SameAbove (x .word) (wordChanged x i .word)
+unfolding setWord addWord withLevel
+above-kept x i e =
+    by-bool (eqb (i .opcode) 6) (λ q. rw (q, e) (refl, refl, refl)) (λ q. rw (q, e) (refl, refl, refl))
 
 module _ (f : Facts) (n : ℕ) (ts : List Task) (s : Store) (used : ℕ) (x : Step) where
   -- the task of the step, alone

@@ -1,11 +1,13 @@
 // A run that changes nothing but a word and a mark: the loop's short cut, to which the board alone is lent.
 ghost use mathlib.Core.Path.{_≡_};
 ghost use Prim.Native.Nat.{_<_, _≤_};
-ghost use Rattle.board.specs.Lent.{Whole, TaskPut};
+ghost use Rattle.rules.specs.Systems.{taskIn};
+ghost use Rattle.board.specs.Lent.{Whole, tasksOn, TaskPut};
 ghost use Rattle.board.specs.Rigs.{RunsOn, Worded};
 ghost use Rattle.steps.specs.Words.{wordChanged};
 use board::Board;
 use board::act::Size;
+use board::put_first_level;
 use board::put_task;
 use board::task_at;
 use plan::Instruction;
@@ -35,8 +37,16 @@ fn change(board: &mut Board, t: TaskId, x: Task, i: Instruction)
     put_task(board, t, y);
 }
 
-// Such a run is carried out; else nothing is. A word is a number of four levels: with the test for level 0, which most
-// plans use alone, the others are not taken apart.
+// The same where i is about level 0: the other levels are not taken apart.
+fn change_first_level(board: &mut Board, t: TaskId, x: Task, i: Instruction)
+    requires { ⌜ (1 ≤ t .0) × (t .0 ≤ 64) × (x .pc < 255) × Whole (now board) × (i .level ≡ 0) × (x ≡ taskIn (tasksOn (now board)) t) ⌝ }
+    ensures { λ r. ⌜ TaskPut t (wordChanged x i) (now (board .entry)) (now (board .exit)) ⌝ }
+{
+    let y = word_changed(x, i);
+    put_first_level(board, t, y);
+}
+
+// Such a run is carried out; else nothing is.
 pub fn word_run<'a>(codes: &'a [u32; 4096], board: &'a mut Board, n: Size, s: Step) -> bool
     requires { ⌜ (Whole (now board)) × (RunsOn (now codes) n (now board)) ⌝ }
     ensures { λ r. ⌜ Worded (now (codes .entry)) n s (now (board .entry)) r (now (board .exit)) ⌝ }
@@ -60,7 +70,7 @@ pub fn word_run<'a>(codes: &'a [u32; 4096], board: &'a mut Board, n: Size, s: St
         return false;
     }
     if i.level == 0 {
-        change(board, t, x, i);
+        change_first_level(board, t, x, i);
         return true;
     }
     change(board, t, x, i);

@@ -74,6 +74,10 @@ wordOf v = levels (low16 v) (v / 65536 % 65536) (v / 4294967296 % 65536) (v / 28
 abbrev pub wordNumber : Word → ℕ
 wordNumber w = w .0 + 65536 * (w .1) + 4294967296 * (w .2) + 281474976710656 * (w .3)
 
+-- the same with another level 0, from its number
+abbrev pub firstNumber : ℕ → ℕ → ℕ
+firstNumber v n = 65536 * (v / 65536 % 281474976710656) + n
+
 -- a task is three numbers, the second its children and the third its word; of the lowest eight bits of the first, the highest is its mark
 unfoldable pub taskOf : ℕ → ℕ → ℕ → Task
 taskOf v children word =

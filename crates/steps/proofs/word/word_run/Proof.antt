@@ -141,17 +141,20 @@ changed o board' e =
           (e .0, e .1 ∙ ap (taskStored ts (named s)) y, e .2)),
     )
 
+change-first-level-requires : tie.Need-change-first-level-requires
+change-first-level-requires c κs =
+    let e = c .before .before .before .before .before .before in
+    let s = from4 e in
+    (within-low 1 (s .args .n .tasks) (s .args .s .task) (counted (third e)), few (third e), omega (arith, last e), s .pre .0, omega arith, fetch e .task-at .ensures)
+
+returns-6 : tie.Need-returns-6
+returns-6 c = changed (c .before .before .before .before) _ (c .change-first-level .ensures)
+
 change-requires : tie.Need-change-requires
 change-requires c κs = let e = c .before .before .before .before .before .before in (few (third e), omega (arith, last e), from4 e .pre .0)
 
-returns-6 : tie.Need-returns-6
-returns-6 c = changed (c .before .before .before .before) _ (c .change .ensures)
-
-change-requires-2 : tie.Need-change-requires-2
-change-requires-2 c κs = let e = c .before .before .before .before .before .before in (few (third e), omega (arith, last e), from4 e .pre .0)
-
 returns-7 : tie.Need-returns-7
-returns-7 c = changed (c .before .before .before .before) _ (c .change2 .ensures)
+returns-7 c = changed (c .before .before .before .before) _ (c .change .ensures)
 
 pub word-run-spec : {M : Type 1} → statement M
 word-run-spec =
@@ -168,7 +171,7 @@ word-run-spec =
     returns-4
     instruction-in-requires
     returns-5
-    change-requires
+    change-first-level-requires
     returns-6
-    change-requires-2
+    change-requires
     returns-7)
