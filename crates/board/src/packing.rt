@@ -179,9 +179,9 @@ pub fn task_word(x: Task) -> u64
     let home = x.home;
     let state = x.state;
     state_number(state)
-        + 128 * bit(x.overflow)
-        + 256 * (at.0 as u64)
         + 65536 * (x.pc as u64)
+        + 128 * bit(x.overflow)
         + 16777216 * (home.0 as u64)
+        + 256 * (at.0 as u64)
         + 281474976710656 * (x.moves as u64)
 }
