@@ -3,9 +3,7 @@
 
 // What a step may touch, what it changes, and the verdict on it.
 pub mod change;
-// What a rig keeps beside its tasks and its mail.
-pub mod kept;
-// What is done for each channel of a task that is born, leaves or arrives, and to what a desk keeps for a parent.
+// What is done for each channel of a task that is born, leaves or arrives.
 pub mod sweep;
 // What a step leaves of the parts.
 pub mod turn;

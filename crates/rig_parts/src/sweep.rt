@@ -1,8 +1,7 @@
-// What is done for each channel of a task that is born, leaves or arrives, and to what a desk keeps for a parent.
+// What is done for each channel of a task that is born, leaves or arrives.
 use plan::ProcessorId;
 use plan::TaskId;
 use rules::channel::Hint;
-use rules::system::ParentEntry;
 
 // A rule for one channel.
 pub enum CellRule {
@@ -16,7 +15,7 @@ pub enum CellRule {
     DepartSending,
 }
 
-// The tasks' channels that a step sweeps over, at a desk; what the desk keeps for the task as a parent changes beside them.
+// The tasks' channels that a step sweeps over, at a desk.
 pub enum Sweep {
     Nothing,
     // birth of a task
@@ -25,6 +24,4 @@ pub enum Sweep {
     Departure(TaskId, ProcessorId, Hint),
     // arrival of a task, with its count
     Arrival(TaskId, ProcessorId, u16),
-    // end of a child of this task: what the desk keeps for the task then; no channel is swept over
-    Ending(TaskId, ProcessorId, ParentEntry),
 }

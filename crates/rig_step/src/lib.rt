@@ -7,7 +7,6 @@ mod turn;
 
 ghost use mathlib.Core.Path.{_≡_};
 ghost use Rattle.rules.specs.Steps.{step, refused};
-use rig_parts::kept::Kept;
 use rules::rule::Received;
 use rules::step::Report;
 use rules::step::Step;
@@ -53,11 +52,6 @@ pub fn step(r: System, s: Step) -> Stepped
         tables: tables,
         channels: channels,
     };
-    let family = r.parents;
-    let kept = Kept {
-        store: store,
-        parents: family,
-    };
     let tasks = r.tasks;
     let network = r.network;
     let t = turn(
@@ -70,24 +64,21 @@ pub fn step(r: System, s: Step) -> Stepped
         processors,
         tasks,
         network,
-        kept,
+        store,
         s,
     );
     let report = t.report;
     let after = t.tasks;
     let network = t.network;
-    let left = t.kept;
-    let now_store = left.store;
-    let now_tables = now_store.tables;
-    let now_channels = now_store.channels;
-    let now_parents = left.parents;
+    let kept = t.store;
+    let now_tables = kept.tables;
+    let now_channels = kept.channels;
     let system = System {
         processors: processors,
         plan: plan,
         tasks: after,
         tables: now_tables,
         channels: now_channels,
-        parents: now_parents,
         network: network,
     };
     Stepped {

@@ -2,7 +2,6 @@
 -- trace and step file.
 pub mod Numbers
 pub mod Answers
-pub mod Hints
 pub mod Tasks
 pub mod Places
 pub mod Cells

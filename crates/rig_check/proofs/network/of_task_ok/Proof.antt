@@ -1,0 +1,20 @@
+-- `of_task_ok` is the test of an ended or a mover letter.
+use borrow.Author.Needs.{needs}
+use Rattle.rig_check.proofs.network.of_task_ok.Statement.{statement}
+use Rattle.rig_check.proofs.network.of_task_ok.Tie as tie
+
+processor-ok-requires : tie.Need-processor-ok-requires
+processor-ok-requires c κs = search needs
+
+task-ok-requires : tie.Need-task-ok-requires
+task-ok-requires c κs = search needs
+
+both-requires : tie.Need-both-requires
+both-requires c κs = search needs
+
+returns : tie.Need-returns
+returns c = cc
+
+pub of-task-ok-spec : {M : Type 1} → statement M
+of-task-ok-spec =
+    tie.close (tie.spec processor-ok-requires task-ok-requires both-requires returns)
