@@ -74,7 +74,7 @@ ctest: build/driver $(HEADER_TESTS) build/vectors build/old_plans build/differen
 	build/header_c11
 	build/header_cxx11
 	driver/test.sh build/driver crates/trace_program/data
-	build/vectors crates/vectors_test/data/s111.bin crates/vectors_test/data/edges.bin
+	build/vectors crates/vectors_test/data/s108.bin crates/vectors_test/data/edges.bin
 	build/old_plans bench/data/one_level.bin
 	build/differential $(SEED) $(COUNT)
 	build/stack $(SEED) 1000

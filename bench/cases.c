@@ -47,12 +47,12 @@ static void lead(struct bench_case *c, uint32_t steps, propose *proposal)
 
 static void propose_run(struct random *r, const struct sim_rig *rig, uint8_t *step)
 {
-    mortarsedge_put_step(step, 1, ready_task(r, rig, false), 0);
+    mortarsedge_put_step(step, 1, ready_task(r, rig), 0);
 }
 
 static void propose_move(struct random *r, const struct sim_rig *rig, uint8_t *step)
 {
-    mortarsedge_put_step(step, 3, ready_task(r, rig, true), random_from(r, 1, rig->desks));
+    mortarsedge_put_step(step, 3, ready_task(r, rig), random_from(r, 1, rig->desks));
 }
 
 /* Runs and moves while few letters are under way, else a delivery of any. */

@@ -3,12 +3,12 @@
 #include "../include/mortarsedge.h"
 #include "draft.h"
 
-uint32_t ready_task(struct random *r, const struct sim_rig *rig, bool childless)
+uint32_t ready_task(struct random *r, const struct sim_rig *rig)
 {
     uint32_t first = random_below(r, rig->tasks);
     for (uint32_t i = 0; i < rig->tasks; i++) {
         uint32_t t = 1 + (first + i) % rig->tasks;
-        if (rig->task[t].state == READY && !(childless && rig->task[t].children != 0))
+        if (rig->task[t].state == READY)
             return t;
     }
     return 0;
@@ -16,7 +16,7 @@ uint32_t ready_task(struct random *r, const struct sim_rig *rig, bool childless)
 
 static bool led_run(struct random *r, const struct sim_rig *rig, uint8_t *step)
 {
-    uint32_t t = ready_task(r, rig, false);
+    uint32_t t = ready_task(r, rig);
     mortarsedge_put_step(step, 1, t, 0);
     return t != 0;
 }
@@ -31,7 +31,7 @@ static bool led_deliver(struct random *r, const struct step_style *style, const 
 
 static bool led_move(struct random *r, const struct sim_rig *rig, uint8_t *step)
 {
-    uint32_t t = ready_task(r, rig, true);
+    uint32_t t = ready_task(r, rig);
     if (t == 0 || rig->desks < 2)
         return false;
     uint32_t e = random_from(r, 1, rig->desks - 1);

@@ -14,7 +14,7 @@ struct step_style {
 };
 
 /* A ready task, from a random one on; 0 if there is none. */
-uint32_t ready_task(struct random *r, const struct sim_rig *rig, bool childless);
+uint32_t ready_task(struct random *r, const struct sim_rig *rig);
 
 /* At most count steps; returns how many. A rig at rest ends them soon. */
 uint32_t make_steps(struct random *r, const struct step_style *style, struct sim_rig *rig,

@@ -33,7 +33,7 @@ done <<'RULES'
 2 the last letter fills the gap of a taken one
 3 a word letter stays in the mail
 4 the mail has room for 255 letters only
-5 living children are tested before the desk of a move
+5 a task with living children may not move
 6 an older pointer is written over a newer one
 7 a held offer is lost on arrival
 8 an offer is forwarded with its old count
@@ -63,6 +63,15 @@ done <<'RULES'
 32 every add is to level 0
 33 only sums of level 0 mark
 34 the levels are printed last first
+35 an ended letter goes along the child's own pointer
+36 an ended letter goes along the desk's pointer, newer or not
+37 an ended letter is forwarded with its old count
+38 held children are lost on arrival
+39 only the lowest held child leaves on arrival
+40 a departure sets no pointer to the parent
+41 a child that moves renews its own pointer
+42 an ended letter is held and not forwarded
+43 an ended letter is removed where the parent is away
 RULES
 
 [ "$missed" -eq 0 ] || { echo "mutants: $missed of $tried not found" >&2; exit 1; }

@@ -17,12 +17,13 @@ static struct sim_letter take(struct sim_rig *rig, uint32_t index)
     return letter;
 }
 
+/* An offer or an ended letter that does not find its task here. */
 static bool forwarded(struct sim_rig *rig, struct sim_letter letter, struct sim_pointer pointer)
 {
-    if (pointer.desk == letter.desk || pointer.count <= letter.value)
+    if (pointer.desk == letter.desk || pointer.count <= letter.value || (MUTANT == 42 && letter.kind == ENDED))
         return false;
     letter.desk = pointer.desk;
-    letter.value = MUTANT == 8 ? letter.value : pointer.count;
+    letter.value = MUTANT == (letter.kind == OFFER ? 8 : 37) ? letter.value : pointer.count;
     post(rig, letter);
     return true;
 }
@@ -82,9 +83,24 @@ static void open_word(struct sim_rig *rig, struct sim_letter letter, struct sim_
 
 static void open_ended(struct sim_rig *rig, struct sim_letter letter)
 {
-    struct sim_task *parent = &rig->task[rig->task[letter.subject].parent];
-    if (parent->desk == letter.desk && (parent->children & sim_bit(letter.subject)) != 0)
+    uint8_t p = rig->task[letter.subject].parent;
+    struct sim_task *parent = &rig->task[p];
+    struct sim_parent *entry = &rig->parent[p][letter.desk];
+    if ((parent->children & sim_bit(letter.subject)) == 0)
+        return;
+    if (parent->desk == letter.desk)
         lose_child(parent, letter.subject);
+    else if (!forwarded(rig, letter, entry->pointer) && MUTANT != 43)
+        entry->held |= sim_bit(letter.subject);
+}
+
+/* Children that are held for an arriving parent leave its set. */
+static void take_children(struct sim_task *task, struct sim_parent *entry)
+{
+    uint64_t held = MUTANT == 39 ? entry->held & (0 - entry->held) : entry->held;
+    if (MUTANT != 38)
+        task->children &= ~held;
+    entry->held = 0;
 }
 
 /* A held offer that counts is taken over, another is dropped. */
@@ -103,6 +119,8 @@ static void open_mover(struct sim_rig *rig, struct sim_letter letter)
         return;
     task->state = READY;
     task->desk = d;
+    rig->parent[letter.subject][d].pointer = (struct sim_pointer){.count = task->count, .desk = d};
+    take_children(task, &rig->parent[letter.subject][d]);
     point(rig, task, d, d);
     for (uint32_t c = task->receives; c != 0; c = rig->channel[c].next_received)
         take_over(&rig->channel[c], &rig->channel[c].at[d]);

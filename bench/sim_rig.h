@@ -22,6 +22,11 @@ struct sim_word {
     uint16_t level[LEVELS];
 };
 
+struct sim_pointer {
+    uint16_t count;
+    uint8_t desk; /* 0: unknown */
+};
+
 struct sim_task {
     uint64_t children; /* living: bit t - 1 for task t */
     struct sim_word word;
@@ -30,15 +35,16 @@ struct sim_task {
     uint8_t state;
     uint8_t desk; /* 0: unborn or moving */
     bool over;    /* it met a sum over the top */
-    uint8_t birth;
     uint8_t parent;
+    struct sim_pointer own; /* to its parent, as it was at the create */
     uint8_t sends;    /* first of the channels it sends on, 0 is none */
     uint8_t receives; /* first of the channels it receives on */
 };
 
-struct sim_pointer {
-    uint16_t count;
-    uint8_t desk; /* 0: unknown */
+/* What a desk keeps for a parent. */
+struct sim_parent {
+    struct sim_pointer pointer;
+    uint64_t held; /* children that have ended: bit t - 1 for task t */
 };
 
 struct sim_offer {
@@ -67,7 +73,7 @@ struct sim_channel {
 
 struct sim_letter {
     struct sim_word word; /* word: the word */
-    uint16_t value;       /* offer and call: a pointer's count */
+    uint16_t value;       /* offer, call and ended: a pointer's count */
     uint8_t kind;
     uint8_t desk;    /* where it goes */
     uint8_t subject; /* a channel; ended: the child; mover: the task */
@@ -82,6 +88,7 @@ struct sim_rig {
     uint32_t letters;
     struct sim_task task[MAX_TASKS + 1];
     struct sim_letter mail[MAX_MAIL + (MUTANT == 12 || MUTANT == 13 ? 64 : 0)];
+    struct sim_parent parent[MAX_TASKS + 1][MAX_DESKS + 1]; /* by task and desk */
     struct sim_channel channel[MAX_CHANNELS + 1]; /* only the plan's are set */
     struct sim_instruction code[MAX_CODE];
 };
@@ -95,8 +102,8 @@ struct sim_received {
 /* The rig at the start of a plan, or the refusal's number and no rig. */
 uint32_t sim_start(struct sim_rig *rig, uint32_t desks, const uint8_t *plan, size_t length);
 
-/* A birth at desk d: start and create. */
-void sim_birth(struct sim_rig *rig, struct sim_task *task, uint8_t d);
+/* The birth of task t at desk d: start and create. */
+void sim_birth(struct sim_rig *rig, uint32_t t, uint8_t d, struct sim_pointer own);
 
 /* One step of 4 bytes: its answer, and what was received. */
 uint32_t sim_step(struct sim_rig *rig, const uint8_t *step, struct sim_received *received);

@@ -1,12 +1,14 @@
 /* Run: one instruction of a ready task. */
 #include "sim_shared.h"
 
-void sim_birth(struct sim_rig *rig, struct sim_task *task, uint8_t d)
+void sim_birth(struct sim_rig *rig, uint32_t t, uint8_t d, struct sim_pointer own)
 {
+    struct sim_task *task = &rig->task[t];
     task->state = READY;
     task->desk = d;
-    task->birth = d;
+    task->own = own;
     task->count = 1;
+    rig->parent[t][d].pointer = (struct sim_pointer){.count = 1, .desk = d};
     if (MUTANT != 14)
         point(rig, task, d, d);
 }
@@ -32,7 +34,7 @@ static void run_add(struct sim_task *task, struct sim_instruction add)
 
 static uint32_t run_create(struct sim_rig *rig, struct sim_task *task, uint32_t child)
 {
-    sim_birth(rig, &rig->task[child], task->desk);
+    sim_birth(rig, child, task->desk, (struct sim_pointer){.count = task->count, .desk = task->desk});
     task->children |= sim_bit(child);
     return 0;
 }
@@ -44,6 +46,25 @@ static uint32_t run_sync(struct sim_task *task)
     return 0;
 }
 
+/* A parent that is not at its child's desk: a letter goes along the newer of the desk's pointer and the child's own. */
+static uint32_t tell_parent(struct sim_rig *rig, const struct sim_task *task, uint8_t t)
+{
+    struct sim_parent *entry = &rig->parent[task->parent][task->desk];
+    struct sim_pointer along = entry->pointer;
+    if (MUTANT != 36 || along.desk == 0)
+        newer(&along, task->own);
+    if (MUTANT == 35)
+        along = task->own;
+    if (along.desk == task->desk) {
+        entry->held |= sim_bit(t);
+        return 0;
+    }
+    if (!has_room(rig, MUTANT != 13))
+        return 13;
+    post(rig, (struct sim_letter){.kind = ENDED, .desk = along.desk, .subject = t, .value = along.count});
+    return 0;
+}
+
 static uint32_t run_finish(struct sim_rig *rig, struct sim_task *task, uint8_t t)
 {
     struct sim_task *parent = &rig->task[task->parent];
@@ -52,9 +73,9 @@ static uint32_t run_finish(struct sim_rig *rig, struct sim_task *task, uint8_t t
     if (task->parent != 0 && parent->desk == task->desk) {
         lose_child(parent, t);
     } else if (task->parent != 0) {
-        if (!has_room(rig, MUTANT != 13))
-            return 13;
-        post(rig, (struct sim_letter){.kind = ENDED, .desk = task->birth, .subject = t});
+        uint32_t number = tell_parent(rig, task, t);
+        if (number != 0)
+            return number;
     }
     task->state = DONE;
     if (MUTANT == 26)

@@ -21,6 +21,7 @@ static void lay_out_tasks(struct sim_rig *rig, const uint8_t *plan, const struct
 {
     uint32_t place = 0;
     memset(rig->task, 0, (rig->tasks + 1) * sizeof rig->task[0]);
+    memset(rig->parent, 0, (rig->tasks + 1) * sizeof rig->parent[0]);
     for (uint32_t t = 1; t <= rig->tasks; t++) {
         rig->task[t].place = (uint16_t)place;
         rig->task[t].parent = users->creator[t];
@@ -62,6 +63,6 @@ uint32_t sim_start(struct sim_rig *rig, uint32_t desks, const uint8_t *plan, siz
     read_code(rig, plan + 4 + 4 * rig->tasks, sim_u16(plan + 2));
     lay_out_tasks(rig, plan, &users);
     link_channels(rig, &users);
-    sim_birth(rig, &rig->task[1], 1);
+    sim_birth(rig, 1, 1, (struct sim_pointer){0, 0});
     return 0;
 }

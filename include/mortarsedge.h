@@ -106,7 +106,7 @@ enum mortarsedge_answer {
     MORTARSEDGE_NO_LETTER = 14,       /* no letter at this position */
     MORTARSEDGE_NO_DESK = 15,         /* a move to a desk outside the rig */
     MORTARSEDGE_SAME_DESK = 16,       /* the task is at this desk already */
-    MORTARSEDGE_MOVE_CHILDREN = 17,   /* a move with living children */
+    MORTARSEDGE_MOVE_CHILDREN = 17,   /* unused: a task with living children may move */
     MORTARSEDGE_MOVE_COUNT = 18,      /* the task's move count is 9,999; no step file has so many moves */
     MORTARSEDGE_BAD_STEP = 19,        /* a kind not 1 to 3, or an unused field not zero */
     /* Of the output. */
@@ -354,7 +354,7 @@ static inline const char *mortarsedge_refusal_text(uint32_t number)
     case MORTARSEDGE_SAME_DESK:
         return "task already at this desk";
     case MORTARSEDGE_MOVE_CHILDREN:
-        return "move with living children";
+        return "unused: a task with living children may move";
     case MORTARSEDGE_MOVE_COUNT:
         return "move count 9,999";
     case MORTARSEDGE_BAD_STEP:

@@ -6,11 +6,12 @@ use mathlib.Core.Logic.{_≢_, by-cases}
 use Prim.Native.Nat.{ℕ, zero, suc, _+_, _-_, _*_, _/_, _%_, _^_, _<_, _≤_}
 use native.Mathlib.Nat.{add-div-right, add-mul-div-right, zero-div, div-lt-iff-lt-mul, div-eq-of-lt}
 use native.Mathlib.Omega.{arith}
-use native.Mathlib.Decide.{decLt}
+use native.Mathlib.Decide.{ℕ-discrete, decLt}
 use lib.Pow.{pow-add, pow-pos, shr-shr}
 use lib.Dec.{eqb}
 use borrow.Author.Tests.{eqb-true, eqb-false, eq-eqb, ne-eqb}
-use Rattle.base.specs.Sets.{member, inserted, removed}
+use Rattle.base.specs.Sets.{member, inserted, removed, removedAll}
+use Rattle.base.proofs.Tests.{tests-differ}
 use Rattle.base.proofs.Choices.{pick-cases}
 
 -- bit k of s
@@ -127,6 +128,59 @@ module _ (t s : ℕ) where
   pub removed-at-most : removed t s ≤ s
   unfolding removed
   removed-at-most = pick-cases (λ x. x ≤ s) (member t s) (s - 2 ^ (t - 1)) s (λ e. omega arith) (λ e. omega arith)
+
+-- a set without those of 1 .. n that are in the set h
+pub removed-all-at-most : (n h s : ℕ) → removedAll n h s ≤ s
+unfolding removedAll
+removed-all-at-most zero h s = omega arith
+removed-all-at-most (suc n) h s =
+    let q : ℕ = removedAll n h s in
+    let l = removed-all-at-most n h s in
+    pick-cases (λ x. x ≤ s) (member (suc n) h) (removed (suc n) q) q (λ e. omega (arith, removed-at-most (suc n) q)) (λ e. l)
+
+-- what is in it then was in it before
+pub removed-inside : (t s u : ℕ) → 1 ≤ t → 1 ≤ u → member u (removed t s) ≡ true → member u s ≡ true
+removed-inside t s u some other e =
+    by-cases
+    (ℕ-discrete t u)
+    (λ (z : t ≡ u). absurd (tests-differ e (rw z (member-removed u s))))
+    (λ ne. sym (other-removed t s u some other ne) ∙ e)
+
+pub removed-all-inside : (n h s u : ℕ) → 1 ≤ u → member u (removedAll n h s) ≡ true → member u s ≡ true
+unfolding removedAll
+removed-all-inside zero h s u some e = e
+removed-all-inside (suc n) h s u some f =
+    let q : ℕ = removedAll n h s in
+    pick-cases (λ x. member u x ≡ true → member u s ≡ true) (member (suc n) h) (removed (suc n) q) q
+    (λ i e. removed-all-inside n h s u some (removed-inside (suc n) q u (omega arith) some e))
+    (λ i e. removed-all-inside n h s u some e)
+    f
+
+-- a number that is not in h stays as it was
+pub removed-all-other : (n h s t : ℕ) → 1 ≤ t → member t h ≡ false → member t (removedAll n h s) ≡ member t s
+unfolding removedAll
+removed-all-other zero h s t some out = refl
+removed-all-other (suc n) h s t some out =
+    let q : ℕ = removedAll n h s in
+    pick-cases (λ x. member t x ≡ member t s) (member (suc n) h) (removed (suc n) q) q
+    (λ (e : member (suc n) h ≡ true).
+    other-removed (suc n) q t (omega arith) some (λ (z : suc n ≡ t). tests-differ e (rw (← z) at out)) ∙ removed-all-other n h s t some out)
+    (λ e. removed-all-other n h s t some out)
+
+-- one that is in h is out
+pub removed-all-out : (n h s t : ℕ) → 1 ≤ t → t ≤ n → member t h ≡ true → member t (removedAll n h s) ≡ false
+unfolding removedAll
+removed-all-out zero h s t some few in-h = absurd (omega arith)
+removed-all-out (suc n) h s t some few in-h =
+    let q : ℕ = removedAll n h s in
+    by-cases
+    (ℕ-discrete t (suc n))
+    (λ (z : t ≡ suc n). let i : member (suc n) h ≡ true = rw z at in-h in rw (z, i) (member-removed (suc n) q))
+    (λ ne.
+    let out = removed-all-out n h s t some (omega arith) in-h in
+    pick-cases (λ x. member t x ≡ false) (member (suc n) h) (removed (suc n) q) q
+    (λ e. other-removed (suc n) q t (omega arith) some (λ z. ne (sym z)) ∙ out)
+    (λ e. out))
 
 -- the empty set
 pub none-member : (t : ℕ) → member t 0 ≡ false

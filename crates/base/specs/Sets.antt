@@ -1,6 +1,6 @@
 -- A set of numbers from 1 on, in the bits of one number: t is in it where bit t - 1 is one.
 use mathlib.Core.Bool.{Bool}
-use Prim.Native.Nat.{ℕ, _+_, _-_, _/_, _%_, _^_}
+use Prim.Native.Nat.{ℕ, zero, suc, _+_, _-_, _/_, _%_, _^_}
 use lib.Dec.{eqb}
 use Rattle.base.specs.Choice.{pick}
 
@@ -13,3 +13,10 @@ inserted t s = pick (member t s) s (s + 2 ^ (t - 1))
 
 unfoldable pub removed : ℕ → ℕ → ℕ
 removed t s = pick (member t s) (s - 2 ^ (t - 1)) s
+
+-- the set s without those of 1 .. n that are in the set h
+unfoldable pub removedAll : ℕ → ℕ → ℕ → ℕ
+removedAll zero h s = s
+removedAll (suc n) h s =
+    let q = removedAll n h s in
+    pick (member (suc n) h) (removed (suc n) q) q

@@ -8,10 +8,10 @@ use lib.ListN.{getD, set, length, length-set}
 use lib.Seq.{getD-set-same, getD-set-other}
 use Rattle.base.specs.Lists.{table}
 use Rattle.base.proofs.Tables.{getD-table, table-same, set-table}
-use Rattle.board.specs.packing.Packed.{taskOf}
+use Rattle.board.specs.packing.Packed.{taskOf, byte2, low16}
 use Rattle.rules.specs.declared.task.Task.{Task}
 use Rattle.rules.specs.Tasks.{noTask}
-use Rattle.board.specs.Lent.{channelColumn, taskOn, tasksOn}
+use Rattle.board.specs.Lent.{channelColumn, taskOn, tasksOn, parentColumn, parentsOn}
 
 module _ {A : Type 0} (f : ℕ → A) (board : List ℕ) where
   pub getD-channel : (i : ℕ) (d : A) → i < 128 → getD (channelColumn f board) i d ≡ f (getD board i 0)
@@ -39,20 +39,57 @@ module _ (board : List ℕ) where
   unfolding tasksOn
   getD-task k d h = getD-table 64 (taskOn board) k d h
 
-  pub keep-tasks : (i w : ℕ) → i < 128 → tasksOn (set board i w) ≡ tasksOn board
+  tasks-beside : (i w : ℕ) → ((j : ℕ) → 128 ≤ j → j < 320 → j ≢ i) → tasksOn (set board i w) ≡ tasksOn board
   unfolding tasksOn
-  keep-tasks i w h =
+  tasks-beside i w other =
       table-same 64 (taskOn (set board i w)) (taskOn board)
       (λ j b.
       rw (
-        getD-set-other board i (128 + 2 * j) w 0 (λ (e : 128 + 2 * j ≡ i). omega arith),
-        getD-set-other board i (129 + 2 * j) w 0 (λ (e : 129 + 2 * j ≡ i). omega arith),
-        getD-set-other board i (256 + j) w 0 (λ (e : 256 + j ≡ i). omega arith),
+        getD-set-other board i (128 + 2 * j) w 0 (other (128 + 2 * j) (omega arith) (omega arith)),
+        getD-set-other board i (129 + 2 * j) w 0 (other (129 + 2 * j) (omega arith) (omega arith)),
+        getD-set-other board i (256 + j) w 0 (other (256 + j) (omega arith) (omega arith)),
       )
       refl)
 
+  pub keep-tasks : (i w : ℕ) → i < 128 → tasksOn (set board i w) ≡ tasksOn board
+  keep-tasks i w h = tasks-beside i w (λ j low high (e : j ≡ i). omega arith)
+
+  pub keep-tasks-above : (i w : ℕ) → 320 ≤ i → tasksOn (set board i w) ≡ tasksOn board
+  keep-tasks-above i w h = tasks-beside i w (λ j low high (e : j ≡ i). omega arith)
+
+-- a column of what desks keep for parents, whose numbers are at start, start + 2, ..
+module _ (f : ℕ → ℕ) (start : ℕ) (board : List ℕ) where
+  pub getD-parent : (i d : ℕ) → i < 384 → getD (parentColumn f start board) i d ≡ f (getD board (start + 2 * i) 0)
+  unfolding parentColumn
+  getD-parent i d h = getD-table 384 (λ k. f (getD board (start + 2 * k) 0)) i d h
+
+  pub set-parent : (i w v : ℕ) → i < 384 → start + 2 * i < length board → f w ≡ v
+      → parentColumn f start (set board (start + 2 * i) w) ≡ set (parentColumn f start board) i v
+  unfolding parentColumn
+  set-parent i w v h l e =
+      sym
+      (ap (λ (x : ℕ). set (table 384 (λ k. f (getD board (start + 2 * k) 0))) i x) (sym e ∙ ap f (sym (getD-set-same board (start + 2 * i) w 0 l)))
+      ∙ set-table 384 (λ k. f (getD board (start + 2 * k) 0)) (λ k. f (getD (set board (start + 2 * i) w) (start + 2 * k) 0)) i 0 h
+      (λ j b ne. ap f (sym (getD-set-other board (start + 2 * i) (start + 2 * j) w 0 (λ (q : start + 2 * j ≡ start + 2 * i). ne (omega arith))))))
+
+  pub keep-parent : (i w : ℕ) → ((j : ℕ) → j < 384 → start + 2 * j ≢ i) → parentColumn f start (set board i w) ≡ parentColumn f start board
+  unfolding parentColumn
+  keep-parent i w other =
+      table-same 384 (λ k. f (getD (set board i w) (start + 2 * k) 0)) (λ k. f (getD board (start + 2 * k) 0))
+      (λ j b. ap f (getD-set-other board i (start + 2 * j) w 0 (other j b)))
+
+pub keep-parents : (board : List ℕ) (i w : ℕ) → i < 320 → parentsOn (set board i w) ≡ parentsOn board
+unfolding parentsOn
+keep-parents board i w h =
+    rw (
+      keep-parent byte2 320 board i w (λ j b (e : 320 + 2 * j ≡ i). omega arith),
+      keep-parent low16 320 board i w (λ j b (e : 320 + 2 * j ≡ i). omega arith),
+      keep-parent (λ v. v) 321 board i w (λ j b (e : 321 + 2 * j ≡ i). omega arith),
+    )
+    refl
+
 -- the three numbers of task k + 1 are stored
-module _ (board : List ℕ) (k w c v : ℕ) (h : k < 64) (l : length board ≡ 320) where
+module _ (board : List ℕ) (k w c v : ℕ) (h : k < 64) (l : length board ≡ 1088) where
   abbrev one : List ℕ
   one = set board (128 + 2 * k) w
 
@@ -62,7 +99,7 @@ module _ (board : List ℕ) (k w c v : ℕ) (h : k < 64) (l : length board ≡ 3
   abbrev three : List ℕ
   three = set two (256 + k) v
 
-  long : length two ≡ 320
+  long : length two ≡ 1088
   long = simp (length-set, l)
 
   past : (i : ℕ) → i ≢ 128 + 2 * k → i ≢ 129 + 2 * k → i ≢ 256 + k → getD three i 0 ≡ getD board i 0

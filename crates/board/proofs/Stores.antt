@@ -21,10 +21,12 @@ use Rattle.rules.specs.declared.task.TaskState.the-variants.{Unborn, Ready, Wai
 use Rattle.rules.specs.declared.channel.Hint.{Hint}
 use Rattle.rules.specs.Cells.{withNoted}
 use Rattle.rules.specs.Tasks.{noTask}
-use Rattle.rules.specs.Systems.{entryIndex, readChannel, writeChannel, store, cellStored, taskIn}
-use Rattle.board.specs.packing.Packed.{taskOf, taskWord, wordOf, wordNumber, firstNumber, stateOf, stateNumber, channelOf, channelWord, travellingWord, low16, byte2, byte3, byte4, byte5, mark6, bit}
-use Rattle.board.specs.Lent.{lent, channelColumn, channelsOn, tasksOn, storeOf, hintIn, heldIn, noteIn, SameAbove, ChannelPut, travels}
-use Rattle.board.proofs.Laws.{getD-channel, set-channel, keep-channel-above, getD-task, set-task, keep-tasks}
+use Rattle.rules.specs.Systems.{entryIndex, parentIndex, readChannel, writeChannel, store, cellStored, taskIn}
+use Rattle.rules.specs.Starts.{pointing}
+use Rattle.rig_parts.specs.Sweeps.{parentIn}
+use Rattle.board.specs.packing.Packed.{hintOf, hintWord, taskOf, taskWord, wordOf, wordNumber, firstNumber, stateOf, stateNumber, channelOf, channelWord, travellingWord, low16, byte2, byte3, byte4, byte5, mark6, bit}
+use Rattle.board.specs.Lent.{lent, channelColumn, channelsOn, tasksOn, parentColumn, parentsOn, storeOf, hintIn, heldIn, noteIn, SameAbove, ChannelPut, ParentPut, travels}
+use Rattle.board.proofs.Laws.{getD-channel, set-channel, keep-channel-above, getD-task, set-task, keep-tasks, keep-tasks-above, getD-parent, set-parent, keep-parent, keep-parents}
 
 pub task-read : (board : List ℕ) (n : ℕ) {m : ℕ} → m ≡ n → 1 ≤ n → n ≤ 64
     → taskOf (getD board (126 + 2 * m) 0) (getD board (126 + 2 * m + 1) 0) (getD board (255 + m) 0) ≡ getD (tasksOn board) (n - 1) noTask
@@ -63,7 +65,7 @@ abbrev pub NarrowWord : Word → Type 0
 NarrowWord w = (w .0 < 65536) × (w .1 < 65536) × (w .2 < 65536) × (w .3 < 65536)
 
 abbrev pub NarrowTask : Task → Type 0
-NarrowTask x = (x .processor .0 < 256) × (x .pc < 256) × (x .home .0 < 256) × (x .moves < 65536) × NarrowWord (x .word)
+NarrowTask x = (x .processor .0 < 256) × (x .pc < 256) × (x .origin .processor .0 < 256) × (x .origin .moves < 65536) × (x .moves < 65536) × NarrowWord (x .word)
 
 same-word : (w : Word) → NarrowWord w → wordOf (wordNumber w) ≡ w
 unfolding wordOf
@@ -92,7 +94,7 @@ bit-of-mark false = refl
 same-task : (x : Task) → NarrowTask x → taskOf (taskWord x) (x .children) (wordNumber (x .word)) ≡ x
 unfolding taskOf
 same-task x n =
-    rw (p0, p1, p2, p3, p5, p6, state-of-number (x .state), bit-of-mark (x .overflow), same-word (x .word) (n .4)) refl
+    rw (p0, p1, p2, p3, p4, p5, p6, state-of-number (x .state), bit-of-mark (x .overflow), same-word (x .word) (n .5)) refl
   where
     p0 : taskWord x % 128 ≡ stateNumber (x .state)
     p0 = omega (arith, state-below (x .state), bit-below (x .overflow), n)
@@ -103,8 +105,11 @@ same-task x n =
     p2 : taskWord x / 65536 % 256 ≡ x .pc
     p2 = omega (arith, state-below (x .state), bit-below (x .overflow), n)
 
-    p3 : taskWord x / 16777216 % 256 ≡ x .home .0
+    p3 : taskWord x / 16777216 % 256 ≡ x .origin .processor .0
     p3 = omega (arith, state-below (x .state), bit-below (x .overflow), n)
+
+    p4 : taskWord x / 4294967296 % 65536 ≡ x .origin .moves
+    p4 = omega (arith, state-below (x .state), bit-below (x .overflow), n)
 
     p5 : taskWord x / 128 % 2 ≡ bit (x .overflow)
     p5 = omega (arith, state-below (x .state), bit-below (x .overflow), n)
@@ -121,7 +126,7 @@ first-number v w s =
     let c = s .2 in
     omega arith
 
-module _ (board : List ℕ) (n : ℕ) (x : Task) {m w v : ℕ} (e : m ≡ n) (one : 1 ≤ n) (most : n ≤ 64) (long : length board ≡ 320) (we : w ≡ taskWord x) (ve : v ≡ wordNumber (x .word)) (small : NarrowTask x) where
+module _ (board : List ℕ) (n : ℕ) (x : Task) {m w v : ℕ} (e : m ≡ n) (one : 1 ≤ n) (most : n ≤ 64) (long : length board ≡ 1088) (we : w ≡ taskWord x) (ve : v ≡ wordNumber (x .word)) (small : NarrowTask x) where
   abbrev after : List ℕ
   after = set (set (set board (126 + 2 * m) w) (126 + 2 * m + 1) (x .children)) (255 + m) v
 
@@ -142,6 +147,12 @@ module _ (board : List ℕ) (n : ℕ) (x : Task) {m w v : ℕ} (e : m ≡ n) (on
   unfolding channelsOn
   channels-kept = rw (kept byte5, kept mark6, kept byte3, kept byte4, kept byte2, kept low16) refl
 
+  pub parents-kept : parentsOn after ≡ parentsOn board
+  parents-kept =
+      keep-parents (set (set board (126 + 2 * m) w) (126 + 2 * m + 1) (x .children)) (255 + m) v (omega arith)
+      ∙ keep-parents (set board (126 + 2 * m) w) (126 + 2 * m + 1) (x .children) (omega arith)
+      ∙ keep-parents board (126 + 2 * m) w (omega arith)
+
 pub channel-read : (board : List ℕ) (k : ℕ) → k < 128 → channelOf (getD board k 0) ≡ readChannel (channelsOn board) k
 unfolding channelsOn channelOf
 channel-read board k h =
@@ -156,7 +167,7 @@ mark-of : (a : ℕ) (b : Bool) → a < 281474976710656 → mark6 (a + 2814749767
 mark-of a true h = let e : (a + 281474976710656 * 1) / 281474976710656 % 2 ≡ 1 = omega arith in rw e refl
 mark-of a false h = let e : (a + 281474976710656 * 0) / 281474976710656 % 2 ≡ 0 = omega arith in rw e refl
 
-module _ (board : List ℕ) (k : ℕ) (y : Channel) {w : ℕ} (most : k < 128) (long : length board ≡ 320) (we : w ≡ channelWord y) (small : NarrowChannel y) where
+module _ (board : List ℕ) (k : ℕ) (y : Channel) {w : ℕ} (most : k < 128) (long : length board ≡ 1088) (we : w ≡ channelWord y) (small : NarrowChannel y) where
   column : {A : Type 0} (f : ℕ → A) (v def : A) → f (channelWord y) ≡ v → channelColumn f (set board k w) ≡ set (channelColumn f board) k v
   column f v def q = set-channel f board k w v def most (omega arith) (ap f we ∙ q)
 
@@ -172,7 +183,7 @@ module _ (board : List ℕ) (k : ℕ) (y : Channel) {w : ℕ} (most : k < 128) (
       refl
 
   pub channel-put : ChannelPut k y board (set board k w)
-  channel-put = (simp (length-set, long), channel-written, keep-tasks board k w most)
+  channel-put = (simp (length-set, long), channel-written, keep-tasks board k w most, keep-parents board k w (omega arith))
 
 -- the travelling pointer of a channel's own entry is stored, in the lowest 24 bits; the bits above them stay
 module _ (v p m : ℕ) (pe : p < 256) (me : m < 65536) where
@@ -197,7 +208,7 @@ module _ (v p m : ℕ) (pe : p < 256) (me : m < 65536) where
   counted : low16 anew ≡ m
   counted = omega arith
 
-module _ (board : List ℕ) (k : ℕ) (h : Hint) {w : ℕ} (most : k < 128) (long : length board ≡ 320) (we : w ≡ travellingWord (getD board k 0) h) (pe : h .processor .0 < 256) (me : h .moves < 65536) where
+module _ (board : List ℕ) (k : ℕ) (h : Hint) {w : ℕ} (most : k < 128) (long : length board ≡ 1088) (we : w ≡ travellingWord (getD board k 0) h) (pe : h .processor .0 < 256) (me : h .moves < 65536) where
   stays : {A : Type 0} (f : ℕ → A) (def : A) → f (travellingWord (getD board k 0) h) ≡ f (getD board k 0) → channelColumn f (set board k w) ≡ set (channelColumn f board) k (getD (channelColumn f board) k def)
   stays f def q = set-channel f board k w (getD (channelColumn f board) k def) def most (omega arith) (ap f we ∙ q ∙ sym (getD-channel f board k def most))
 
@@ -215,7 +226,62 @@ module _ (board : List ℕ) (k : ℕ) (h : Hint) {w : ℕ} (most : k < 128) (lon
       refl
 
   pub travelling-put : ChannelPut k (travels (readChannel (channelsOn board) k) h) board (set board k w)
-  travelling-put = (simp (length-set, long), travelling-written, keep-tasks board k w most)
+  travelling-put = (simp (length-set, long), travelling-written, keep-tasks board k w most, keep-parents board k w (omega arith))
+
+-- a number behind the channels is stored
+channels-above : (board : List ℕ) (i w : ℕ) → 128 ≤ i → channelsOn (set board i w) ≡ channelsOn board
+unfolding channelsOn
+channels-above board i w h =
+    rw (
+      keep-channel-above byte5 board i w h,
+      keep-channel-above mark6 board i w h,
+      keep-channel-above byte3 board i w h,
+      keep-channel-above byte4 board i w h,
+      keep-channel-above byte2 board i w h,
+      keep-channel-above low16 board i w h,
+    )
+    refl
+
+-- what a desk keeps for a parent is read
+pub parent-read : (board : List ℕ) (d : ProcessorId) (t : TaskId) {i : ℕ} → i ≡ parentIndex d t → i < 384
+    → record { hint = hintOf (getD board (320 + 2 * i) 0); held = getD board (320 + 2 * i + 1) 0 } ≡ parentIn (parentsOn board) d t
+unfolding parentsOn
+parent-read board d t {i} e h =
+    let a : 320 + 2 * i + 1 ≡ 321 + 2 * i = omega arith in
+    rw (← e, a, getD-parent byte2 320 board i 0 h, getD-parent low16 320 board i 0 h, getD-parent (λ v. v) 321 board i 0 h) refl
+
+-- and stored: the pointer, and the children that are held
+module _ (board : List ℕ) (d : ProcessorId) (t : TaskId) {i w : ℕ} (e : i ≡ parentIndex d t) (most : i < 384) (long : length board ≡ 1088) where
+  module _ (h : Hint) (we : w ≡ hintWord h) (pe : h .processor .0 < 256) (me : h .moves < 65536) where
+    abbrev pointed : List ℕ
+    pointed = set board (320 + 2 * i) w
+
+    pointed-toward : parentColumn byte2 320 pointed ≡ set (parentColumn byte2 320 board) i (h .processor .0)
+    pointed-toward = set-parent byte2 320 board i w (h .processor .0) most (omega arith) (rw we (omega arith))
+
+    pointed-moves : parentColumn low16 320 pointed ≡ set (parentColumn low16 320 board) i (h .moves)
+    pointed-moves = set-parent low16 320 board i w (h .moves) most (omega arith) (rw we (omega arith))
+
+    pointed-held : parentColumn (λ v. v) 321 pointed ≡ parentColumn (λ v. v) 321 board
+    pointed-held = keep-parent (λ v. v) 321 board (320 + 2 * i) w (λ j b (q : 321 + 2 * j ≡ 320 + 2 * i). omega arith)
+
+    -- the pointer alone
+    pub pointer-put : ParentPut d t (pointing (parentIn (parentsOn board) d t) h) board pointed
+    unfolding parentsOn
+    pointer-put =
+        (simp (length-set, long), rw (← e, pointed-toward, pointed-moves, pointed-held, set-getD (parentColumn (λ v. v) 321 board) i 0) refl, keep-tasks-above board (320 + 2 * i) w (omega arith), channels-above board (320 + 2 * i) w (omega arith))
+
+    -- both
+    pub parent-put : (s : ℕ) → ParentPut d t (record { hint = h; held = s }) board (set pointed (320 + 2 * i + 1) s)
+    unfolding parentsOn
+    parent-put s =
+        let a : 320 + 2 * i + 1 ≡ 321 + 2 * i = omega arith in
+        let beside : (f : ℕ → ℕ) → parentColumn f 320 (set pointed (321 + 2 * i) s) ≡ parentColumn f 320 pointed =
+        λ f. keep-parent f 320 pointed (321 + 2 * i) s (λ j b (q : 320 + 2 * j ≡ 321 + 2 * i). omega arith) in
+        let held : parentColumn (λ v. v) 321 (set pointed (321 + 2 * i) s) ≡ set (parentColumn (λ v. v) 321 pointed) i s =
+        set-parent (λ v. v) 321 pointed i s s most (rw (length-set board (320 + 2 * i) w, long) (omega arith)) refl in
+        rw a
+        (simp (length-set, long), rw (← e, beside byte2, beside low16, held, pointed-toward, pointed-moves, pointed-held) refl, keep-tasks-above pointed (321 + 2 * i) s (omega arith) ∙ keep-tasks-above board (320 + 2 * i) w (omega arith), channels-above pointed (321 + 2 * i) s (omega arith) ∙ channels-above board (320 + 2 * i) w (omega arith))
 
 -- a cell is stored where each column has what it leaves there: a column that it leaves as it was need not be written (`set-getD`)
 module _ (hp hm op on notes : List ℕ) (k : Channels) (d : ProcessorId) (c : ChannelId) (x : Cell) {hp' hm' op' on' notes' : List ℕ} {k' : Channels} where

@@ -1,5 +1,6 @@
--- What a run lends: five tables of 768 entries, as the rig struct has them, and a board of 320 numbers: channel c's own entry at c - 1,
--- task t at 126 + 2 t and behind it its children, its word at 255 + t.
+-- What a run lends: five tables of 768 entries, as the rig struct has them, and a board of 1088 numbers: channel c's own entry at c - 1,
+-- task t at 126 + 2 t and behind it its children, its word at 255 + t; what desk d keeps for parent t, entry i of 384, at 320 + 2 i its
+-- pointer and behind it the children that are held.
 use mathlib.Core.List.{List}
 use mathlib.Core.Path.{_≡_}
 use Prim.Native.Nat.{ℕ, _+_, _*_, _≤_}
@@ -14,10 +15,14 @@ use Rattle.rules.specs.declared.channel.Hint.{Hint}
 use Rattle.rules.specs.declared.channel.Offer.{Offer}
 use Rattle.rules.specs.declared.task.Task.{Task}
 use Rattle.rules.specs.declared.system.Channels.{Channels}
+use Rattle.rules.specs.declared.system.Parents.{Parents}
+use Rattle.rules.specs.declared.system.ParentEntry.{ParentEntry}
 use Rattle.rules.specs.declared.system.Store.{Store}
 use Rattle.rules.specs.Numbers.{processorId}
 use Rattle.rules.specs.Cells.{hint, offer}
 use Rattle.rules.specs.Systems.{entryIndex, writeChannel, store, taskStored}
+use Rattle.rig_parts.specs.declared.kept.Kept.{Kept}
+use Rattle.rig_parts.specs.Sweeps.{parentStored}
 use Rattle.board.specs.packing.Packed.{low16, byte2, byte3, byte4, byte5, mark6, taskOf}
 
 -- all that is lent to be written, in the order of the parameters
@@ -35,7 +40,7 @@ lent hintprocessors hintmoves heldprocessors heldnumbers notes board =
 
 -- the board has all its numbers; of the tables no length is needed: they are columns as they are
 abbrev pub Whole : List ℕ → Type 0
-Whole board = length board ≡ 320
+Whole board = length board ≡ 1088
 
 unfoldable pub channelColumn : {A : Type 0} → (ℕ → A) → List ℕ → List A
 channelColumn f board = table 128 (λ k. f (getD board k 0))
@@ -58,12 +63,29 @@ taskOn board k = taskOf (getD board (128 + 2 * k) 0) (getD board (129 + 2 * k) 0
 unfoldable pub tasksOn : List ℕ → List Task
 tasksOn board = table 64 (taskOn board)
 
+-- what desks keep for parents, column by column; the held children are a number as it is
+unfoldable pub parentColumn : (ℕ → ℕ) → ℕ → List ℕ → List ℕ
+parentColumn f start board = table 384 (λ k. f (getD board (start + 2 * k) 0))
+
+unfoldable pub parentsOn : List ℕ → Parents
+parentsOn board = record { hintprocessors = parentColumn byte2 320 board; hintmoves = parentColumn low16 320 board; held = parentColumn (λ v. v) 321 board }
+
 abbrev pub tasksOf : Lent → List Task
 tasksOf l = tasksOn (l .board)
 
 abbrev pub storeOf : Lent → Store
 storeOf l =
     store (record { hintprocessors = l .hintprocessors; hintmoves = l .hintmoves; heldprocessors = l .heldprocessors; heldnumbers = l .heldnumbers; notes = l .notes }) (channelsOn (l .board))
+
+-- what is kept for channels and for parents
+abbrev pub keptOf : Lent → Kept
+keptOf l = record { store = storeOf l; parents = parentsOn (l .board) }
+
+-- desk d is one of six, and t one of 64 tasks or none
+pub record AtParent (d : ProcessorId) (t : TaskId) : Type 0 where
+  pub processor-low : 1 ≤ d .0
+  pub processor : d .0 ≤ 6
+  pub task : t .0 ≤ 64
 
 -- desk d is one of six, and channel c one of 128
 pub record AtCell (d : ProcessorId) (c : ChannelId) : Type 0 where
@@ -101,11 +123,18 @@ abbrev pub HeldPut : ℕ → Offer → List ℕ → List ℕ → List ℕ → Li
 HeldPut i o heldprocessors heldnumbers heldprocessors' heldnumbers' = (heldprocessors' ≡ set heldprocessors i (o .processor .0)) × (heldnumbers' ≡ set heldnumbers i (o .number))
 
 abbrev pub TaskPut : TaskId → Task → List ℕ → List ℕ → Type 0
-TaskPut t x board board' = (Whole board') × (tasksOn board' ≡ taskStored (tasksOn board) t x) × (channelsOn board' ≡ channelsOn board)
+TaskPut t x board board' =
+    (Whole board') × (tasksOn board' ≡ taskStored (tasksOn board) t x) × (channelsOn board' ≡ channelsOn board) × (parentsOn board' ≡ parentsOn board)
 
 -- two words differ on level 0 at most
 abbrev pub SameAbove : Word → Word → Type 0
 SameAbove w z = (w .1 ≡ z .1) × (w .2 ≡ z .2) × (w .3 ≡ z .3)
 
 abbrev pub ChannelPut : ℕ → Channel → List ℕ → List ℕ → Type 0
-ChannelPut i y board board' = (Whole board') × (channelsOn board' ≡ writeChannel (channelsOn board) i y) × (tasksOn board' ≡ tasksOn board)
+ChannelPut i y board board' =
+    (Whole board') × (channelsOn board' ≡ writeChannel (channelsOn board) i y) × (tasksOn board' ≡ tasksOn board) × (parentsOn board' ≡ parentsOn board)
+
+-- what a desk keeps for a parent became e, on the board
+abbrev pub ParentPut : ProcessorId → TaskId → ParentEntry → List ℕ → List ℕ → Type 0
+ParentPut d t e board board' =
+    (Whole board') × (parentsOn board' ≡ parentStored (parentsOn board) d t e) × (tasksOn board' ≡ tasksOn board) × (channelsOn board' ≡ channelsOn board)

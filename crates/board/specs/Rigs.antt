@@ -13,7 +13,7 @@ use Rattle.rig_parts.specs.Openings.{openedIn}
 use Rattle.plan_index.specs.user_table.Users.{sendersOf, receiversOf, parentsOf, Indexed}
 use Rattle.board.specs.declared.act.Act.{Act}
 use Rattle.board.specs.declared.act.Size.{Size}
-use Rattle.board.specs.Lent.{Lent, lent, Whole, tasksOf, storeOf}
+use Rattle.board.specs.Lent.{Lent, lent, Whole, tasksOf, keptOf}
 use Rattle.board.specs.Acted.{Acted, actOf, plainAct}
 use Rattle.board.specs.Verdicts.{stepVerdict}
 
@@ -24,7 +24,7 @@ factsIn count codes numbers users = facts count codes numbers (sendersOf users) 
 -- what is lent is a rig that 9 does not refuse, with the index of its plan
 pub record RigOn (codes numbers users : List ℕ) (n : Size) (l : Lent) : Type 0 where
   pub whole : Whole (l .board)
-  pub parts : PartsOf (factsIn (n .tasks) codes numbers users) (n .processors) (tasksOf l) (storeOf l) (n .used)
+  pub parts : PartsOf (factsIn (n .tasks) codes numbers users) (n .processors) (tasksOf l) (keptOf l) (n .used)
   pub indexed : Indexed users
 
 -- a letter can be opened: no numbers and counts are lent for that
@@ -38,13 +38,13 @@ pub record Opens (codes users : List ℕ) (l : Lent) (m : Message) : Type 0 wher
 abbrev pub Opened : List ℕ → List ℕ → Message → Lent → Act → Lent → Type 0
 Opened codes users m l r l' =
     (count : ℕ) (numbers : List ℕ)
-    → Acted (sendersOf users) (receiversOf users) (Allowed (openedIn (factsIn count codes numbers users) (tasksOf l) (storeOf l) m)) l r l'
+    → Acted (sendersOf users) (receiversOf users) (Allowed (openedIn (factsIn count codes numbers users) (tasksOf l) (keptOf l) m)) l r l'
 
 -- this is what opening it would do
 abbrev pub Opening : List ℕ → List ℕ → Message → Lent → Act → Type 0
 Opening codes users m l r =
     (count : ℕ) (numbers : List ℕ)
-    → r ≡ actOf (Allowed (openedIn (factsIn count codes numbers users) (tasksOf l) (storeOf l) m))
+    → r ≡ actOf (Allowed (openedIn (factsIn count codes numbers users) (tasksOf l) (keptOf l) m))
 
 -- a task can run, by the board alone
 pub record RunsOn (codes : List ℕ) (n : Size) (board : List ℕ) : Type 0 where
@@ -64,6 +64,6 @@ Worded codes n x board r board' =
     × (r ≡ true → (numbers users hintprocessors hintmoves heldprocessors heldnumbers notes : List ℕ)
     → let l = lent hintprocessors hintmoves heldprocessors heldnumbers notes board in
     Acted (sendersOf users) (receiversOf users)
-    (stepVerdict (factsIn (n .tasks) codes numbers users) (n .processors) (tasksOf l) (storeOf l) (n .used) x)
+    (stepVerdict (factsIn (n .tasks) codes numbers users) (n .processors) (tasksOf l) (keptOf l) (n .used) x)
     l plainAct
     (lent hintprocessors hintmoves heldprocessors heldnumbers notes board'))

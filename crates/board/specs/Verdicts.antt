@@ -5,16 +5,16 @@ use Rattle.base.specs.Choice.{unless}
 use Rattle.rules.specs.declared.task.Task.{Task}
 use Rattle.rules.specs.declared.step.Step.{Step}
 use Rattle.rules.specs.declared.step.StepAnswer.the-variants.{NoMessage, BadStep}
-use Rattle.rules.specs.declared.system.Store.{Store}
 use Rattle.rules.specs.Numbers.{taskId, processorId}
 use Rattle.rules.specs.Steps.{byKind, wellFormed}
+use Rattle.rig_parts.specs.declared.kept.Kept.{Kept}
 use Rattle.rig_parts.specs.declared.change.Verdict.{Verdict}
 use Rattle.rig_parts.specs.declared.change.Verdict.the-variants.{Refused}
 use Rattle.rig_parts.specs.Facts.{Facts}
 use Rattle.rig_parts.specs.RunVerdicts.{judgedRun}
 use Rattle.rig_parts.specs.MoveVerdicts.{judgedMove}
 
-unfoldable pub stepVerdict : Facts → ℕ → List Task → Store → ℕ → Step → Verdict
+unfoldable pub stepVerdict : Facts → ℕ → List Task → Kept → ℕ → Step → Verdict
 stepVerdict f n ts s used x =
     unless (wellFormed x) (Refused BadStep)
     (byKind x

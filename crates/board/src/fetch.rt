@@ -17,11 +17,12 @@ use rules::task::TaskState;
 pub fn no_task() -> Task
     ensures { λ r. ⌜ r ≡ noTask ⌝ }
 {
+    let nowhere = cell_rules::order::unknown();
     Task {
         state: TaskState::Unborn,
         processor: ProcessorId(0),
         pc: 0,
-        home: ProcessorId(0),
+        origin: nowhere,
         word: Word(0, 0, 0, 0),
         overflow: false,
         moves: 0,

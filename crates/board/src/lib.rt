@@ -1,4 +1,4 @@
-// What a run lends, five tables and a board of 320 numbers: what is read of it and stored.
+// What a run lends, five tables and a board of 1088 numbers: what is read of it and stored.
 
 // What a step says: its answer, what it received and what it posts.
 pub mod act;
@@ -14,18 +14,22 @@ pub mod sweeps;
 ghost use mathlib.Core.Path.{_≡_};
 ghost use Prim.Native.Nat.{_≤_, _<_, _-_, _+_, _*_};
 ghost use lib.ListN.{set};
-ghost use Rattle.rules.specs.Systems.{entryIndex, readChannel, writeChannel, taskIn};
-ghost use Rattle.board.specs.Lent.{Whole, AtCell, tasksOn, channelsOn, hintEntry, heldEntry, hintIn, heldIn, noteIn, HintPut, HeldPut, TaskPut, SameAbove, ChannelPut, travels};
+ghost use Rattle.rules.specs.Starts.{pointing};
+ghost use Rattle.rules.specs.Systems.{entryIndex, parentIndex, readChannel, taskIn};
+ghost use Rattle.rig_parts.specs.Sweeps.{parentIn};
+ghost use Rattle.board.specs.Lent.{Whole, AtCell, AtParent, tasksOn, channelsOn, parentsOn, hintEntry, heldEntry, hintIn, heldIn, noteIn, HintPut, HeldPut, TaskPut, SameAbove, ChannelPut, ParentPut, travels};
 use plan::ChannelId;
 use plan::ProcessorId;
 use plan::TaskId;
 use rules::channel::Channel;
 use rules::channel::Hint;
 use rules::channel::Offer;
+use rules::system::ParentEntry;
 use rules::task::Task;
 
-// Channel c's own entry at c - 1, task t at 126 + 2 t and behind it its children, its word at 255 + t.
-pub type Board = [u64; 320];
+// Channel c's own entry at c - 1, task t at 126 + 2 t and behind it its children, its word at 255 + t. Entry i of what desks keep
+// for parents at 320 + 2 i: a pointer, and behind it the children that are held.
+pub type Board = [u64; 1088];
 
 // Where channel c's own entry is.
 fn channel_index(c: ChannelId) -> usize
@@ -114,7 +118,7 @@ fn travelling_entry(board: &Board, k: usize) -> Hint
     requires { ⌜ k < 128 ⌝ }
     ensures { λ r. ⌜ r ≡ readChannel (channelsOn (now (board .entry))) k .travelling ⌝ }
 {
-    crate::packing::travelling_of(board[k])
+    crate::packing::hint_of(board[k])
 }
 
 // The travelling pointer of the channel whose own entry is at k becomes h; the rest of the entry stays.
@@ -137,7 +141,7 @@ pub fn channel_at(board: &Board, c: ChannelId) -> Channel
 // Channel c's own entry becomes y.
 pub fn put_channel(board: &mut Board, c: ChannelId, y: Channel)
     requires { ⌜ (1 ≤ c .0) × (c .0 ≤ 128) × Whole (now board) ⌝ }
-    ensures { λ r. ⌜ (Whole (now (board .exit))) × (channelsOn (now (board .exit)) ≡ writeChannel (channelsOn (now (board .entry))) (c .0 - 1) y) × (tasksOn (now (board .exit)) ≡ tasksOn (now (board .entry))) ⌝ }
+    ensures { λ r. ⌜ ChannelPut (c .0 - 1) y (now (board .entry)) (now (board .exit)) ⌝ }
 {
     put_channel_entry(board, channel_index(c), y);
 }
@@ -266,4 +270,48 @@ pub fn put_note(notes: &mut [u8; 768], d: ProcessorId, c: ChannelId, n: Processo
 {
     let i = entry_index(d, c);
     notes[i] = n.0;
+}
+
+// Where the entry of desk d for parent t is; for no task, where that for task 1 is.
+fn parent_index(d: ProcessorId, t: TaskId) -> usize
+    requires { ⌜ AtParent d t ⌝ }
+    ensures { λ r. ⌜ (r ≡ parentIndex d t) × (r < 384) ⌝ }
+{
+    let row = 64 * (base::wide8(d.0) - 1);
+    if t.0 == 0 {
+        return row;
+    }
+    row + (base::wide8(t.0) - 1)
+}
+
+// What desk d keeps for parent t.
+pub fn parent_at(board: &Board, d: ProcessorId, t: TaskId) -> ParentEntry
+    requires { ⌜ AtParent d t ⌝ }
+    ensures { λ r. ⌜ r ≡ parentIn (parentsOn (now (board .entry))) d t ⌝ }
+{
+    let at = 320 + 2 * parent_index(d, t);
+    let hint = crate::packing::hint_of(board[at]);
+    ParentEntry {
+        hint: hint,
+        held: board[at + 1],
+    }
+}
+
+// What desk d keeps for parent t becomes e.
+pub fn put_parent(board: &mut Board, d: ProcessorId, t: TaskId, e: ParentEntry)
+    requires { ⌜ (AtParent d t) × Whole (now board) ⌝ }
+    ensures { λ r. ⌜ ParentPut d t e (now (board .entry)) (now (board .exit)) ⌝ }
+{
+    let at = 320 + 2 * parent_index(d, t);
+    board[at] = crate::packing::hint_word(e.hint);
+    board[at + 1] = e.held;
+}
+
+// The pointer of desk d for parent t becomes h; the children that are held stay.
+pub fn point_parent(board: &mut Board, d: ProcessorId, t: TaskId, h: Hint)
+    requires { ⌜ (AtParent d t) × Whole (now board) ⌝ }
+    ensures { λ r. ⌜ ParentPut d t (pointing (parentIn (parentsOn (now (board .entry))) d t) h) (now (board .entry)) (now (board .exit)) ⌝ }
+{
+    let at = 320 + 2 * parent_index(d, t);
+    board[at] = crate::packing::hint_word(h);
 }

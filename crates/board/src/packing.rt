@@ -3,7 +3,7 @@
 ghost use mathlib.Core.Path.{_≡_};
 ghost use Prim.Native.Nat.{_%_, _<_};
 ghost use lib.Dec.{eqb};
-ghost use Rattle.board.specs.packing.Packed.{channelOf, channelWord, travellingWord, stateOf, stateNumber, taskOf, taskWord, wordOf, wordNumber, firstNumber, bit};
+ghost use Rattle.board.specs.packing.Packed.{hintOf, hintWord, channelOf, channelWord, travellingWord, stateOf, stateNumber, taskOf, taskWord, wordOf, wordNumber, firstNumber, bit};
 use plan::ProcessorId;
 use plan::Word;
 use rules::channel::Channel;
@@ -47,9 +47,9 @@ fn bit(b: bool) -> u64
     if b { 1 } else { 0 }
 }
 
-// The travelling pointer of a channel's own entry, read from its number.
-pub fn travelling_of(v: u64) -> Hint
-    ensures { λ r. ⌜ r ≡ channelOf v .travelling ⌝ }
+// A pointer, read from the lowest 24 bits: what a desk keeps for a parent, and the travelling pointer of a channel's own entry.
+pub fn hint_of(v: u64) -> Hint
+    ensures { λ r. ⌜ r ≡ hintOf v ⌝ }
 {
     Hint {
         processor: ProcessorId(low8(v / 65536)),
@@ -61,7 +61,7 @@ pub fn travelling_of(v: u64) -> Hint
 pub fn channel_of(v: u64) -> Channel
     ensures { λ r. ⌜ r ≡ channelOf v ⌝ }
 {
-    let travelling = travelling_of(v);
+    let travelling = hint_of(v);
     let carried = Offer {
         processor: ProcessorId(low8(v / 16777216)),
         number: low8(v / 4294967296),
@@ -74,12 +74,19 @@ pub fn channel_of(v: u64) -> Channel
     }
 }
 
+// A pointer as a number of 24 bits.
+pub fn hint_word(h: Hint) -> u64
+    ensures { λ r. ⌜ (r ≡ hintWord h) × (r < 16777216) ⌝ }
+{
+    let toward = h.processor;
+    65536 * (toward.0 as u64) + h.moves as u64
+}
+
 // The number of a channel's own entry with another travelling pointer.
 pub fn with_travelling(v: u64, h: Hint) -> u64
     ensures { λ r. ⌜ r ≡ travellingWord v h ⌝ }
 {
-    let toward = h.processor;
-    16777216 * (v / 16777216) + (65536 * (toward.0 as u64) + h.moves as u64)
+    16777216 * (v / 16777216) + hint_word(h)
 }
 
 // A channel's own entry as a number. The fields that most changes leave come first.
@@ -159,11 +166,15 @@ pub fn task_of(v: u64, children: u64, word: u64) -> Task
     ensures { λ r. ⌜ r ≡ taskOf v children word ⌝ }
 {
     let w = word_of(word);
+    let origin = Hint {
+        processor: ProcessorId(low8(v / 16777216)),
+        moves: low16(v / 4294967296),
+    };
     Task {
         state: state_of(low7(v)),
         processor: ProcessorId(low8(v / 256)),
         pc: low8(v / 65536),
-        home: ProcessorId(low8(v / 16777216)),
+        origin: origin,
         word: w,
         overflow: is_odd(v / 128),
         moves: low16(v / 281474976710656),
@@ -171,17 +182,19 @@ pub fn task_of(v: u64, children: u64, word: u64) -> Task
     }
 }
 
-// The first number of a task, its mark beside its state. Of its bits 16 are not used.
+// The first number of a task, its mark beside its state.
 pub fn task_word(x: Task) -> u64
     ensures { λ r. ⌜ r ≡ taskWord x ⌝ }
 {
     let at = x.processor;
-    let home = x.home;
+    let origin = x.origin;
+    let toward = origin.processor;
     let state = x.state;
     state_number(state)
-        + 65536 * (x.pc as u64)
         + 128 * bit(x.overflow)
-        + 16777216 * (home.0 as u64)
         + 256 * (at.0 as u64)
+        + 65536 * (x.pc as u64)
+        + 16777216 * (toward.0 as u64)
+        + 4294967296 * (origin.moves as u64)
         + 281474976710656 * (x.moves as u64)
 }

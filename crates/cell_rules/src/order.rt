@@ -1,7 +1,8 @@
 // Which of two offers or adverts is kept.
-// Which of two pointers is kept; what stands for none.
+// Which of two pointers is kept, and whether one leads on; what stands for none.
 ghost use mathlib.Core.Path.{_≡_};
 ghost use Rattle.rules.specs.Cells.{larger, firstNoted, unknown, noOffer, newer};
+ghost use Rattle.rules.specs.Hints.{pointsOn};
 use plan::ProcessorId;
 use rules::channel::Hint;
 use rules::channel::Offer;
@@ -50,4 +51,12 @@ pub fn newer(own: Hint, other: Hint) -> Hint
     ensures { λ r. ⌜ r ≡ newer own other ⌝ }
 {
     if own.moves < other.moves { other } else { own }
+}
+
+// The desk's own pointer is newer than the one that a letter came along, and names another desk than the letter's.
+pub fn points_on(own: Hint, along: Hint) -> bool
+    ensures { λ r. ⌜ r ≡ pointsOn own along (along .processor) ⌝ }
+{
+    let stays = own.processor.0 == along.processor.0;
+    base::both(!stays, along.moves < own.moves)
 }

@@ -13,16 +13,16 @@ use Rattle.plan.specs.Numbers.{processorId}
 use Rattle.rules.specs.declared.channel.Offer.{Offer}
 use Rattle.rules.specs.Cells.{larger, firstNoted}
 use Rattle.channel.specs.Bags.{In, one, without}
-use Rattle.channel.specs.Hints.{hintTo, Right}
+use Rattle.channel.specs.Hints.{hintTo, Right, Way}
 use Rattle.channel.specs.Messages.{ChannelMessage, offer, advert, call, word, isCall, isWord, kind}
 use Rattle.channel.specs.Views.{View, offerOf}
 use Rattle.channel.specs.Deliveries.{taken, Dropped, OfferAnswered, offerAnswered, Carried, carried, Forwarded, forwarded, Held, held, AdvertAnswered, AdvertNoted, advertNoted, Called, called, WordTaken, wordTaken}
-use Rattle.channel.specs.Invariant.{Way, Advertised, by-message, by-held, by-carried, by-adverts, Invariant}
+use Rattle.channel.specs.Invariant.{Advertised, by-message, by-held, by-carried, by-adverts, Invariant}
 use Rattle.channel.proofs.Updates.{at-elim}
 use Rattle.channel.proofs.Bags.{total-without, total-post, in-at, in-without, in-or-taken, in-new, in-front}
-use Rattle.channel.proofs.Hints.{newer-right, nothing-newer, right-here, learn}
+use Rattle.channel.proofs.Hints.{newer-right, held-coming, right-here, learn, pointed}
 use Rattle.channel.proofs.Messages.{in-other, post-other, post-offer, post-word, no-call, same-calls, same-words}
-use Rattle.channel.proofs.Offers.{OfferLive, IsNext, NextOffered, SendOffered, ComingTo, CountsWith, IdleCarried, NetworkOk, larger-elim, held-elim, larger-number, noted-elim, firstNoted-some, done-called, pointed, coming}
+use Rattle.channel.proofs.Offers.{OfferLive, IsNext, NextOffered, SendOffered, ComingTo, CountsWith, IdleCarried, NetworkOk, larger-elim, held-elim, larger-number, noted-elim, firstNoted-some, done-called}
 use Rattle.channel.proofs.TransfersKeep.{answered-keeps}
 
 -- what is said of letters holds of those that are left when one is taken; if it is no call and no word, the numbers stay
@@ -131,8 +131,7 @@ module _ (v : View) (i : Invariant v) where
       let live = held-elim (λ y. OfferLive v) (v .tables .held) x (offerOf d w) (i .offer-held) (now v i p x d w k (g .message)) in
       let next = held-offered v i p x d w k (g .message) in
       let y = i .way x d w k (in-at (v .messages) p (g .message)) in
-      let last = nothing-newer (i .table) x k (y .some) (y .old) (y .says) (g .nothing-newer) in
-      let there : ComingTo v x = coming v i x (last, omega arith) (g .away) in
+      let there : ComingTo v x = held-coming (i .table) y (g .nothing-newer) (g .away) in
       let held-for = held-elim (λ y o. v .state .granted < o .number → ComingTo v y) (v .tables .held) x (offerOf d w) (i .held-for) (λ l. there) in
       search arith
 

@@ -10,9 +10,9 @@ use borrow.Author.Tests.{ltb-true, ltb-false}
 use Rattle.base.proofs.Choices.{pick-cases}
 use Rattle.base.proofs.Updates.{updated-same, updated-other}
 use Rattle.rules.specs.declared.channel.Hint.{Hint}
-use Rattle.rules.specs.Cells.{newer}
+use Rattle.rules.specs.Hints.{newer}
 use Rattle.channel.specs.Updates.{atNumber}
-use Rattle.channel.specs.Hints.{hintTo, Right, Table}
+use Rattle.channel.specs.Hints.{hintTo, Right, Table, Way, Coming}
 use Rattle.channel.proofs.Updates.{at-elim, at-self}
 
 -- the newer of two pointers is the other, with a larger count, or the desk's own
@@ -70,6 +70,17 @@ module _ {n : ℕ} {history : ℕ → ℕ} {moves at : ℕ} {hints : ℕ → Hin
   pub away : (x : ℕ) → x ≡ history moves → x ≢ at → at ≡ 0
   away x e ne = by-cases (decLe 1 at) (λ l. absurd (ne (e ∙ sym (t .here l)))) (λ l. omega arith)
 
+  -- a task that was sent to desk x last and is not there is on its way
+  pub coming : (x : ℕ) → x ≡ history moves → 1 ≤ moves → at ≢ x → Coming at moves x (history moves)
+  coming x last some ne = record { moving = away x last (λ e. ne (sym e)); born = some; sent = last }
+
+  -- so it is if a letter is not forwarded from a desk where it is not
+  pub held-coming : {x m : ℕ} → Way history moves x m → (hints x .processor .0 ≡ x) ⊎ (hints x .moves ≤ m) → at ≢ x → Coming at moves x (history moves)
+  held-coming {x} {m} w none ne =
+      let l = w .some in
+      let u = w .old in
+      coming x (nothing-newer x m l u (w .says) none) (omega arith) ne
+
   pub at-most : at ≤ n
   at-most = by-cases (decLe 1 at) (λ l. omega (arith, t .high moves (omega arith), t .here l)) (λ l. omega arith)
 
@@ -82,6 +93,17 @@ right-more {history} {moves} e {p} r =
     let o = r .old in
     let ne : p .moves ≢ suc moves = omega arith in
     record { old = omega arith; says = rw (updated-other (λ k. k) history (suc moves) (p .moves) e ne) (r .says) }
+
+-- and so does the way of a letter
+pub way-more : {history : ℕ → ℕ} {moves : ℕ} (e : ℕ) {to k : ℕ} → Way history moves to k → Way (atNumber history (suc moves) e) (suc moves) to k
+way-more {history} {moves} e {to} {k} y =
+    let o = y .old in
+    let ne : k ≢ suc moves = omega arith in
+    record { some = y .some; old = omega arith; says = rw (updated-other (λ n. n) history (suc moves) k e ne) (y .says) }
+
+-- a letter goes where a right pointer says
+pub pointed : {history : ℕ → ℕ} {moves : ℕ} {p : Hint} → Right history moves p → 1 ≤ p .moves → Way history moves (p .processor .0) (p .moves)
+pointed r l = record { some = l; old = r .old; says = r .says }
 
 -- the task leaves desk d for desk e
 pub depart : {n : ℕ} {history : ℕ → ℕ} {moves : ℕ} {hints : ℕ → Hint} (d e : ℕ) → 1 ≤ d → 1 ≤ e → e ≤ n → Table n history moves d hints

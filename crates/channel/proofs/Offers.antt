@@ -1,6 +1,6 @@
 -- Laws that the events share: the offer or the advert that is kept, offers that count no more, the way of an offer, and what holds while nothing
 -- is sent.
-use mathlib.Core.Path.{_≡_, sym}
+use mathlib.Core.Path.{_≡_}
 use mathlib.Core.Logic.{_≢_, _⊎_, ⊎-elim}
 use mathlib.Core.List.{List}
 use Prim.Native.Nat.{ℕ, suc, _≤_, _<_}
@@ -8,21 +8,18 @@ use native.Mathlib.Omega.{arith}
 use lib.Dec.{eqb, ltb}
 use borrow.Author.Tests.{ltb-true, ltb-false, eqb-true, eqb-false}
 use Rattle.base.proofs.Choices.{pick-either, pick-cases}
-use Rattle.base.proofs.Updates.{updated-other}
 use Rattle.plan.specs.declared.ProcessorId.{ProcessorId}
 use Rattle.plan.specs.declared.Word.{Word}
-use Rattle.rules.specs.declared.channel.Hint.{Hint}
 use Rattle.rules.specs.declared.channel.Offer.{Offer}
 use Rattle.rules.specs.Cells.{larger, firstNoted}
 use Rattle.channel.specs.Updates.{atNumber}
 use Rattle.channel.specs.Bags.{In}
-use Rattle.channel.specs.Hints.{Right}
+use Rattle.channel.specs.Hints.{Way, Coming}
 use Rattle.channel.specs.Messages.{ChannelMessage, offer, advert, call, word, calls, words}
 use Rattle.channel.specs.Views.{View, offerOf}
 use Rattle.channel.specs.Places.{takingOver}
-use Rattle.channel.specs.Invariant.{Counts, Way, Live, Advertised, CallOk, Offered, Coming, Invariant}
+use Rattle.channel.specs.Invariant.{Counts, Live, Advertised, CallOk, Offered, Invariant}
 use Rattle.channel.proofs.Updates.{at-elim}
-use Rattle.channel.proofs.Hints.{away}
 
 -- clauses of the invariant: an offer that counts is of the send under way
 abbrev pub OfferLive : View → Offer → Type 0
@@ -122,22 +119,6 @@ done z f l = let e = f (omega arith) .number in absurd (omega arith)
 
 pub done-called : {C : Type 0} {granted sending sent at d w : ℕ} → granted ≡ suc sent → Live granted sending sent at d w → granted < w → C
 done-called z f l = let e = f l .number in absurd (omega arith)
-
--- the way of an offer is the same after one more move
-pub way-more : {history : ℕ → ℕ} {moves : ℕ} (e : ℕ) {to k : ℕ} → Way history moves to k → Way (atNumber history (suc moves) e) (suc moves) to k
-way-more {history} {moves} e {to} {k} y =
-    let o = y .old in
-    let ne : k ≢ suc moves = omega arith in
-    record { some = y .some; old = omega arith; says = rw (updated-other (λ n. n) history (suc moves) k e ne) (y .says) }
-
--- an offer goes where a right pointer says
-pub pointed : {history : ℕ → ℕ} {moves : ℕ} {p : Hint} → Right history moves p → 1 ≤ p .moves → Way history moves (p .processor .0) (p .moves)
-pointed r l = record { some = l; old = r .old; says = r .says }
-
--- a receiver that was sent to desk x last and is not there is on its way
-pub coming : (v : View) → Invariant v → (x : ℕ) → (x ≡ v .receiver .history (v .receiver .moves)) × (1 ≤ v .receiver .moves)
-    → v .receiver .at ≢ x → ComingTo v x
-coming v i x (last, born) ne = record { moving = away (i .table) x last (λ e. ne (sym e)); born = born; sent = last }
 
 -- while nothing is sent, what is said of offers, adverts and calls holds of whatever the sender does next
 module _ (v : View) (i : Invariant v) (z : v .sender .sending ≡ 0) where

@@ -9,15 +9,15 @@ use Rattle.rules.specs.declared.channel.Hint.{Hint}
 use Rattle.rules.specs.declared.channel.Offer.{Offer}
 use Rattle.channel.specs.Updates.{atNumber}
 use Rattle.channel.specs.Bags.{In}
-use Rattle.channel.specs.Hints.{hintTo, Right, Table}
+use Rattle.channel.specs.Hints.{hintTo, Right, Table, Way, Coming}
 use Rattle.channel.specs.Messages.{offer, calls, words}
 use Rattle.channel.specs.Views.{View, offerOf, senderAt, receiverAt, sentWith, hintsAre, heldAre, carriedIs, travellingIs}
 use Rattle.channel.specs.Places.{SenderBorn, senderBorn, SenderDeparts, senderDeparts, SenderArrives, senderArrives, ReceiverBorn, receiverBorn, ReceiverDeparts, receiverDeparts, ReceiverArrives, receiverArrives}
-use Rattle.channel.specs.Invariant.{Way, by-message, by-held, by-carried, by-adverts, Coming, Invariant}
+use Rattle.channel.specs.Invariant.{by-message, by-held, by-carried, by-adverts, Invariant}
 use Rattle.channel.proofs.Updates.{at-elim}
-use Rattle.channel.proofs.Hints.{newer-right, right-more, depart, arrive, bear, learn}
+use Rattle.channel.proofs.Hints.{newer-right, right-more, depart, arrive, bear, learn, way-more}
 use Rattle.channel.proofs.Messages.{no-call, no-word}
-use Rattle.channel.proofs.Offers.{OfferLive, NextOffered, SendOffered, takingOver-elim, taking-number, way-more, quiets}
+use Rattle.channel.proofs.Offers.{OfferLive, NextOffered, SendOffered, takingOver-elim, taking-number, quiets}
 
 module _ (v : View) (i : Invariant v) where
   -- a sender that does not send is now at desk d, or at none, with other pointers

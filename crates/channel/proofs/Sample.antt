@@ -8,7 +8,8 @@ use Prim.Native.Nat.{_≤_}
 use native.Mathlib.Omega.{arith}
 use Rattle.base.specs.Updates.{updated}
 use Rattle.plan.specs.declared.Word.{Word}
-use Rattle.rules.specs.Cells.{newer, larger}
+use Rattle.rules.specs.Hints.{newer}
+use Rattle.rules.specs.Cells.{larger}
 use Rattle.channel.specs.Bags.{without}
 use Rattle.channel.specs.Hints.{hintTo}
 use Rattle.channel.specs.Views.{View}

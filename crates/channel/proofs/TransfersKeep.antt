@@ -13,12 +13,13 @@ use Rattle.channel.specs.Bags.{In}
 use Rattle.channel.specs.Messages.{ChannelMessage, offer, call, isCall, isWord, calls, words, kind, adverts}
 use Rattle.channel.specs.Views.{View, offerOf, withMessages, sendingIs, sentIs, receivingIs, receivedIs, notedAre, grantedIs, awaitingIs, carriedIs}
 use Rattle.channel.specs.Transfers.{Sends, SendPasses, sendPasses, SendCarried, sendCarried, SendAdvertised, sendAdvertised, SendHeld, sendHeld, SendPosted, sendPosted, ReceivePasses, receivePasses, ReceiveWaits, receiveWaits, answered, CarriedAnswered, carriedAnswered, NotedAnswered, notedAnswered}
-use Rattle.channel.specs.Invariant.{Way, Live, CallOk, by-message, by-held, by-carried, by-adverts, Invariant}
+use Rattle.channel.specs.Invariant.{Live, CallOk, by-message, by-held, by-carried, by-adverts, Invariant}
 use Rattle.channel.proofs.Bags.{total-append, total-post, in-new}
-use Rattle.channel.proofs.Hints.{unknown, known, names-itself}
+use Rattle.channel.proofs.Hints.{unknown, known, names-itself, coming, pointed}
 use Rattle.channel.proofs.Adverts.{adverts-in, in-adverts, post-adverts, total-adverts-zero}
 use Rattle.channel.proofs.Messages.{post-other, post-offer, post-call, no-call, no-word}
-use Rattle.channel.proofs.Offers.{OfferLive, IsNext, NextOffered, SendOffered, ComingTo, CountsWith, IdleCarried, NetworkOk, larger-elim, held-elim, larger-number, quiet, advert-quiet, live-more, done, pointed, coming, quiets}
+use Rattle.channel.proofs.Offers.{OfferLive, IsNext, NextOffered, SendOffered, ComingTo, CountsWith, IdleCarried, NetworkOk, larger-elim, held-elim, larger-number, quiet, advert-quiet, live-more, done, quiets}
+use Rattle.channel.specs.Hints.{Way}
 
 -- the offer of a send that begins: it is of the send under way, and its number is kept where it stands beside another
 abbrev nextOffer : View → Offer
@@ -47,7 +48,8 @@ module _ (v : View) (i : Invariant v) where
       let d : ℕ = v .sender .at in
       let live = held-elim (λ y. OfferLive (sendHeld v)) (v .tables .held) d (nextOffer v) (λ y. quiet z (i .offer-held y)) (next-live v) in
       let next : SendOffered (sendHeld v) = λ on e. by-held d (rw updated-same (next-number v (g .send) (v .tables .held d) (i .offer-held d) e)) in
-      let there : ComingTo v d = coming v i d (names-itself (i .table) d (g .send .stands) (g .named)) (g .away) in
+      let (last, born) = names-itself (i .table) d (g .send .stands) (g .named) in
+      let there : ComingTo v d = coming (i .table) d last born (g .away) in
       let held-for = held-elim (λ y o. v .state .granted < o .number → ComingTo v y) (v .tables .held) d (nextOffer v) (i .held-for) (λ l. there) in
       let apart : d ≢ v .receiver .at = λ r. g .away (sym r) in
       search (arith, quiets)

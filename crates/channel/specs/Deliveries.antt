@@ -8,7 +8,8 @@ use Prim.Native.Nat.{ℕ, suc, _≤_, _<_}
 use lib.ListN.{getElem?}
 use Rattle.plan.specs.declared.Word.{Word}
 use Rattle.plan.specs.Numbers.{processorId}
-use Rattle.rules.specs.Cells.{newer, larger, firstNoted}
+use Rattle.rules.specs.Hints.{newer}
+use Rattle.rules.specs.Cells.{larger, firstNoted}
 use Rattle.channel.specs.Updates.{atNumber}
 use Rattle.channel.specs.Bags.{one, without}
 use Rattle.channel.specs.Hints.{hintTo}

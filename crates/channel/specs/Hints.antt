@@ -7,7 +7,7 @@ use Rattle.base.specs.Choice.{pick}
 use Rattle.base.specs.Range.{sumBelow}
 use Rattle.plan.specs.Numbers.{processorId}
 use Rattle.rules.specs.declared.channel.Hint.{Hint}
-use Rattle.rules.specs.Cells.{hint}
+use Rattle.rules.specs.Hints.{hint}
 
 abbrev pub hintTo : ℕ → ℕ → Hint
 hintTo d k = hint (processorId d) k
@@ -16,6 +16,18 @@ hintTo d k = hint (processorId d) k
 pub record Right (history : ℕ → ℕ) (moves : ℕ) (p : Hint) : Type 0 where
   pub old : p .moves ≤ moves
   pub says : p .processor .0 ≡ history (p .moves)
+
+-- a letter to desk `to` with count k goes where the task was sent with that count
+pub record Way (history : ℕ → ℕ) (moves to k : ℕ) : Type 0 where
+  pub some : 1 ≤ k
+  pub old : k ≤ moves
+  pub says : to ≡ history k
+
+-- the task is on its way to desk x
+pub record Coming (at moves x last : ℕ) : Type 0 where
+  pub moving : at ≡ 0
+  pub born : 1 ≤ moves
+  pub sent : x ≡ last
 
 -- the task has the move count `moves` and stands at the desk `at`, or at none; each of n desks has a pointer
 pub record Table (n : ℕ) (history : ℕ → ℕ) (moves at : ℕ) (hints : ℕ → Hint) : Type 0 where
@@ -30,7 +42,7 @@ pub record Table (n : ℕ) (history : ℕ → ℕ) (moves at : ℕ) (hints : ℕ
   pub born : 1 ≤ at → 1 ≤ moves
   pub top : 1 ≤ at → hints at .moves ≡ moves
 
--- How often an offer with count m can still be forwarded: the desks that the task has left with a count above m.
+-- How often a letter with count m can still be forwarded: the desks that the task has left with a count above m.
 
 -- the count with which the task last left desk x; 0, never
 unfoldable pub leftWith : (ℕ → ℕ) → ℕ → ℕ → ℕ

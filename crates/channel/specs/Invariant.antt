@@ -7,7 +7,7 @@ use Rattle.plan.specs.declared.ProcessorId.{ProcessorId}
 use Rattle.plan.specs.declared.Word.{Word}
 use Rattle.rules.specs.declared.channel.Offer.{Offer}
 use Rattle.channel.specs.Bags.{In}
-use Rattle.channel.specs.Hints.{Right, Table}
+use Rattle.channel.specs.Hints.{Right, Way, Table, Coming}
 use Rattle.channel.specs.Messages.{ChannelMessage, offer, advert, call, word, calls, words}
 use Rattle.channel.specs.Views.{View}
 
@@ -20,12 +20,6 @@ pub record Counts (sent sending received receiving granted awaiting c w : ℕ) :
   pub receives : awaiting ≤ receiving
   pub receiver-flag : receiving ≤ 1
   pub sender-flag : sending ≤ 1
-
--- an offer letter to desk `to` with count k goes where the receiver was sent with that count
-pub record Way (history : ℕ → ℕ) (moves to k : ℕ) : Type 0 where
-  pub some : 1 ≤ k
-  pub old : k ≤ moves
-  pub says : to ≡ history k
 
 -- the send under way: its offer is of desk d and has number w
 pub record Current (sending sent at d w : ℕ) : Type 0 where
@@ -56,12 +50,6 @@ pub data Offered (n sent at : ℕ) (held : ℕ → Offer) (noted : ℕ → Proce
   by-held : (x : ℕ) → held x .number ≡ suc sent → Offered n sent at held noted carried messages
   by-carried : carried .number ≡ suc sent → Offered n sent at held noted carried messages
   by-adverts : sent ≡ 0 → ((x : ℕ) → 1 ≤ x → x ≤ n → x ≢ at → In (advert x at) messages ⊎ (1 ≤ noted x .0)) → Offered n sent at held noted carried messages
-
--- the receiver is on its way to desk x
-pub record Coming (at moves x last : ℕ) : Type 0 where
-  pub moving : at ≡ 0
-  pub born : 1 ≤ moves
-  pub sent : x ≡ last
 
 pub record Invariant (v : View) : Type 0 where
   pub counts :

@@ -4,7 +4,8 @@ use Prim.Native.Nat.{ℕ, suc, _≤_}
 use lib.Dec.{ltb}
 use Rattle.base.specs.Choice.{pick}
 use Rattle.rules.specs.declared.channel.Offer.{Offer}
-use Rattle.rules.specs.Cells.{newer, larger}
+use Rattle.rules.specs.Hints.{newer}
+use Rattle.rules.specs.Cells.{larger}
 use Rattle.channel.specs.Updates.{atNumber}
 use Rattle.channel.specs.Hints.{hintTo}
 use Rattle.channel.specs.Views.{offerOf, View, senderAt, receiverAt, sentWith, hintsAre, heldAre, carriedIs, travellingIs}

@@ -157,7 +157,7 @@ module _ (n : ℕ) (p : Plan) (ss : List Step) (some : 1 ≤ n) (few : n ≤ 6) 
   messages-there = length-messages (rig .network) (omega (arith, here .shaped .slots, messages-fit rig (here .ok)))
 
   few-steps : (us : List Step) → acceptedOf isMove rig us ≡ 0 → acceptedOf anyStep rig us ≤ 10 * (notExecuted n p ss + underWay n p ss)
-  few-steps us none = omega (arith, few-accepted p a here us none, few-left (programs p) (here .running), counted, messages-there)
+  few-steps us none = omega (arith, few-accepted p a here us none, few-left (programs p) a (here .running), counted, messages-there)
 
   parts : Demand3 n p ss
   parts =

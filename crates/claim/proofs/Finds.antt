@@ -25,7 +25,7 @@ use Rattle.transitions.specs.Readings.{reading}
 use Rattle.transitions.specs.Views.{Histories}
 use Rattle.transitions.specs.Agreement.{Running}
 use Rattle.transitions.proofs.Rigs.{message-ok, message-at, plan-accepted}
-use Rattle.transitions.proofs.EndedTransitions.{living, at-parent}
+use Rattle.transitions.proofs.EndedTransitions.{living}
 use Rattle.transitions.proofs.ArrivalTransitions.{arriving}
 use Rattle.transitions.proofs.CallTransitions.{call-found, word-found}
 use Rattle.claim.specs.Statement.{findsIts}
@@ -43,9 +43,9 @@ module _ (r : System) (shaped : Shaped r) (ok : systemOk r ≡ true) (h : Histor
   finds-word c d value e =
       let (here, receiving, called) = word-found r shaped ok h run p low high c d value e in and-both _ _ here (and-both _ _ receiving called)
 
-  finds-ended : (d : ProcessorId) (t : TaskId) → messageAt (r .network) p ≡ Terminated d t → findsIts r (Terminated d t) ≡ true
+  finds-ended : (along : Hint) (t : TaskId) → messageAt (r .network) p ≡ Terminated along t → findsIts r (Terminated along t) ≡ true
   unfolding findsIts
-  finds-ended d t e = and-both _ _ (at-parent r shaped ok h run p low high d t e) (living r shaped ok h run p low high d t e)
+  finds-ended along t e = living r shaped ok h run p low high along t e
 
   finds-mover : (d : ProcessorId) (t : TaskId) → messageAt (r .network) p ≡ Migration d t → findsIts r (Migration d t) ≡ true
   unfolding findsIts reading messageOk
@@ -66,5 +66,5 @@ module _ (r : System) (shaped : Shaped r) (ok : systemOk r ≡ true) (h : Histor
       go (Advert c d from) e = rw e refl
       go (ReadyToReceive c d hint) e = rw e (finds-call c d hint e)
       go (Data c d x) e = rw e (finds-word c d x e)
-      go (Terminated d t) e = rw e (finds-ended d t e)
+      go (Terminated along t) e = rw e (finds-ended along t e)
       go (Migration d t) e = rw e (finds-mover d t e)

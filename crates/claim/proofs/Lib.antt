@@ -10,6 +10,7 @@ pub mod Demand3
 pub mod Files
 pub mod Corollaries
 pub mod Moves
+pub mod Parents
 pub mod Overflows
 pub mod OldPlans
 pub mod OneMessage

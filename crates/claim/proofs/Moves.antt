@@ -1,4 +1,4 @@
--- On one desk no move is accepted; and a count is at most one more than the accepted moves.
+-- On one desk no move is accepted; no step is answered 17; and a count is at most one more than the accepted moves.
 use mathlib.Core.Path.{_≡_, refl, sym, ap, _∙_}
 use mathlib.Core.Bool.{Bool, true, false, not, _&&_}
 use mathlib.Core.Logic.{by-cases}
@@ -32,16 +32,17 @@ use Rattle.rules_laws.proofs.Shapes.{started-processors, step-processors}
 use Rattle.rules_laws.proofs.Sound.{taskOkIn, system-passed}
 use Rattle.rules_laws.proofs.Steps.{accepted-is, step-answer, step-passed}
 use Rattle.rules_laws.proofs.StepKinds.{answer-move}
-use Rattle.rules_sound.proofs.Answers.{move-passed, number-not-18}
+use Rattle.rules_sound.proofs.Answers.{move-passed, number-not-18, number-not-17}
 use Rattle.rules_sound.proofs.Settled.{settled}
 use Rattle.transitions.specs.Readings.{reading}
 use Rattle.transitions.specs.Progress.{flag}
 use Rattle.invariant.proofs.StartViews.{read-started, start-cases}
 use Rattle.invariant.proofs.Next.{Kept, next}
 use Rattle.claim.specs.Statement.{acceptedOf, from}
-use Rattle.claim.specs.Moves.{NoMoveOnOneProcessor, NothingMoves, FewMoves}
+use Rattle.claim.specs.Moves.{NoMoveOnOneProcessor, NothingMoves, FewMoves, NeverSeventeen}
 use Rattle.claim.proofs.Lists.{step-either, left, kept-step}
 use Rattle.claim.proofs.Whole.{start-kept, list-kept}
+use Rattle.rules.specs.Sound.{systemOk}
 
 -- an accepted move goes to a desk of the rig where its task is not, and the task is at one
 pub no-move-on-one-processor : NoMoveOnOneProcessor
@@ -72,6 +73,15 @@ nothing-moves-from r (s ∷ ss) one =
 
 pub nothing-moves : NothingMoves
 nothing-moves p ss = nothing-moves-from (started 1 p) ss (started-processors 1 p)
+
+-- a rig that 9 refuses answers every step by it, and another rig by anything but 17
+pub never-seventeen : NeverSeventeen
+unfolding stepAnswer
+never-seventeen r s e = go (systemOk r) refl
+  where
+    go : (b : Bool) → systemOk r ≡ b → ⊥
+    go true ok = eqb-false (stepNumber (stepAnswer r s)) 17 (number-not-17 r s ok) (ap stepNumber e)
+    go false bad = let nine : stepNumber (stepAnswer r s) ≡ 9 = rw bad refl in omega (arith, nine, ap stepNumber e)
 
 -- no count is above k
 abbrev CountsTo : ℕ → System → Type 0

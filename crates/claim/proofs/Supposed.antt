@@ -24,6 +24,7 @@ use Rattle.rules.specs.Deliver.{gotTerminated, gotMigration, opened}
 use Rattle.rules_laws.proofs.TaskAt.{withTask-taskAt}
 use Rattle.rules_laws.proofs.CellAt.{withCell-cellAt}
 use Rattle.claim.specs.Statement.{findsIts}
+use Rattle.rules_laws.proofs.ParentAt.{withParent-parentAt}
 
 module _ (r : System) (network : Network) where
   abbrev q : System
@@ -48,9 +49,11 @@ module _ (r : System) (network : Network) where
     unfolding findsIts siteAt dataRule channelAt
     word-unsupposed w e = rw e refl
 
-  ended-unsupposed : (d : ProcessorId) (t : TaskId) → findsIts r (Terminated d t) ≡ false → gotTerminated q d t ≡ q
+  ended-unsupposed : (h : Hint) (t : TaskId) → findsIts r (Terminated h t) ≡ false → gotTerminated q h t ≡ changed q
   unfolding findsIts gotTerminated terminatedRule
-  ended-unsupposed d t e = rw e (withTask-taskAt q (parentOf (meaning q) t))
+  ended-unsupposed h t e =
+      let v = parentOf (meaning q) t in
+      rw (e, withTask-taskAt q v, withParent-parentAt q (h .processor) v) refl
 
   mover-unsupposed : (d : ProcessorId) (t : TaskId) → findsIts r (Migration d t) ≡ false → gotMigration q d t ≡ q
   unfolding findsIts gotMigration
@@ -65,5 +68,5 @@ module _ (r : System) (network : Network) where
       ap (withOutcome q (senderOf (meaning q) c) (receiverOf (meaning q) c) c d) (call-unsupposed c d h e) ∙ nothing-left c d
   unsupposed (Data c d w) e =
       ap (withOutcome q (senderOf (meaning q) c) (receiverOf (meaning q) c) c d) (word-unsupposed c d w e) ∙ nothing-left c d
-  unsupposed (Terminated d t) e = ap changed (ended-unsupposed d t e)
+  unsupposed (Terminated h t) e = ended-unsupposed h t e
   unsupposed (Migration d t) e = ap changed (mover-unsupposed d t e)

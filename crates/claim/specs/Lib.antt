@@ -1,6 +1,7 @@
--- Demand 3: the statement, what else holds of moves, of marks and of plans on one level, and what a corollary is stated with.
+-- Demand 3: the statement, what else holds of moves, of parents, of marks and of plans on one level, and what a corollary is stated with.
 pub mod Statement
 pub mod Moves
+pub mod Parents
 pub mod Overflows
 pub mod OldPlans
 pub mod Corollaries

@@ -1,5 +1,5 @@
--- What holds of moves in every run, beside demand 3: on one desk nothing moves, and the move count that 18 speaks of is far away. Said of the
--- definitions of `rules` and of the statement alone.
+-- What holds of moves in every run, beside demand 3: on one desk nothing moves, 17 is answered to no step, and the move count that 18 speaks of is
+-- far away. Said of the definitions of `rules` and of the statement alone.
 use mathlib.Core.Path.{_≡_}
 use mathlib.Core.Bool.{true, false, not}
 use mathlib.Core.List.{List}
@@ -13,13 +13,14 @@ use Rattle.plan.specs.declared.TaskId.{TaskId}
 use Rattle.plan.specs.Programs.{programs}
 use Rattle.plan.specs.Refusals.{planAnswer}
 use Rattle.rules.specs.declared.step.Step.{Step}
-use Rattle.rules.specs.declared.step.StepAnswer.the-variants.{MovesSpent}
+use Rattle.rules.specs.declared.step.StepAnswer.the-variants.{MovesSpent, MoveWithChildren}
 use Rattle.rules.specs.declared.system.System.{System}
 use Rattle.rules.specs.Answers.{isAccepted, stepNumber}
 use Rattle.rules.specs.Systems.{taskAt}
 use Rattle.rules.specs.Starts.{started}
 use Rattle.rules.specs.Steps.{isMove, stepAnswer}
 use Rattle.claim.specs.Statement.{acceptedOf, from}
+use mathlib.Core.Logic.{_≢_}
 
 -- `no-move-on-one-processor`: any rig of one desk, whether 9 refuses it or not, refuses every move
 abbrev pub NoMoveOnOneProcessor : Type 0
@@ -28,6 +29,11 @@ NoMoveOnOneProcessor = (r : System) (s : Step) → r .processors ≡ 1 → isMov
 -- "a one-desk rig where nothing moves": so no list of steps has an accepted move there, of any plan
 abbrev pub NothingMoves : Type 0
 NothingMoves = (p : Plan) (ss : List Step) → acceptedOf isMove (started 1 p) ss ≡ 0
+
+-- `never-seventeen`: "A ready task with living children may now move .. Refusal 17 never occurs now." No rig, whether 9 refuses it or not, answers a
+-- step by it
+abbrev pub NeverSeventeen : Type 0
+NeverSeventeen = (r : System) (s : Step) → stepAnswer r s ≢ MoveWithChildren
 
 -- "a move count (1 at birth)", and by a move "Its count goes up by one": after a list of steps
 pub record MovesFew (n : ℕ) (p : Plan) (ss : List Step) : Type 0 where

@@ -31,7 +31,8 @@ use Rattle.rules.specs.Starts.{started}
 use Rattle.rules.specs.Steps.{isRun, isDeliver, isMove, stepAnswer, step, quiescent, History, steps, receivedOn}
 
 -- "A call supposes its sender sending on that channel at the letter's desk; a word, its receiver there, receiving and having called; ended, a
--- parent there with that child living; a mover, a moving task." An offer and an advert suppose nothing; an empty slot is no letter.
+-- parent there with that child living; a mover, a moving task."; ended "now supposes only that the child is in its parent's set". An offer and an
+-- advert suppose nothing; an empty slot is no letter.
 unfoldable pub findsIts : System → Message → Bool
 findsIts r Empty = false
 findsIts r (Offered c o h) = true
@@ -42,9 +43,7 @@ findsIts r (ReadyToReceive c d h) =
 findsIts r (Data c d w) =
     let u = receiverOf (meaning r) c in
     isAt d (taskAt r u) && (isOn Receiving (taskProgram r u) c (taskAt r u) && channelAt r c .awaiting)
-findsIts r (Terminated d t) =
-    let p = parentOf (meaning r) t in
-    isAt d (taskAt r p) && member (t .0) (taskAt r p .children)
+findsIts r (Terminated h t) = member (t .0) (taskAt r (parentOf (meaning r) t) .children)
 findsIts r (Migration d t) = isIn Moving (taskAt r t)
 
 -- "Where that isn't so, the letter is removed without effect": this step does so

@@ -22,7 +22,7 @@ no-word : findsIts start (Data exampleChannel (processorId 1) (wordOf 7)) ≡ fa
 unfolding evaluated findsIts
 no-word = refl
 
-no-ended : findsIts start (Terminated (processorId 1) (taskId 2)) ≡ false
+no-ended : findsIts start (Terminated (hint (processorId 1) 1) (taskId 2)) ≡ false
 unfolding evaluated findsIts
 no-ended = refl
 

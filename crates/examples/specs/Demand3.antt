@@ -22,17 +22,18 @@ examplePrograms =
 abbrev pub examplePlan : Plan
 examplePlan = canonical examplePrograms
 
--- the first word passes directly; the second, offered from another desk, by letters
+-- the first word passes directly; the second, offered from another desk, by letters. Task 1 moves while its four children live, and waits for them
+-- at desk 1: their ended letters follow it
 abbrev pub exampleBefore : List Step
 exampleBefore =
-    move 1 3 ∷ deliver 1 ∷ run 1 ∷ run 1 ∷ run 3 ∷ run 1 ∷ run 4 ∷ run 4 ∷ run 4 ∷ run 1 ∷ run 1 ∷ run 5 ∷ run 2 ∷ move 4 2 ∷ deliver 1 ∷ run 3
-    ∷ run 4 ∷ deliver 1 ∷ deliver 1 ∷ deliver 1 ∷ []
+    move 1 3 ∷ deliver 1 ∷ run 1 ∷ run 1 ∷ run 3 ∷ run 1 ∷ run 4 ∷ run 4 ∷ run 4 ∷ run 1 ∷ move 1 1 ∷ run 5 ∷ deliver 2 ∷ deliver 1 ∷ run 1 ∷ run 2
+    ∷ deliver 1 ∷ move 4 2 ∷ deliver 1 ∷ run 3 ∷ run 4 ∷ deliver 1 ∷ deliver 1 ∷ deliver 1 ∷ []
 
 abbrev pub exampleAll : List Step
 exampleAll =
-    move 1 3 ∷ deliver 1 ∷ run 1 ∷ run 1 ∷ run 3 ∷ run 1 ∷ run 4 ∷ run 4 ∷ run 4 ∷ run 1 ∷ run 1 ∷ run 5 ∷ run 2 ∷ move 4 2 ∷ deliver 1 ∷ run 3
-    ∷ run 4 ∷ deliver 1 ∷ deliver 1 ∷ deliver 1 ∷ run 3 ∷ move 4 2 ∷ run 4 ∷ deliver 1 ∷ deliver 1 ∷ move 4 3 ∷ deliver 1 ∷ run 3 ∷ deliver 1
-    ∷ run 4 ∷ run 1 ∷ []
+    move 1 3 ∷ deliver 1 ∷ run 1 ∷ run 1 ∷ run 3 ∷ run 1 ∷ run 4 ∷ run 4 ∷ run 4 ∷ run 1 ∷ move 1 1 ∷ run 5 ∷ deliver 2 ∷ deliver 1 ∷ run 1 ∷ run 2
+    ∷ deliver 1 ∷ move 4 2 ∷ deliver 1 ∷ run 3 ∷ run 4 ∷ deliver 1 ∷ deliver 1 ∷ deliver 1 ∷ run 3 ∷ move 4 2 ∷ run 4 ∷ deliver 1 ∷ deliver 1
+    ∷ move 4 3 ∷ deliver 1 ∷ run 3 ∷ deliver 1 ∷ run 4 ∷ deliver 1 ∷ deliver 1 ∷ run 1 ∷ []
 
 abbrev pub exampleChannel : ChannelId
 exampleChannel = channelId 83

@@ -202,7 +202,9 @@ stepEdges =
     -- refusals of a move in their order, where several hold; 9 before 19
     ∷ record { system = crowded 256 (mover 9999); step = move 1 2; number = 18 }
     ∷ record { system = crowded 256 (mover 9998); step = move 1 2; number = 13 }
-    ∷ record { system = spent family; step = move 2 1; number = 17 }
+    ∷ record { system = spent family; step = move 2 1; number = 18 }
+    -- "A ready task with living children may now move"
+    ∷ record { system = family; step = move 2 1; number = 0 }
     ∷ record { system = spent family; step = move 2 2; number = 16 }
     ∷ record { system = mover 10000; step = raw 4 0 0; number = 9 }
     ∷ record { system = mover 1; step = raw 4 0 0; number = 19 }

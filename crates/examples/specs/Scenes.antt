@@ -87,7 +87,7 @@ pointerTravelsWithSender =
           (create 2 ∷ receive 2 ∷ receive 2 ∷ create 3 ∷ finish ∷ []) ∷ (send 2 ∷ send 2 ∷ send 1 ∷ finish ∷ []) ∷ (receive 1 ∷ finish ∷ [])
           ∷ [];
       lines =
-          ok (run 1) ∷ ok (run 2) ∷ word 2 0 (run 1) ∷ ok (move 2 2) ∷ ok (deliver 1) ∷ refuses 17 (move 1 3) ∷ ok (run 2) ∷ ok (deliver 1) ∷
+          ok (run 1) ∷ ok (run 2) ∷ word 2 0 (run 1) ∷ ok (move 2 2) ∷ ok (deliver 1) ∷ refuses 16 (move 1 1) ∷ ok (run 2) ∷ ok (deliver 1) ∷
           ok (run 1) ∷ ok (deliver 1) ∷ ok (run 2) ∷ [];
       rest = false;
       messages = 3;
@@ -134,9 +134,9 @@ staleOfferDropped =
       messages = 0;
     }
 
--- a sum over 65,535; an ended letter to the desk of birth
-abbrev pub sumWrapsAndEndedHome : Script
-sumWrapsAndEndedHome =
+-- a sum over 65,535; an ended letter along the child's own pointer
+abbrev pub sumWrapsAndEndedAlongOwn : Script
+sumWrapsAndEndedAlongOwn =
     record {
       processors = 3;
       plan =
@@ -218,8 +218,61 @@ noteAnswered =
       messages = 0;
     }
 
+-- an ended letter that follows its moving parent over desks, and is held where the parent is about to arrive
+abbrev pub endedChasesParent : Script
+endedChasesParent =
+    record {
+      processors = 3;
+      plan = (create 2 ∷ finish ∷ []) ∷ (finish ∷ []) ∷ [];
+      lines =
+          ok (run 1) ∷ ok (move 1 2) ∷ ok (deliver 1) ∷ ok (move 1 3) ∷ ok (run 2) ∷ ok (deliver 2) ∷ ok (deliver 2) ∷ refuses 14 (deliver 2) ∷
+          refuses 11 (run 1) ∷ ok (deliver 1) ∷ ok (run 1) ∷ [];
+      rest = true;
+      messages = 0;
+    }
+
+-- three children held for one parent
+abbrev pub threeHeldForOne : Script
+threeHeldForOne =
+    record {
+      processors = 2;
+      plan = (create 2 ∷ create 3 ∷ create 4 ∷ sync ∷ finish ∷ []) ∷ (finish ∷ []) ∷ (finish ∷ []) ∷ (finish ∷ []) ∷ [];
+      lines =
+          ok (run 1) ∷ ok (run 1) ∷ ok (run 1) ∷ ok (move 1 2) ∷ ok (run 2) ∷ ok (run 3) ∷ ok (run 4) ∷ ok (deliver 3) ∷ ok (deliver 3) ∷
+          ok (deliver 2) ∷ refuses 14 (deliver 2) ∷ ok (deliver 1) ∷ ok (run 1) ∷ ok (run 1) ∷ [];
+      rest = true;
+      messages = 0;
+    }
+
+-- a letter that comes after its parent: the parent waits at the desk where it has moved to
+abbrev pub endedFindsMovedParent : Script
+endedFindsMovedParent =
+    record {
+      processors = 3;
+      plan = (create 2 ∷ sync ∷ finish ∷ []) ∷ (finish ∷ []) ∷ [];
+      lines =
+          ok (run 1) ∷ ok (move 2 3) ∷ ok (deliver 1) ∷ ok (move 1 2) ∷ ok (deliver 1) ∷ ok (run 1) ∷ refuses 11 (run 1) ∷ ok (run 2) ∷
+          ok (deliver 1) ∷ refuses 11 (run 1) ∷ ok (deliver 1) ∷ ok (run 1) ∷ [];
+      rest = true;
+      messages = 0;
+    }
+
+-- a child that is a parent: both move, and each letter finds its own
+abbrev pub parentsInAChain : Script
+parentsInAChain =
+    record {
+      processors = 2;
+      plan = (create 2 ∷ sync ∷ finish ∷ []) ∷ (create 3 ∷ sync ∷ finish ∷ []) ∷ (finish ∷ []) ∷ [];
+      lines =
+          ok (run 1) ∷ ok (run 2) ∷ ok (move 2 2) ∷ ok (move 1 2) ∷ ok (deliver 2) ∷ ok (run 3) ∷ ok (deliver 2) ∷ ok (deliver 1) ∷ ok (run 1) ∷
+          ok (run 2) ∷ ok (run 2) ∷ ok (run 1) ∷ [];
+      rest = true;
+      messages = 0;
+    }
+
 unfoldable pub scenes : List Script
 scenes =
     notesAtTwoProcessors ∷ heldOfferWordLate ∷ syncAndTwoChannels ∷ arrivingSenderOldPointer ∷ carriedOfferMovesAlong ∷ pointerTravelsWithSender
-    ∷ heldForOtherChannel ∷ callTeachesSender ∷ staleOfferDropped ∷ sumWrapsAndEndedHome ∷ noDirectPassWhenCalled ∷ lateAdvertAfterPass
-    ∷ twoEndedMessages ∷ offerChasesMovingReceiver ∷ noteAnswered ∷ []
+    ∷ heldForOtherChannel ∷ callTeachesSender ∷ staleOfferDropped ∷ sumWrapsAndEndedAlongOwn ∷ noDirectPassWhenCalled ∷ lateAdvertAfterPass
+    ∷ twoEndedMessages ∷ offerChasesMovingReceiver ∷ noteAnswered
+    ∷ endedChasesParent ∷ threeHeldForOne ∷ endedFindsMovedParent ∷ parentsInAChain ∷ []

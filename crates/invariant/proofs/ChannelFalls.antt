@@ -4,16 +4,12 @@ use mathlib.Core.Logic.{_≢_}
 use mathlib.Core.List.{List}
 use Prim.Native.Nat.{ℕ, suc, _+_, _-_, _*_, _<_, _≤_}
 use native.Mathlib.Omega.{arith}
-use lib.ListN.{length}
-use Rattle.base.specs.Range.{sumBelow}
-use Rattle.base.proofs.Folds.{fold-same}
 use Rattle.plan.specs.declared.TaskId.{TaskId}
 use Rattle.plan.specs.declared.ChannelId.{ChannelId}
 use Rattle.plan.specs.declared.Word.{Word}
-use Rattle.plan.specs.Numbers.{taskId, channelId}
+use Rattle.plan.specs.Numbers.{channelId}
 use Rattle.plan.specs.Programs.{Programs}
-use Rattle.plan.specs.Users.{senderOf, receiverOf}
-use Rattle.rules.specs.declared.message.Message.{Message}
+use Rattle.plan.specs.Users.{senderOf, receiverOf, parentOf}
 use Rattle.rules.specs.declared.rule.Received.{Received}
 use Rattle.net.specs.States.{Net, atTask}
 use Rattle.channel.specs.Events.{Event, Transfer, Delivery, transfer, delivery, guard, after}
@@ -26,13 +22,15 @@ use Rattle.transitions.specs.Views.{Histories, viewOf}
 use Rattle.transitions.specs.Transitions.{Ran, by-sender, by-receiver, by-nobody, ChannelTransition}
 use Rattle.transitions.specs.Agreement.{Running}
 use Rattle.transitions.proofs.Updates.{task-cases}
-use Rattle.invariant.specs.Weights.{instructionWeight, channelCount, channelsWeight, taskMessages, tasksWeight, weightOf}
+use Rattle.invariant.specs.Weights.{instructionWeight, channelCount, channelsWeight, tasksWeight, weightOf}
 use Rattle.invariant.proofs.Work.{sum-change, work-same, work-one, place-other}
+use Rattle.invariant.proofs.TaskWeights.{weight-same, weights-same}
+use Rattle.invariant.proofs.Counts.{channel-counts}
 
 module _ (m : Programs) where
   -- its parts
   pub split : (h : Histories) (x : Reading)
-      → weightOf m h x ≡ instructionWeight * unexecuted m (x .tasks) + (channelsWeight m h x + tasksWeight m (x .messages))
+      → weightOf m h x ≡ instructionWeight * unexecuted m (x .tasks) + (channelsWeight m h x + tasksWeight m h x)
   unfolding weightOf
   split h x = refl
 
@@ -58,10 +56,10 @@ module _ (m : Programs) where
     spot : channelId (suc (c .0 - 1)) ≡ c
     spot = ap channelId (let q : suc (c .0 - 1) ≡ c .0 = let l = transition .low in omega arith in q)
 
-    same-tasks : tasksWeight m (y .messages) ≡ tasksWeight m (x .messages)
+    same-tasks : tasksWeight m h y ≡ tasksWeight m h x
     same-tasks =
-        fold-same _+_ 0 (length m) (λ k. taskMessages (y .messages) (taskId (suc k))) (λ k. taskMessages (x .messages) (taskId (suc k)))
-        (λ k l. rw (transition .ended (taskId (suc k)), transition .movers (taskId (suc k))) refl)
+        weights-same m h h x y
+        (λ u is. weight-same m h h x y u refl (channel-counts m transition (parentOf m u)) (transition .processors) (transition .ended u) (transition .movers u))
 
     only-here : channelsWeight m h y + measure (viewOf m h x c) ≡ channelsWeight m h x + measure (after e (viewOf m h x c))
     only-here =

@@ -3,7 +3,7 @@ use mathlib.Core.Path.{_≡_, refl, _∙_}
 use mathlib.Core.Bool.{true, false, not}
 use mathlib.Core.Logic.{_⊎_, inl, inr}
 use mathlib.Core.List.{List, []}
-use Prim.Native.Nat.{ℕ, suc, _^_, _<_}
+use Prim.Native.Nat.{ℕ, suc, _^_, _<_, _≤_}
 use native.Mathlib.Omega.{arith}
 use lib.ListN.{length}
 use borrow.Author.Tests.{eqb-false, not-true, not-false}
@@ -23,19 +23,22 @@ use Rattle.plan.specs.Refusals.{planAnswer}
 use Rattle.rules.specs.declared.task.TaskState.the-variants.{Unborn, Moving, Done}
 use Rattle.rules.specs.declared.rule.Received.{Received}
 use Rattle.rules.specs.Tasks.{isIn, isChildless}
-use Rattle.rules_sound.proofs.Born.{children-few}
+use Rattle.rules_sound.proofs.Born.{children-few, born-passed}
 use Rattle.net.specs.States.{Net}
 use Rattle.net.proofs.Children.{child-within}
 use Rattle.transitions.specs.Readings.{Reading}
 use Rattle.transitions.specs.Progress.{programOf}
-use Rattle.transitions.specs.Messages.{flat}
+use Rattle.transitions.specs.Messages.{flat, endedOf}
 use Rattle.transitions.specs.Views.{Histories}
 use Rattle.transitions.specs.Transitions.{RunTransition, transfers, owns, creates, finishes, DeliverTransition, delivers, ends, arrives, MoveTransition}
 use Rattle.transitions.specs.Agreement.{Running}
 use Rattle.invariant.proofs.FamilyParts.{AllPlaced, Kindred, Families}
 use Rattle.invariant.proofs.PlacesKept.{places-channel, places-own, places-finish, places-ended, places-create, places-arrival, places-move}
-use Rattle.invariant.proofs.ChildrenKept.{kindred-channel, kindred-own, kindred-finish, kindred-ended, kindred-create, kindred-arrival}
+use Rattle.invariant.proofs.ChildrenKept.{kindred-channel, kindred-own, kindred-finish, kindred-ended, kindred-arrival}
 use Rattle.invariant.proofs.ChildrenKept.{kindred-move}
+use Rattle.transitions.specs.Family.{isHeld, Child}
+use Rattle.transitions.proofs.Tasks.{unborn-is}
+use Rattle.invariant.proofs.BirthsKept.{kindred-create}
 
 -- a child of task p that lives
 pub record Living (m : Programs) (x : Reading) (p : TaskId) : Type 0 where
@@ -52,8 +55,25 @@ module _ {m : Programs} {h : Histories} {s : Net} {x : Reading} {w : ChannelId �
   unfolding flat
   no-moving e t i = is-false (isIn Moving (x .tasks t)) (λ q. let l = rw (e, q) at (r .places t i .one-mover) in omega arith)
 
+  -- who has a count and is not moving stands at a desk
+  standing : (t : TaskId) → within 1 (length m) (t .0) ≡ true → isIn Moving (x .tasks t) ≡ false → 1 ≤ x .tasks t .moves → 1 ≤ x .tasks t .processor .0
+  standing t i e l =
+      let n = x .processors in
+      let g = programOf m t in
+      let born : isIn Unborn (x .tasks t) ≡ false =
+      is-false (isIn Unborn (x .tasks t)) (λ b. omega (arith, unborn-is n (length m) g (x .tasks t) (r .tasks t i) b .unmoved)) in
+      within-low 1 n (x .tasks t .processor .0) (rw e at (born-passed n (length m) g (x .tasks t) (r .tasks t i) born .processor))
+
 module _ (m : Programs) (a : planAnswer m ≡ Accepted) {h : Histories} {s : Net} {x : Reading} {w : ChannelId → List Word}
     (r : Running m h s x w) where
+  -- nobody is held where there is no letter
+  none-held : x .messages ≡ [] → (p u : TaskId) → within 1 (length m) (p .0) ≡ true
+      → Child u (h p) (x .tasks p) (x .tasks u) (x .parents p) (endedOf u (x .messages)) → isHeld u (h p) (x .tasks p) (x .parents p) ≡ false
+  none-held e p u i k =
+      is-false (isHeld u (h p) (x .tasks p) (x .parents p)) (λ q.
+      let c = k .held-for (h p (x .tasks p .moves)) q in
+      omega (arith, standing r p i (no-moving r e p i) (c .born), c .moving))
+
   -- who is in a set is a living child
   lives : (p u : TaskId) → within 1 (length m) (p .0) ≡ true → within 1 (length m) (u .0) ≡ true
       → member (u .0) (x .tasks p .children) ≡ true → Living m x p
@@ -71,7 +91,7 @@ module _ (m : Programs) (a : planAnswer m ≡ Accepted) {h : Histories} {s : Net
         parent = parent;
         living = e;
         born = born;
-        not-done = λ n. is-false (isIn Done (x .tasks u)) (λ d. let z = rw (d, born, n) at l in omega arith);
+        not-done = λ n. is-false (isIn Done (x .tasks u)) (λ d. let z = rw (d, born, none-held n p u i k, n) at l in omega arith);
       }
 
   -- a set that is not empty has a child
@@ -87,7 +107,7 @@ module _ (m : Programs) (a : planAnswer m ≡ Accepted) {h : Histories} {s : Net
       go set e (inr (k, l, q)) =
           lives p (taskId (suc k)) i (within-both 1 (length m) (suc k) (omega arith) l) (rw e (not-false (member (suc k) set) q))
 
-  both : {h' : Histories} {y : Reading} → AllPlaced m h' y → Kindred m y → Families m h' y
+  both : {h' : Histories} {y : Reading} → AllPlaced m h' y → Kindred m h' y → Families m h' y
   both p k = record { places = p; children = k .children; kin = k .kin }
 
   -- by each act

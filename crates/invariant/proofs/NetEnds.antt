@@ -6,7 +6,7 @@ use mathlib.Core.Logic.{_≢_}
 use Prim.Native.Nat.{ℕ, zero, suc, _+_, _-_, _<_}
 use native.Mathlib.Omega.{arith}
 use lib.Dec.{eqb}
-use lib.ListN.{length}
+use lib.ListN.{length, getElem?}
 use borrow.Author.Tests.{eqb-true, ne-eqb}
 use Rattle.base.specs.Choice.{within}
 use Rattle.base.specs.Sets.{removed}
@@ -41,7 +41,7 @@ use Rattle.transitions.specs.Readings.{Reading}
 use Rattle.transitions.specs.Progress.{programOf, completedBy}
 use Rattle.transitions.specs.Messages.{messageOn, messagesOn}
 use Rattle.transitions.specs.Views.{Histories}
-use Rattle.transitions.specs.Transitions.{finished, Finishing, alone, near, away, FinishTransition, EndedTransition}
+use Rattle.transitions.specs.Transitions.{finished, Finishing, alone, near, away, FinishTransition, EndedTransition, Ending, taken, onward, holds}
 use Rattle.transitions.specs.Agreement.{comingTo, Agrees, PassedAlike, Running}
 use Rattle.transitions.proofs.Updates.{at-task, at-other, at-elim, task-cases}
 use Rattle.transitions.proofs.Flats.{flat-post-nothing, flat-without}
@@ -51,8 +51,11 @@ use Rattle.invariant.proofs.FamilyParts.{AllChildren}
 use Rattle.invariant.proofs.ChildrenKept.{kindred-finish, kindred-ended}
 use Rattle.invariant.proofs.Coming.{coming-none, agrees-born, agrees-completed, agrees-word, alike-agrees, agrees-quiet, agrees-free}
 use Rattle.invariant.proofs.NetSteps.{Follows, AtNext, own-by, own-completed, own-word, own-overflow, own-passed, own-bears-none, own-other, waiting-next}
-use Rattle.invariant.proofs.NetTasks.{word-same, overflow-same, coming-same, passed-same, own-follows, runs-next, runs-own, ran-completed, ran-word, ran-overflow, ran-born}
+use Rattle.invariant.proofs.NetTasks.{word-same, overflow-same, coming-same, passed-same, own-follows, runs-next, runs-own, ran-completed, ran-word, ran-overflow, ran-born, same-follows}
 use Rattle.invariant.proofs.NetTasks.{childless-complete}
+use Rattle.rules.specs.declared.channel.Hint.{Hint}
+use Rattle.channel.specs.Bags.{without}
+use mathlib.Core.Option.{some}
 
 -- a finish is the last of its program
 last-finish : (g : Program) (i : ℕ) → finishOk g ≡ true → i < length g → isFinish (instructionAt g i) ≡ true → suc i ≡ length g
@@ -83,9 +86,14 @@ next-kept m s l t idle at =
       next = next-stays m s l t idle ∙ at .next;
     }
 
+-- an ended letter is of no channel
+no-channel : (c : ChannelId) (o : Hint) (t : TaskId) → messageOn c (Terminated o t) ≡ []
+unfolding messageOn
+no-channel c o t = refl
+
 -- a task p loses a child, in the net s', which the run `before` has reached and in which the other tasks agree with the rig y
 module _ (m : Programs) (accepted : planAnswer m ≡ Accepted) {s s' : Net} {ls : List Label} (before : Run (net m) s ls s')
-    (consistent : Consistent m s') (y : Reading) (w : ChannelId → List Word) (passed : PassedAlike s' w (y .messages)) (kindred : AllChildren m y)
+    (consistent : Consistent m s') (h : Histories) (y : Reading) (w : ChannelId → List Word) (passed : PassedAlike s' w (y .messages)) (kindred : AllChildren m h y)
     (p t : TaskId) (number : within 1 (length m) (p .0) ≡ true) (others : (u : TaskId) → u .0 ≢ p .0 → Agrees m s' (y .messages) u (y .tasks u)) where
   all-agree : (z : Net) → Agrees m z (y .messages) p (y .tasks p) → ((u : TaskId) → u .0 ≢ p .0 → Agrees m z (y .messages) u (y .tasks u))
       → (u : TaskId) → Agrees m z (y .messages) u (y .tasks u)
@@ -139,7 +147,7 @@ module _ (m : Programs) (accepted : planAnswer m ≡ Accepted) {s s' : Net} {ls 
             let here = at waiting in
             let may =
             own-by m s' p here (rw (old .sync waiting) refl)
-            (λ j. childless-complete m accepted s' consistent y kindred p number others (rw q (and-right (isIn Waiting x) (eqb k 0) e))) in
+            (λ j. childless-complete m accepted s' consistent h y kindred p number others (rw q (and-right (isIn Waiting x) (eqb k 0) e))) in
             let none : isCreate (nextOf m s' p) ≡ false = rw (sync-next here waiting) refl in
             record {
               end = effect m s' (own p);
@@ -194,7 +202,7 @@ module _ (m : Programs) (accepted : planAnswer m ≡ Accepted) (s : Net) (consis
         let stay : (u : TaskId) → u .0 ≢ t .0 → Agrees m s' (y .messages) u (x .tasks u) =
         λ u ne. own-other m s t ne (own-bears-none m s t bears-none u) (coming-same m accepted s consistent run y same u (x .tasks u))
         (run .agrees u) in
-        loses-follows m accepted (take (own t) may-finish stop) (label-consistent m accepted s consistent (own t) may-finish) y w
+        loses-follows m accepted (take (own t) may-finish stop) (label-consistent m accepted s consistent (own t) may-finish) h y w
         (passed-same m accepted s consistent run y same s' (own-passed m s t)) (kindred-finish m accepted run transition .children)
         p t (parent-number m accepted t number)
         (λ u ne.
@@ -205,33 +213,46 @@ module _ (m : Programs) (accepted : planAnswer m ≡ Accepted) (s : Net) (consis
         (λ q. next-kept m s (own t) p (ne-eqb (p .0) (t .0) other) (waiting-next m accepted s consistent run p q))
         (rw e (at-other (atTask (x .tasks) p lost) t p (finished (x .tasks t)) other ∙ at-task (x .tasks) p lost))
 
-    finishing-follows : Finishing m x y (transition .task) → Follows m s y w
+    finishing-follows : Finishing m h x y (transition .task) → Follows m s y w
     unfolding messageOn
     finishing-follows (alone one e l) =
         own-follows m accepted s consistent run y (λ c. rw l refl) (transition .task)
         (finished (x .tasks (transition .task))) may-finish bears-none e finished-agrees
-    finishing-follows (away one far e l) =
+    finishing-follows (away along one ways e l) =
         let t = transition .task in
         own-follows m accepted s consistent run y
-        (λ c. rw l (flat-post-nothing (messageOn c) (x .messages) (Terminated (x .tasks t .home) t) refl)) t
+        (λ c. rw l (flat-post-nothing (messageOn c) (x .messages) (Terminated along t) refl)) t
         (finished (x .tasks t)) may-finish bears-none e finished-agrees
-    finishing-follows (near one here e l) = near-follows one e l
+    finishing-follows (near one e l) = near-follows one e l
 
   pub finish-follows : {y : Reading} → FinishTransition m h x y → Follows m s y w
   finish-follows transition = finishing-follows transition (transition .finishing)
 
+  -- an ended letter for child t, at place k of the mail
+  module _ (y : Reading) (k : ℕ) (along : Hint) (t : TaskId) (message : getElem? (x .messages) k ≡ some (Terminated along t))
+      (number : within 2 (length m) (t .0) ≡ true) (kindred : AllChildren m h y) where
+    left : (c : ChannelId) → messagesOn c (without (x .messages) k) ≡ messagesOn c (x .messages)
+    left c = flat-without (messageOn c) (x .messages) k message (no-channel c along t)
+
+    ending-follows : Ending m h x y k along t → Follows m s y w
+    ending-follows (taken e l same) =
+        let p = parentOf m t in
+        let lost = withoutChild (x .tasks p) t in
+        let still : (c : ChannelId) → messagesOn c (y .messages) ≡ messagesOn c (x .messages) = λ c. rw l (left c) in
+        let stay : (u : TaskId) → Agrees m s (y .messages) u (x .tasks u) =
+        λ u. alike-agrees (run .agrees u) refl refl refl refl (coming-same m accepted s consistent run y still u (x .tasks u)) in
+        loses-follows m accepted stop consistent h y w (passed-same m accepted s consistent run y still s refl) kindred p t
+        (parent-number m accepted t number)
+        (λ u ne. rw (e, at-other (x .tasks) p u lost ne) (stay u))
+        (x .tasks p) (stay p) (waiting-next m accepted s consistent run p)
+        (rw e (at-task (x .tasks) p lost))
+    ending-follows (onward more e l same) =
+        let pointer = x .parents (parentOf m t) (along .processor .0) .hint in
+        same-follows m accepted s consistent run y
+        (λ c. rw l (flat-post-nothing (messageOn c) (without (x .messages) k) (Terminated pointer t) (no-channel c pointer t) ∙ left c)) e
+    ending-follows (holds c e l same) = same-follows m accepted s consistent run y (λ c. rw l (left c)) e
+
   pub ended-follows : {y : Reading} → EndedTransition m h x y → Follows m s y w
-  unfolding messageOn
   ended-follows {y} transition =
-      let t = transition .task in
-      let p = parentOf m t in
-      let same : (c : ChannelId) → messagesOn c (y .messages) ≡ messagesOn c (x .messages) =
-      λ c. rw (transition .messages) (flat-without (messageOn c) (x .messages) (transition .p) (transition .message) refl) in
-      let stay : (u : TaskId) → Agrees m s (y .messages) u (x .tasks u) =
-      λ u. alike-agrees (run .agrees u) refl refl refl refl (coming-same m accepted s consistent run y same u (x .tasks u)) in
-      loses-follows m accepted stop consistent y w (passed-same m accepted s consistent run y same s refl)
-      (kindred-ended m accepted run transition .children)
-      p t (parent-number m accepted t (transition .number))
-      (λ u ne. rw (transition .tasks, at-other (x .tasks) p u (withoutChild (x .tasks p) t) ne) (stay u))
-      (x .tasks p) (stay p) (waiting-next m accepted s consistent run p)
-      (rw (transition .tasks) (at-task (x .tasks) p (withoutChild (x .tasks p) t)))
+      ending-follows y (transition .p) (transition .along) (transition .task) (transition .message) (transition .number)
+      (kindred-ended m accepted run transition .children) (transition .ending)

@@ -24,7 +24,7 @@ use Rattle.rules.specs.declared.task.Task.{Task}
 use Rattle.rules.specs.declared.message.Message.{Message}
 use Rattle.rules.specs.declared.message.Message.the-variants.{Migration}
 use Rattle.rules.specs.declared.rule.Received.the-variants.{Nothing}
-use Rattle.rules.specs.Tasks.{isIn, isChildless, withState, advanced, born, departed, arrived}
+use Rattle.rules.specs.Tasks.{isIn, isChildless, withState, advanced, born, departed, arrived, withoutChildren}
 use Rattle.rules.specs.Local.{createRule}
 use Rattle.rules.specs.Steps.{wordOn}
 use Rattle.net.specs.States.{Net, atTask}
@@ -44,10 +44,12 @@ use Rattle.transitions.proofs.Updates.{at-elim}
 use Rattle.transitions.proofs.Flats.{flat-post-nothing, flat-without}
 use Rattle.transitions.proofs.Parents.{parent-other}
 use Rattle.transitions.proofs.Tasks.{state-is, blocked-in, not-receiving, completed-free, completed-blocked, last-after, unborn-apart}
-use Rattle.invariant.proofs.FamilyParts.{AllChildren, childless-done}
+use Rattle.invariant.proofs.FamilyParts.{AllChildren}
 use Rattle.invariant.proofs.Coming.{coming-none, coming-alike, agrees-born, agrees-completed, agrees-word, alike-agrees, unborn-not, agrees-free}
 use Rattle.invariant.proofs.NetSteps.{Follows, AtNext, own-by, own-completed, own-word, own-overflow, own-born, own-passed, own-bears-none, own-apart, own-other}
 use Rattle.invariant.proofs.NetSteps.{done-complete, ready-next}
+use Rattle.invariant.proofs.ChildParts.{childless-done}
+use Rattle.rules.specs.Hints.{hint}
 
 -- nothing is received
 pub follows-nothing : {m : Programs} {s : Net} {y : Reading} {w : ChannelId → List Word} → Follows m s y w
@@ -73,10 +75,10 @@ unfolding overflowAfter
 overflow-same i v b k e q = rw (e, q) (or-false b)
 
 -- a task with no children, in a net with which the other tasks agree
-pub childless-complete : (m : Programs) → planAnswer m ≡ Accepted → (s : Net) → Consistent m s → (y : Reading) → AllChildren m y
+pub childless-complete : (m : Programs) → planAnswer m ≡ Accepted → (s : Net) → Consistent m s → (h : Histories) (y : Reading) → AllChildren m h y
     → (p : TaskId) → within 1 (length m) (p .0) ≡ true → ((u : TaskId) → u .0 ≢ p .0 → Agrees m s (y .messages) u (y .tasks u))
     → isChildless (y .tasks p) ≡ true → childrenComplete m s p ≡ true
-childless-complete m accepted s consistent y kindred p number others e =
+childless-complete m accepted s consistent h y kindred p number others e =
     let low = within-low 1 (length m) (p .0) number in
     complete-children m accepted s consistent p low (within-high 1 (length m) (p .0) number)
     (λ u parent b.
@@ -93,6 +95,17 @@ module _ (m : Programs) (accepted : planAnswer m ≡ Accepted) (s : Net) (consis
 
     pub passed-same : (s' : Net) → s' .passed ≡ s .passed → PassedAlike s' w (y .messages)
     passed-same s' e d = rw (same d, e) (run .passed d)
+
+    -- no task changes
+    pub same-follows : y .tasks ≡ x .tasks → Follows m s y w
+    same-follows e =
+        record {
+          end = s;
+          labels = [];
+          run = stop;
+          agrees = λ u. rw e (alike-agrees (run .agrees u) refl refl refl refl (coming-same u (x .tasks u)));
+          passed = passed-same s refl;
+        }
 
     -- one task changes, and the net stays
     pub still-follows : (t : TaskId) (z : Task) → y .tasks ≡ atTask (x .tasks) t z → Agrees m s (y .messages) t z → Follows m s y w
@@ -153,7 +166,7 @@ module _ (m : Programs) (accepted : planAnswer m ≡ Accepted) (s : Net) (consis
     pub runs-own : isTransfer i ≡ false → (isJoin i ≡ true → isChildless (x .tasks t) ≡ true) → enabled m s (own t) ≡ true
     runs-own alone join =
         own-by m s t runs-next alone
-        (λ e. childless-complete m accepted s consistent x (run .children) t (runs .number) (λ u ne. run .agrees u) (join e))
+        (λ e. childless-complete m accepted s consistent h x (run .children) t (runs .number) (λ u ne. run .agrees u) (join e))
 
     -- after it
     pub ran-completed : effect m s (own t) .completed t ≡ x .tasks t .pc
@@ -231,12 +244,14 @@ module _ (m : Programs) (accepted : planAnswer m ≡ Accepted) (s : Net) (consis
         rw (operand, ne-eqb (transition .child .0) (v .0) (λ e. ne (sym e))) (and-false (eqb (i .opcode) opCreate)) in
         created-born v ∙ rw not-this (or-false (s .born v))
 
-    child-agrees : Agrees m (effect m s (own (transition .task))) (y .messages) (transition .child) (born (x .tasks (transition .task) .processor))
+    child-agrees : let d = x .tasks (transition .task) .processor in
+        Agrees m (effect m s (own (transition .task))) (y .messages) (transition .child) (born d (hint d (x .tasks (transition .task) .moves)))
     child-agrees =
         let u = transition .child in
+        let d = x .tasks (transition .task) .processor in
         let b : effect m s (own (transition .task)) .born u ≡ true = created-born u ∙ rw (transition .creates) (or-true (s .born u)) in
         let (k, (v, o)) = own-apart m s (transition .task) u child-other in
-        agrees-free b (o ∙ consistent .unmarked u child-unborn) refl refl refl (k ∙ consistent .idle u child-unborn ∙ sym (completed-free (born (x .tasks (transition .task) .processor)) refl))
+        agrees-free b (o ∙ consistent .unmarked u child-unborn) refl refl refl (k ∙ consistent .idle u child-unborn ∙ sym (completed-free (born d (hint d (x .tasks (transition .task) .moves))) refl))
         (v ∙ consistent .wordless u child-unborn)
 
     pub create-follows : Follows m s y w
@@ -276,9 +291,10 @@ module _ (m : Programs) (accepted : planAnswer m ≡ Accepted) (s : Net) (consis
   arrival-follows {y} transition =
       let t = transition .task in
       let z = x .tasks t in
-      still-follows y (λ c. rw (transition .messages) (flat-without (messageOn c) (x .messages) (transition .p) (transition .message) refl)) t (arrived z (transition .at))
+      let here = withoutChildren (arrived z (transition .at)) (x .parents t (transition .at .0) .held) in
+      still-follows y (λ c. rw (transition .messages) (flat-without (messageOn c) (x .messages) (transition .p) (transition .message) refl)) t here
       (transition .tasks)
-      (free-agrees t (y .messages) (arrived z (transition .at)) (state-is Moving Unborn z (transition .moving))
+      (free-agrees t (y .messages) here (state-is Moving Unborn z (transition .moving))
       (blocked-in z Moving (transition .moving)) refl refl refl refl refl refl)
 
   pub move-follows : {h' : Histories} {y : Reading} → MoveTransition m h h' x y → Follows m s y w

@@ -129,7 +129,7 @@ module _ (p : Plan) (a : planAnswer (programs p) ≡ PlanAccepted) {r : System} 
         → MarksAfter r t (reading q .tasks) → Next p k t q got true false
     unfolding together reading
     after-run {got} h transition marks =
-        let less = run-less m (k .running) transition in
+        let less = run-less m a (k .running) transition in
         record {
           kept =
               together q (λ c. w c ++ wordOn c got) h shaped ok plan (families-run m a (k .running) transition) (views-run m (k .running) transition)
@@ -144,7 +144,7 @@ module _ (p : Plan) (a : planAnswer (programs p) ≡ PlanAccepted) {r : System} 
     after-deliver : {got : Received} → DeliverTransition m (k .histories) (reading r) (reading q) got → Next p k t q got false false
     unfolding together reading
     after-deliver {got} transition =
-        let less = deliver-less m (k .running) transition in
+        let less = deliver-less m a (k .running) transition in
         record {
           kept =
               together q (λ c. w c ++ wordOn c got) (k .histories) shaped ok plan (families-deliver m a (k .running) transition)
@@ -164,7 +164,7 @@ module _ (p : Plan) (a : planAnswer (programs p) ≡ PlanAccepted) {r : System} 
               rw (no-more w)
               (together q w h shaped ok plan (families-move m a (k .running) transition) (views-move m (k .running) transition) (root-move m (k .running) transition)
               (follows-move m a (k .reached) (k .running) transition));
-          work = omega (arith, move-work m (k .running) transition);
+          work = omega (arith, move-work m a (k .running) transition);
           falls = λ e. absurd (tests-differ refl e);
           counts = counts-move m transition;
           marks = λ u. move-marks m transition u ∙ sym (or-false (taskAt r u .overflow));

@@ -21,7 +21,7 @@ use Rattle.rules.specs.declared.task.TaskState.the-variants.{Unborn, Waiting}
 use Rattle.rules.specs.declared.rule.Received.{Received}
 use Rattle.rules.specs.declared.step.StepAnswer.the-variants.{Accepted}
 use Rattle.rules.specs.declared.system.System.{System}
-use Rattle.rules.specs.Tasks.{isIn, isChildless, withChildren, readied, woken, born, departed, arrived, withoutChild}
+use Rattle.rules.specs.Tasks.{isIn, isChildless, withChildren, readied, woken, born, departed, arrived, withoutChild, withoutChildren}
 use Rattle.rules.specs.Local.{createRule}
 use Rattle.rules.specs.Systems.{taskAt, meaning}
 use Rattle.rules.specs.Effects.{completed}
@@ -35,7 +35,7 @@ use Rattle.net.specs.Consistent.{Consistent}
 use Rattle.channel.specs.Events.{Event}
 use Rattle.transitions.specs.Readings.{Reading, reading}
 use Rattle.transitions.specs.Views.{Histories}
-use Rattle.transitions.specs.Transitions.{Own, goes-on, waits, ChannelTransition, CreateTransition, Finishing, alone, near, away, finished, DeliverTransition, delivers, ends, arrives, MoveTransition}
+use Rattle.transitions.specs.Transitions.{Ending, taken, onward, holds, Own, goes-on, waits, ChannelTransition, CreateTransition, Finishing, alone, near, away, finished, DeliverTransition, delivers, ends, arrives, MoveTransition}
 use Rattle.transitions.specs.Agreement.{Running}
 use Rattle.transitions.proofs.Updates.{task-cases, at-elim}
 use Rattle.transitions.proofs.EndSteps.{end-step-overflow}
@@ -45,6 +45,8 @@ use Rattle.transitions.proofs.FinishTransitions.{finish-transition}
 use Rattle.transitions.proofs.SendTransitions.{send-transition}
 use Rattle.transitions.proofs.ReceiveTransitions.{receive-transition}
 use Rattle.invariant.proofs.FamilyParts.{kept-one, kept-two}
+use Rattle.rules.specs.declared.channel.Hint.{Hint}
+use Rattle.rules.specs.Hints.{hint}
 
 -- a task keeps its mark, and all do
 abbrev SameMark : Task → Task → Type 0
@@ -69,12 +71,12 @@ lost-mark x t =
 
 -- steps that change no mark
 module _ (m : Programs) {x y : Reading} where
-  finish-marks : (t : TaskId) → Finishing m x y t → SameMarks (x .tasks) (y .tasks)
+  finish-marks : {h : Histories} (t : TaskId) → Finishing m h x y t → SameMarks (x .tasks) (y .tasks)
   finish-marks t (alone e f l) = rw f (one-mark (x .tasks) t (finished (x .tasks t)) refl)
-  finish-marks t (near ne at f l) =
+  finish-marks t (near ne f l) =
       let p = parentOf m t in
       rw f (two-marks (x .tasks) p t (withoutChild (x .tasks p) t) (finished (x .tasks t)) (lost-mark (x .tasks p) t) refl)
-  finish-marks t (away ne at f l) = rw f (one-mark (x .tasks) t (finished (x .tasks t)) refl)
+  finish-marks t (away along ne ways f l) = rw f (one-mark (x .tasks) t (finished (x .tasks t)) refl)
 
   module _ {h : Histories} where
     channel-marks : {e : Event} {got : Received} → ChannelTransition m h x y e got → SameMarks (x .tasks) (y .tasks)
@@ -91,16 +93,22 @@ module _ (m : Programs) {x y : Reading} where
     create-marks transition none =
         let t = transition .task in
         let u = transition .child in
-        rw (transition .tasks) (two-marks (x .tasks) t u (createRule (x .tasks t) u) (born (x .tasks t .processor)) refl (sym none))
+        rw (transition .tasks) (two-marks (x .tasks) t u (createRule (x .tasks t) u) (born (x .tasks t .processor) (hint (x .tasks t .processor) (x .tasks t .moves))) refl (sym none))
+
+    ending-marks : (p : ℕ) (along : Hint) (t : TaskId) → Ending m h x y p along t → SameMarks (x .tasks) (y .tasks)
+    ending-marks p along t (taken f l k) =
+        let v = parentOf m t in
+        rw f (one-mark (x .tasks) v (withoutChild (x .tasks v) t) (lost-mark (x .tasks v) t))
+    ending-marks p along t (onward more f l k) = λ u. rw f refl
+    ending-marks p along t (holds c f l k) = λ u. rw f refl
 
     pub deliver-marks : {got : Received} → DeliverTransition m h x y got → SameMarks (x .tasks) (y .tasks)
     deliver-marks (delivers p a transition) = channel-marks transition
-    deliver-marks (ends transition) =
-        let p = parentOf m (transition .task) in
-        rw (transition .tasks) (one-mark (x .tasks) p (withoutChild (x .tasks p) (transition .task)) (lost-mark (x .tasks p) (transition .task)))
+    deliver-marks (ends transition) = ending-marks (transition .p) (transition .along) (transition .task) (transition .ending)
     deliver-marks (arrives transition) =
         let t = transition .task in
-        rw (transition .tasks) (one-mark (x .tasks) t (arrived (x .tasks t) (transition .at)) refl)
+        let d = transition .at in
+        rw (transition .tasks) (one-mark (x .tasks) t (withoutChildren (arrived (x .tasks t) d) (x .parents t (d .0) .held)) refl)
 
     pub move-marks : {h' : Histories} → MoveTransition m h h' x y → SameMarks (x .tasks) (y .tasks)
     move-marks transition = let t = transition .task in rw (transition .tasks) (one-mark (x .tasks) t (departed (x .tasks t)) refl)

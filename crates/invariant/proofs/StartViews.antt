@@ -1,5 +1,5 @@
 -- The rig at the start as it is read, and its views: those of a rig where nobody is born, after the birth of task 1 at desk 1.
-use mathlib.Core.Path.{_≡_, refl, _∙_, ap, fun-ext}
+use mathlib.Core.Path.{_≡_, refl, _∙_, ap, fun-ext, sym}
 use mathlib.Core.Bool.{Bool, true, false, not, _&&_}
 use mathlib.Core.List.{[]}
 use mathlib.Core.Logic.{_≢_, by-cases}
@@ -25,14 +25,14 @@ use Rattle.rules.specs.declared.task.Task.{Task}
 use Rattle.rules.specs.declared.channel.Entry.{Entry}
 use Rattle.rules.specs.declared.channel.Channel.{Channel}
 use Rattle.rules.specs.declared.system.System.{System}
-use Rattle.rules.specs.Numbers.{channelNumberOk}
+use Rattle.rules.specs.Numbers.{channelNumberOk, taskNumberOk}
 use Rattle.rules.specs.Tasks.{noTask, unborn, born}
 use Rattle.rules.specs.Cells.{noOffer}
 use Rattle.rules.specs.Places.{isOn}
 use Rattle.rules.specs.Networks.{messages}
-use Rattle.rules.specs.Systems.{taskAt, withTask, entryIndex, taskIn, taskStored, channelAt, entryAt}
+use Rattle.rules.specs.Systems.{taskAt, withTask, entryIndex, taskIn, taskStored, channelAt, entryAt, parentIndex, parentAt, withParent}
 use Rattle.rules.specs.Effects.{forChannels, receivesOn}
-use Rattle.rules.specs.Starts.{located, birth, blank, started}
+use Rattle.rules.specs.Starts.{located, birth, blank, started, pointing}
 use Rattle.rules_laws.specs.Shapes.{Shaped}
 use Rattle.rules_laws.proofs.TaskAt.{withTask-shaped}
 use Rattle.rules_laws.proofs.Shapes.{blank-shaped}
@@ -45,14 +45,17 @@ use Rattle.channel.specs.Events as events
 use Rattle.channel.specs.Invariant.{Invariant}
 use Rattle.channel.proofs.Updates.{at-self}
 use Rattle.channel.proofs.Keep.{keeps, starts}
-use Rattle.transitions.specs.Readings.{Reading, reading, entryOf, channelOf, noEntry, noChannel, withTaskRead, forChannelsRead}
+use Rattle.transitions.specs.Readings.{Reading, reading, entryOf, channelOf, noEntry, noChannel, withTaskRead, forChannelsRead, noParentEntry, parentEntryOf, withParentRead}
 use Rattle.transitions.specs.Progress.{programOf, completedBy, useNumber}
 use Rattle.transitions.specs.Messages.{flat}
 use Rattle.transitions.specs.Views.{Histories, senderView, receiverView, tablesView, stateView, viewOf}
 use Rattle.transitions.specs.Transitions.{sentTo}
 use Rattle.transitions.proofs.Updates.{at-other}
-use Rattle.transitions.proofs.Frames.{read-task, read-forChannels}
+use Rattle.transitions.proofs.Frames.{read-task, read-forChannels, IsTask, parent-there, read-parent}
 use Rattle.transitions.proofs.Outcomes.{part-at}
+use Rattle.rules.specs.declared.system.ParentEntry.{ParentEntry}
+use Rattle.rules.specs.Hints.{hint, unknown}
+use Rattle.rules_laws.proofs.ParentAt.{withTask-parentAt, withParent-shaped}
 
 -- a list of one value alone
 getD-alike : {A : Type 0} (k i : ℕ) (a : A) → getD (replicate k a) i a ≡ a
@@ -66,12 +69,15 @@ getD-alike k i a =
 abbrev entryAlike : ℕ → Entry
 entryAlike z = record { hint = hintTo z z; held = offerOf z z; noted = processorId z }
 
+abbrev parentAlike : ℕ → ParentEntry
+parentAlike z = record { hint = hintTo z z; held = z }
+
 abbrev channelAlike : ℕ → Bool → Channel
 channelAlike z b = record { granted = z; awaiting = b; carried = offerOf z z; travelling = hintTo z z }
 
 -- the rig where nobody is born
 module _ (n : ℕ) (p : Plan) where
-  blank-task : (P : Task → Type 0) (t : TaskId) → P unborn → P noTask → P (taskAt (blank n p) t)
+  pub blank-task : (P : Task → Type 0) (t : TaskId) → P unborn → P noTask → P (taskAt (blank n p) t)
   unfolding taskIn blank
   blank-task P t u z =
       let i = t .0 - 1 in
@@ -95,18 +101,31 @@ module _ (n : ℕ) (p : Plan) where
       pick-either (λ e. e ≡ noChannel) (channelNumberOk c) (channelAlike (getD (replicate 128 0) i 0) (getD (replicate 128 false) i false)) noChannel
       (rw (getD-alike {A = ℕ} 128 i 0, getD-alike 128 i false) refl) refl
 
--- the rig at the start, as it is read: nothing is kept but the pointer of desk 1 for each channel that task 1 receives on
-abbrev first : TaskId
+  blank-parent : (t : TaskId) (d : ℕ) → parentEntryOf (blank n p) t d ≡ noParentEntry
+  unfolding parentEntryOf parentAt blank
+  blank-parent t d =
+      let i = parentIndex (processorId d) t in
+      pick-either (λ e. e ≡ noParentEntry) (taskNumberOk 64 t && not (eqb d 0)) (parentAlike (getD (replicate 384 0) i 0)) noParentEntry
+      (ap parentAlike (getD-alike 384 i 0)) refl
+
+-- the rig at the start, as it is read: nothing is kept but the pointer of desk 1 to task 1, for each channel that it receives on and as a parent
+abbrev pub first : TaskId
 first = taskId 1
 
 abbrev pub startTasks : ℕ → Plan → TaskId → Task
-startTasks n p = atTask (taskAt (blank n p)) first (born (processorId 1))
+startTasks n p = atTask (taskAt (blank n p)) first (born (processorId 1) unknown)
 
 abbrev entryHere : Entry
 entryHere = record { hint = hintTo 1 1; held = noOffer; noted = processorId 0 }
 
 abbrev startEntries : Bool → ℕ → Entry
 startEntries b = pick b (atNumber (λ d. noEntry) 1 entryHere) (λ d. noEntry)
+
+abbrev pub parentHere : ParentEntry
+parentHere = record { hint = hintTo 1 1; held = 0 }
+
+abbrev pub startParents : TaskId → ℕ → ParentEntry
+startParents = atTask (λ t d. noParentEntry) first (atNumber (λ d. noParentEntry) 1 parentHere)
 
 abbrev startWith : ℕ → Plan → (ChannelId → Channel) → Reading
 startWith n p ks =
@@ -115,61 +134,90 @@ startWith n p ks =
       tasks = startTasks n p;
       entries = λ c. startEntries (channelNumberOk c && receivesOn (programs p) first c);
       channels = ks;
+      parents = startParents;
       messages = [];
     }
 
 abbrev pub startReading : ℕ → Plan → Reading
 startReading n p = startWith n p (λ c. noChannel)
 
-abbrev blankWith : ℕ → Plan → (ChannelId → ℕ → Entry) → (ChannelId → Channel) → Reading
-blankWith n p es ks = record { processors = n; tasks = taskAt (blank n p); entries = es; channels = ks; messages = [] }
+abbrev blankWith : ℕ → Plan → (ChannelId → ℕ → Entry) → (ChannelId → Channel) → (TaskId → ℕ → ParentEntry) → Reading
+blankWith n p es ks ps = record { processors = n; tasks = taskAt (blank n p); entries = es; channels = ks; parents = ps; messages = [] }
+
+abbrev blankRead : ℕ → Plan → Reading
+blankRead n p = blankWith n p (λ c d. noEntry) (λ c. noChannel) (λ t d. noParentEntry)
 
 module _ (n : ℕ) (p : Plan) where
-  blank-parts : reading (blank n p) ≡ blankWith n p (entryOf (blank n p)) (channelOf (blank n p))
+  blank-parts : reading (blank n p) ≡ blankWith n p (entryOf (blank n p)) (channelOf (blank n p)) (parentEntryOf (blank n p))
   unfolding reading messages blank
   blank-parts = refl
 
-  read-blank : reading (blank n p) ≡ blankWith n p (λ c d. noEntry) (λ c. noChannel)
+  read-blank : reading (blank n p) ≡ blankRead n p
   read-blank =
       let e : entryOf (blank n p) ≡ (λ c d. noEntry) = fun-ext λ c. fun-ext λ d. blank-entry n p c d in
       let k : channelOf (blank n p) ≡ (λ c. noChannel) = fun-ext λ c. blank-channel n p c in
-      blank-parts ∙ rw (e, k) refl
+      let a : parentEntryOf (blank n p) ≡ (λ t d. noParentEntry) = fun-ext λ t. fun-ext λ d. blank-parent n p t d in
+      blank-parts ∙ rw (e, k, a) refl
+
+  abbrev one : Task
+  one = born (processorId 1) unknown
 
   abbrev oneBorn : System
-  oneBorn = withTask (blank n p) first (born (processorId 1))
+  oneBorn = withTask (blank n p) first one
 
-  started-by-birth : started n p ≡ forChannels 128 (receivesOn (programs p) first) (located (processorId 1) 1) (processorId 1) oneBorn
-  unfolding started birth withTask taskStored blank
-  started-by-birth = refl
+  -- and desk 1 points to it
+  abbrev onePointed : System
+  onePointed = withParent oneBorn (processorId 1) first parentHere
+
+  is-first : IsTask first
+  is-first = record { low = omega arith; high = omega arith }
+
+  no-entry : parentAt oneBorn (processorId 1) first ≡ noParentEntry
+  no-entry =
+      withTask-parentAt (blank n p) first one (processorId 1) first
+      ∙ sym (parent-there (blank n p) first 1 is-first (omega arith)) ∙ blank-parent n p first 1
+
+  abbrev bornWith : ParentEntry → System
+  bornWith e =
+      forChannels 128 (receivesOn (programs p) first) (located (processorId 1) 1) (processorId 1)
+      (withParent oneBorn (processorId 1) first (pointing e (hint (processorId 1) 1)))
+
+  by-birth : started n p ≡ bornWith (parentAt oneBorn (processorId 1) first)
+  unfolding started birth withTask withParent taskStored blank
+  by-birth = refl
+
+  started-by-birth : started n p ≡ forChannels 128 (receivesOn (programs p) first) (located (processorId 1) 1) (processorId 1) onePointed
+  started-by-birth = by-birth ∙ ap bornWith no-entry
 
   one-born-shaped : Shaped oneBorn
-  one-born-shaped = withTask-shaped (blank n p) first (born (processorId 1)) (blank-shaped n p)
+  one-born-shaped = withTask-shaped (blank n p) first one (blank-shaped n p)
 
-  read-one-born : reading oneBorn ≡ withTaskRead (blankWith n p (λ c d. noEntry) (λ c. noChannel)) first (born (processorId 1))
+  read-one-born : reading onePointed ≡ withParentRead (withTaskRead (blankRead n p) first one) first 1 parentHere
   read-one-born =
-      read-task (blank n p) (blank-shaped n p) first (born (processorId 1)) (record { low = omega arith; high = omega arith })
-      ∙ ap (λ x. withTaskRead x first (born (processorId 1))) read-blank
+      read-parent oneBorn one-born-shaped (processorId 1) first parentHere is-first (omega arith) (omega arith)
+      ∙ ap (λ x. withParentRead x first 1 parentHere)
+      (read-task (blank n p) (blank-shaped n p) first one is-first ∙ ap (λ x. withTaskRead x first one) read-blank)
 
   pub read-started : reading (started n p) ≡ startReading n p
   read-started =
       let test = receivesOn (programs p) first in
       let rule = located (processorId 1) 1 in
       ap reading started-by-birth
-      ∙ read-forChannels oneBorn one-born-shaped test rule (processorId 1) (omega arith) (omega arith)
+      ∙ read-forChannels onePointed (withParent-shaped oneBorn (processorId 1) first parentHere one-born-shaped) test rule (processorId 1) (omega arith) (omega arith)
       ∙ ap (forChannelsRead test rule 1) read-one-born
       ∙ ap (startWith n p) (fun-ext λ c. pick-either (λ k. k ≡ noChannel) (channelNumberOk c && test c) noChannel noChannel refl refl)
 
 -- a task at the start: the first is ready at desk 1, the others are not born
 pub start-cases : (n : ℕ) (p : Plan) (P : Task → Type 0) (t : TaskId)
-    → (t .0 ≡ 1 → P (born (processorId 1))) → (t .0 ≢ 1 → P unborn) → (t .0 ≢ 1 → P noTask) → P (startTasks n p t)
+    → (t .0 ≡ 1 → P (born (processorId 1) unknown)) → (t .0 ≢ 1 → P unborn) → (t .0 ≢ 1 → P noTask) → P (startTasks n p t)
 start-cases n p P t b u z =
     by-cases
     (ℕ-discrete (t .0) 1)
-    (λ e. rw (updated-at (λ (k : TaskId). k .0) (taskAt (blank n p)) first t (born (processorId 1)) e) (b e))
-    (λ ne. rw (at-other (taskAt (blank n p)) first t (born (processorId 1)) ne) (blank-task n p P t (u ne) (z ne)))
+    (λ e. rw (updated-at (λ (k : TaskId). k .0) (taskAt (blank n p)) first t (born (processorId 1) unknown) e) (b e))
+    (λ ne. rw (at-other (taskAt (blank n p)) first t (born (processorId 1) unknown) ne) (blank-task n p P t (u ne) (z ne)))
 
 -- where each task was sent: the first to desk 1, with count 1
-abbrev nowhere : Histories
+abbrev pub nowhere : Histories
 nowhere t k = 0
 
 abbrev pub startHistories : Histories

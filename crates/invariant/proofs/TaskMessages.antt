@@ -1,37 +1,37 @@
--- How many letters are about a task, when one is posted or taken; and all letters together are no more than the mail holds.
-use mathlib.Core.Path.{_≡_, refl, sym, ap, _∙_}
-use mathlib.Core.Logic.{_≢_, by-cases}
+-- How many letters are about a task; those of all channels and about all tasks are no more than the mail holds.
+use mathlib.Core.Path.{_≡_, refl, ap, _∙_}
+use mathlib.Core.Logic.{by-cases}
 use mathlib.Core.Bool.{Bool, true, false}
-use mathlib.Core.List.{List, [], _∷_, _++_}
-use mathlib.Core.Option.{some}
+use mathlib.Core.List.{List, [], _∷_}
 use Prim.Native.Nat.{ℕ, zero, suc, _+_, _≤_, _<_}
 use native.Mathlib.Omega.{arith}
 use native.Mathlib.Decide.{ℕ-discrete}
 use lib.Dec.{eqb}
-use lib.ListN.{length, getElem?, length-append}
+use lib.ListN.{length, length-append}
 use borrow.Author.Tests.{eq-eqb, ne-eqb}
 use Rattle.base.specs.Choice.{pick}
 use Rattle.base.specs.Range.{fold, sumBelow}
 use Rattle.base.proofs.Folds.{fold-same}
 use Rattle.base.proofs.Sums.{sum-const}
 use Rattle.plan.specs.declared.TaskId.{TaskId}
-use Rattle.plan.specs.declared.ProcessorId.{ProcessorId}
 use Rattle.plan.specs.declared.ChannelId.{ChannelId}
 use Rattle.plan.specs.Numbers.{taskId, channelId}
 use Rattle.rules.specs.declared.message.Message.{Message}
 use Rattle.rules.specs.declared.message.Message.the-variants.{Empty, Offered, Advert, ReadyToReceive, Data, Terminated, Migration}
-use Rattle.channel.specs.Bags.{one, without, total}
+use Rattle.channel.specs.Bags.{one, total}
 use Rattle.channel.specs.Messages.{ChannelMessage, offer, advert, call, word}
-use Rattle.channel.proofs.Bags.{total-post, total-without}
-use Rattle.transitions.specs.Messages.{flat, messageOn, messagesOn, endedTo, moverTo}
-use Rattle.transitions.proofs.Flats.{own-ended, other-ended, no-ended, own-mover, other-mover, no-mover}
-use Rattle.invariant.specs.Weights.{channelCount, taskMessages}
+use Rattle.transitions.specs.Messages.{flat, messageOn, messagesOn, endedTo, moverTo, endedOf, moversOf}
+use Rattle.invariant.specs.Weights.{channelCount}
 
 -- the length of what is sorted out
 flat-length : {A B : Type 0} (f : A → List B) (xs : List A) → length (flat f xs) ≡ total (λ x. length (f x)) xs
 unfolding flat total
 flat-length f [] = refl
 flat-length f (x ∷ xs) = length-append (f x) (flat f xs) ∙ ap (length (f x) +_) (flat-length f xs)
+
+-- the letters about task t
+abbrev pub taskMessages : List Message → TaskId → ℕ
+taskMessages ms t = length (endedOf t ms) + length (moversOf t ms)
 
 -- what one letter is worth for task t
 abbrev aboutTask : TaskId → Message → ℕ
@@ -49,32 +49,6 @@ counted ms t =
 total-cons : (t : TaskId) (m : Message) (ms : List Message) → total (aboutTask t) (m ∷ ms) ≡ aboutTask t m + total (aboutTask t) ms
 unfolding total
 total-cons t m ms = refl
-
--- letters about task t, and about no other
-pub record About (t : TaskId) (m : Message) : Type 0 where
-  pub own : aboutTask t m ≡ 1
-  pub others : (u : TaskId) → u .0 ≢ t .0 → aboutTask u m ≡ 0
-
-pub about-ended : (d : ProcessorId) (t : TaskId) → About t (Terminated d t)
-about-ended d t =
-    record { own = rw (own-ended t d, no-mover t d t) refl; others = λ u ne. rw (other-ended u d t (λ e. ne (sym e)), no-mover u d t) refl }
-
-pub about-mover : (d : ProcessorId) (t : TaskId) → About t (Migration d t)
-about-mover d t =
-    record { own = rw (own-mover t d, no-ended t d t) refl; others = λ u ne. rw (other-mover u d t (λ e. ne (sym e)), no-ended u d t) refl }
-
-module _ (ms : List Message) (t : TaskId) (m : Message) (about : About t m) where
-  pub posted-own : taskMessages (ms ++ one m) t ≡ suc (taskMessages ms t)
-  posted-own = omega (arith, counted (ms ++ one m) t, counted ms t, total-post (aboutTask t) ms m, about .own)
-
-  pub posted-other : (u : TaskId) → u .0 ≢ t .0 → taskMessages (ms ++ one m) u ≡ taskMessages ms u
-  posted-other u ne = omega (arith, counted (ms ++ one m) u, counted ms u, total-post (aboutTask u) ms m, about .others u ne)
-
-  pub taken-own : (p : ℕ) → getElem? ms p ≡ some m → suc (taskMessages (without ms p) t) ≡ taskMessages ms t
-  taken-own p e = omega (arith, counted (without ms p) t, counted ms t, total-without (aboutTask t) ms p m e, about .own)
-
-  pub taken-other : (p : ℕ) → getElem? ms p ≡ some m → (u : TaskId) → u .0 ≢ t .0 → taskMessages (without ms p) u ≡ taskMessages ms u
-  taken-other p e u ne = omega (arith, counted (without ms p) u, counted ms u, total-without (aboutTask u) ms p m e, about .others u ne)
 
 sum-both : (n : ℕ) (f g : ℕ → ℕ) → sumBelow n (λ k. f k + g k) ≡ sumBelow n f + sumBelow n g
 unfolding fold
@@ -127,12 +101,12 @@ module _ (n : ℕ) where
   once (Advert e d from) = of-channel e (advert (d .0) (from .0))
   once (ReadyToReceive e d h) = of-channel e (call (d .0) (h .processor .0) (h .moves))
   once (Data e d w) = of-channel e (word (d .0) w)
-  once (Terminated d t) =
+  once (Terminated h t) =
       omega (
         arith,
         no-channel,
-        few-of (t .0) n (λ k. length (pick (eqb (t .0) (suc k)) (one (d .0)) []) + 0)
-            (λ k. let e = length-pick (eqb (t .0) (suc k)) (d .0) in omega (arith, e)),
+        few-of (t .0) n (λ k. length (pick (eqb (t .0) (suc k)) (one h) []) + 0)
+            (λ k. let e = length-pick (eqb (t .0) (suc k)) h in omega (arith, e)),
       )
   once (Migration d t) =
       omega (

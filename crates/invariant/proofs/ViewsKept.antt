@@ -1,5 +1,5 @@
 -- Every act keeps the invariant of every channel: each view changes by one event or not at all. And task 1 gets no ended letter.
-use mathlib.Core.Path.{_≡_, ap, _∙_}
+use mathlib.Core.Path.{_≡_, ap, _∙_, refl}
 use mathlib.Core.List.{List, [], _++_}
 use mathlib.Core.Option.{some}
 use Prim.Native.Nat.{_≤_, ℕ}
@@ -25,12 +25,15 @@ use Rattle.transitions.specs.Readings.{Reading}
 use Rattle.transitions.specs.Messages.{endedTo, endedOf}
 use Rattle.transitions.specs.Views.{Histories, viewOf}
 use Rattle.transitions.specs.Transitions as Transitions
-use Rattle.transitions.specs.Transitions.{ChannelTransition, Unseen, Placing, sender-birth, receiver-birth, sender-arrival, receiver-arrival, Departing, sender-departure}
+use Rattle.transitions.specs.Transitions.{ChannelTransition, Unseen, Placing, sender-birth, receiver-birth, sender-arrival, receiver-arrival, Departing, sender-departure, Ending, taken, onward, holds}
 use Rattle.transitions.specs.Transitions.{receiver-departure, Finishing, alone, near, away, MoveTransition, RunTransition, transfers, owns, creates, finishes, DeliverTransition}
 use Rattle.transitions.specs.Transitions.{delivers, ends, arrives}
 use Rattle.transitions.specs.Agreement.{Running}
 use Rattle.transitions.proofs.Updates.{channel-cases}
 use Rattle.transitions.proofs.Flats.{flat-post-nothing, flat-without, other-ended, no-ended}
+use mathlib.Core.Logic.{_≢_}
+use Rattle.rules.specs.declared.channel.Hint.{Hint}
+use Rattle.plan.specs.Users.{parentOf}
 
 -- a birth, an arrival or a departure is an event
 placing-change : {v w : View} → Placing v w → Change v w
@@ -88,10 +91,21 @@ module _ (m : Programs) {h : Histories} {s : Net} {x : Reading} {w : ChannelId �
       → endedTo (taskId 1) a ≡ [] → endedOf (taskId 1) ms ≡ []
   taken-root p at e other = ap (endedOf (taskId 1)) e ∙ flat-without (endedTo (taskId 1)) (x .messages) p at other ∙ run .root
 
-  finish-root : {y : Reading} (t : TaskId) → Finishing m x y t → endedOf (taskId 1) (y .messages) ≡ []
+  finish-root : {y : Reading} (t : TaskId) → Finishing m h x y t → endedOf (taskId 1) (y .messages) ≡ []
   finish-root t (alone z e l) = still-root l
-  finish-root t (near ne a e l) = still-root l
-  finish-root t (away ne a e l) = posted-root (Terminated (x .tasks t .home) t) l (other-ended (taskId 1) (x .tasks t .home) t ne)
+  finish-root t (near ne e l) = still-root l
+  finish-root t (away along ne ways e l) = posted-root (Terminated along t) l (other-ended (taskId 1) along t ne)
+
+  -- the letter of another task leaves, and may be forwarded
+  ended-root : {y : Reading} (p : ℕ) (along : Hint) (t : TaskId) → getElem? (x .messages) p ≡ some (Terminated along t) → t .0 ≢ 1
+      → Ending m h x y p along t → endedOf (taskId 1) (y .messages) ≡ []
+  ended-root p along t at ne (taken e l k) = taken-root p at l (other-ended (taskId 1) along t ne)
+  ended-root p along t at ne (onward more e l k) =
+      let pointer = x .parents (parentOf m t) (along .processor .0) .hint in
+      ap (endedOf (taskId 1)) l
+      ∙ flat-post-nothing (endedTo (taskId 1)) (without (x .messages) p) (Terminated pointer t) (other-ended (taskId 1) pointer t ne)
+      ∙ taken-root p at refl (other-ended (taskId 1) along t ne)
+  ended-root p along t at ne (holds c e l k) = taken-root p at l (other-ended (taskId 1) along t ne)
 
   pub root-run : {h' : Histories} {y : Reading} {got : Received} → RunTransition m h x h' y got → endedOf (taskId 1) (y .messages) ≡ []
   root-run (transfers e transition) = transition .ended (taskId 1) ∙ run .root
@@ -103,7 +117,7 @@ module _ (m : Programs) {h : Histories} {s : Net} {x : Reading} {w : ChannelId �
   root-deliver (delivers p a transition) = transition .ended (taskId 1) ∙ run .root
   root-deliver (ends transition) =
       let l = within-low 2 (length m) (transition .task .0) (transition .number) in
-      taken-root (transition .p) (transition .message) (transition .messages) (other-ended (taskId 1) (transition .at) (transition .task) (λ e. omega arith))
+      ended-root (transition .p) (transition .along) (transition .task) (transition .message) (λ e. omega arith) (transition .ending)
   root-deliver (arrives transition) = taken-root (transition .p) (transition .message) (transition .messages) (no-ended (taskId 1) (transition .at) (transition .task))
 
   pub root-move : {h' : Histories} {y : Reading} → MoveTransition m h h' x y → endedOf (taskId 1) (y .messages) ≡ []

@@ -7,10 +7,12 @@ ghost use Rattle.plan.specs.Programs.{programs};
 ghost use Rattle.plan.specs.Refusals.{planAnswer};
 ghost use Rattle.rules.specs.Starts.{started, noMessages, noTables, noChannels};
 ghost use Rattle.rules.specs.Numbers.{processorId};
+ghost use Rattle.rules.specs.Hints.{unknown};
 ghost use Rattle.rules.specs.Tasks.{unborn, born};
 ghost use Rattle.plan_index.specs.ends.Derived.{endsOf};
-ghost use Rattle.rig.specs.start.Parts.{startTasks, StartsOn};
+ghost use Rattle.rig.specs.start.Parts.{startTasks, startParents, StartsOn};
 use board::Board;
+use board::point_parent;
 use board::put_task;
 use board::sweeps::locate;
 use plan::Plan;
@@ -24,6 +26,7 @@ use rules::message::Message;
 use rules::message::Network;
 use rules::message::Slot;
 use rules::system::Channels;
+use rules::system::Parents;
 use rules::system::System;
 use rules::system::Tables;
 use rules::task::Task;
@@ -33,11 +36,12 @@ use rules::task::TaskState;
 fn unborn() -> Task
     ensures { λ r. ⌜ r ≡ unborn ⌝ }
 {
+    let nowhere = cell_rules::order::unknown();
     Task {
         state: TaskState::Unborn,
         processor: ProcessorId(0),
         pc: 1,
-        home: ProcessorId(0),
+        origin: nowhere,
         word: Word(0, 0, 0, 0),
         overflow: false,
         moves: 0,
@@ -45,12 +49,13 @@ fn unborn() -> Task
     }
 }
 
-// Task 1, born at desk 1.
+// Task 1, born at desk 1; it has no parent.
 fn first_task() -> Task
-    ensures { λ r. ⌜ r ≡ born (processorId 1) ⌝ }
+    ensures { λ r. ⌜ r ≡ born (processorId 1) unknown ⌝ }
 {
     let none = unborn();
-    none.birth(ProcessorId(1))
+    let nowhere = cell_rules::order::unknown();
+    none.birth(ProcessorId(1), nowhere)
 }
 
 // Task 1 is born at desk 1, the others are unborn.
@@ -105,9 +110,24 @@ fn no_channels() -> Channels
     }
 }
 
-// The start on a board: an unborn task is at place 1, and has nothing else; task 1 is born at desk 1.
+// Desk 1 points to task 1; nothing else is kept for parents.
+fn start_parents() -> Parents
+    ensures { λ r. ⌜ r ≡ startParents ⌝ }
+{
+    let mut hintprocessors = [0u8; 384];
+    hintprocessors[0] = 1;
+    let mut hintmoves = [0u16; 384];
+    hintmoves[0] = 1;
+    Parents {
+        hintprocessors: hintprocessors,
+        hintmoves: hintmoves,
+        held: [0; 384],
+    }
+}
+
+// The start on a board: an unborn task is at place 1, and has nothing else; task 1 is born at desk 1, which points to it.
 pub fn start_board(board: &mut Board)
-    requires { ⌜ now board ≡ replicate 320 0 ⌝ }
+    requires { ⌜ now board ≡ replicate 1088 0 ⌝ }
     ensures { λ r. ⌜ StartsOn (now (board .exit)) ⌝ }
 {
     let mut k: usize = 0;
@@ -117,6 +137,11 @@ pub fn start_board(board: &mut Board)
     }
     let first = first_task();
     put_task(board, TaskId(1), first);
+    let h = Hint {
+        processor: ProcessorId(1),
+        moves: 1,
+    };
+    point_parent(board, ProcessorId(1), TaskId(1), h);
 }
 
 // The start of an accepted plan p on so many desks: a birth of task 1 at desk 1.
@@ -158,6 +183,7 @@ pub fn start(processors: u8, p: Plan, e: Ends) -> System
     };
     let tasks = start_tasks();
     let channels = no_channels();
+    let kept = start_parents();
     let network = no_messages();
     System {
         processors: processors,
@@ -165,6 +191,7 @@ pub fn start(processors: u8, p: Plan, e: Ends) -> System
         tasks: tasks,
         tables: tables,
         channels: channels,
+        parents: kept,
         network: network,
     }
 }

@@ -67,8 +67,15 @@ fn word_ok(n: u8, c: ChannelId, d: ProcessorId) -> bool
     base::both(channel_ok(c), processor_ok(n, d))
 }
 
-// An ended or a mover letter.
-fn of_task_ok(n: u8, m: u8, d: ProcessorId, t: TaskId) -> bool
+// An ended letter.
+fn ended_ok(n: u8, m: u8, h: Hint, t: TaskId) -> bool
+    ensures { λ b. ⌜ b ≡ knownOk n h && taskNumberOk m t ⌝ }
+{
+    base::both(known_ok(n, h), task_ok(m, t))
+}
+
+// A mover letter.
+fn mover_ok(n: u8, m: u8, d: ProcessorId, t: TaskId) -> bool
     ensures { λ b. ⌜ b ≡ processorOk n d && taskNumberOk m t ⌝ }
 {
     base::both(processor_ok(n, d), task_ok(m, t))
@@ -84,8 +91,8 @@ fn message_ok(n: u8, m: u8, x: Message) -> bool
         Message::Advert(c, d, from) => advert_ok(n, c, d, from),
         Message::ReadyToReceive(c, d, h) => call_ok(n, c, d, h),
         Message::Data(c, d, _) => word_ok(n, c, d),
-        Message::Terminated(d, t) => of_task_ok(n, m, d, t),
-        Message::Migration(d, t) => of_task_ok(n, m, d, t),
+        Message::Terminated(h, t) => ended_ok(n, m, h, t),
+        Message::Migration(d, t) => mover_ok(n, m, d, t),
     }
 }
 

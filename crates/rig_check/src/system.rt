@@ -9,7 +9,8 @@ ghost use Rattle.plan.specs.Programs.{programs};
 ghost use Rattle.plan.specs.Refusals.{sizesOk, planAnswer};
 ghost use Rattle.rules.specs.Sound.{systemOk};
 ghost use Rattle.rules.specs.Systems.{meaning};
-ghost use Rattle.rig_check.specs.system.Tasks.{lastKind, tasksOk};
+ghost use Rattle.rig_check.specs.system.Tasks.{lastKind, tasksOk, originsOk};
+use crate::tasks::origin_ok;
 use crate::tasks::task_ok;
 use plan::Instruction;
 use plan::Plan;
@@ -72,6 +73,25 @@ fn tasks_ok(r: System) -> bool
     true
 }
 
+// The own pointers of tasks 1 to T, of a rig whose plan's sizes are in range.
+fn origins_ok(r: System) -> bool
+    requires { ⌜ sizesOk (meaning r) ≡ true ⌝ }
+    ensures { λ b. ⌜ b ≡ originsOk r ⌝ }
+{
+    let n = r.processors;
+    let p = r.plan;
+    let end = base::wide8(p.tasks);
+    let mut k: usize = 0;
+    while k < end {
+        let x = r.tasks[k];
+        if !origin_ok(n, k + 1, x) {
+            return false;
+        }
+        k += 1;
+    }
+    true
+}
+
 // Refusal 9, of any rig: true where it is not refused. The number of desks and the plan come first,
 // since the rest is read by them.
 pub fn system_ok(r: System) -> bool
@@ -88,10 +108,16 @@ pub fn system_ok(r: System) -> bool
     if !tasks_ok(r) {
         return false;
     }
+    if !origins_ok(r) {
+        return false;
+    }
     let t = r.tables;
     let c = r.channels;
+    let parents = r.parents;
     let network = r.network;
     let kept = crate::tables::channel_entries_ok(n, c);
-    let rest = base::both(kept, crate::network::network_ok(n, p.tasks, network));
+    let family = crate::tables::parents_ok(n, p.tasks, parents);
+    let last = base::both(family, crate::network::network_ok(n, p.tasks, network));
+    let rest = base::both(kept, last);
     base::both(crate::tables::tables_ok(n, t), rest)
 }

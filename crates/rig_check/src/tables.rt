@@ -1,14 +1,17 @@
 // What the desks and the channels keep: every entry of every table is looked at.
 ghost use mathlib.Core.Path.{_≡_};
-ghost use lib.Dec.{leb};
+ghost use Prim.Native.Nat.{_^_};
+ghost use lib.Dec.{leb, ltb};
 ghost use lib.ListN.{length};
 ghost use Rattle.base.specs.Lists.{every, everyPair};
 ghost use Rattle.rules.specs.Numbers.{processorId};
 ghost use Rattle.rules.specs.Cells.{hint, offer};
-ghost use Rattle.rules.specs.Sound.{hintOk, offerOk, tablesOk, channelEntriesOk};
+ghost use Rattle.rules.specs.Sound.{hintOk, offerOk, tablesOk, channelEntriesOk, parentsOk};
 use crate::limits::entry_ok;
+use crate::tasks::children_ok;
 use plan::ProcessorId;
 use rules::system::Channels;
+use rules::system::Parents;
 use rules::system::Tables;
 
 // Every number of a table is at most the limit.
@@ -72,4 +75,26 @@ pub fn channel_entries_ok(n: u8, x: Channels) -> bool
     let offers = offers_ok(n, &x.carriedprocessors, &x.carriednumbers);
     let hints = hints_ok(n, &x.travellingprocessors, &x.travellingmoves);
     base::both(granted, base::both(offers, hints))
+}
+
+// Every child of every set is a task of a rig of m tasks.
+fn all_children(m: u8, xs: &[u64]) -> bool
+    ensures { λ b. ⌜ b ≡ every (λ s. ltb s (2 ^ m)) (now (xs .entry)) ⌝ }
+{
+    let mut i: usize = 0;
+    while i < xs.len() {
+        if !children_ok(m, xs[i]) {
+            return false;
+        }
+        i += 1;
+    }
+    true
+}
+
+// What the desks keep for parents, in a rig of m tasks.
+pub fn parents_ok(n: u8, m: u8, x: Parents) -> bool
+    ensures { λ b. ⌜ b ≡ parentsOk n m x ⌝ }
+{
+    let hints = hints_ok(n, &x.hintprocessors, &x.hintmoves);
+    base::both(hints, all_children(m, &x.held))
 }

@@ -4,18 +4,22 @@ ghost use Prim.Native.Nat.{_^_};
 ghost use lib.Dec.{eqb, ltb};
 ghost use Rattle.base.specs.Lists.{every};
 ghost use Rattle.plan.specs.Words.{wordNumbers};
-ghost use Rattle.rules.specs.Sound.{unbornOk, whereOk, placeOk};
+ghost use mathlib.Core.Bool.{_&&_};
+ghost use Rattle.rules.specs.Hints.{isUnknown};
+ghost use Rattle.rules.specs.Sound.{unbornOk, whereOk, placeOk, originOk};
 ghost use Rattle.rig_check.specs.tasks.Tests.{lastWith, bornWith, taskWith};
+use crate::limits::pair_ok;
 use crate::limits::processor_ok;
 use plan::RECEIVE;
 use plan::SEND;
 use plan::Word;
+use rules::channel::Hint;
 use rules::task::Task;
 use rules::task::TaskState;
 use task_rules::state::is_in;
 
-// Every living child is a task of a rig of m tasks.
-fn children_ok(m: u8, children: u64) -> bool
+// Every child of a set is a task of a rig of m tasks.
+pub fn children_ok(m: u8, children: u64) -> bool
     ensures { λ b. ⌜ b ≡ ltb children (2 ^ m) ⌝ }
 {
     if 64 <= m {
@@ -40,9 +44,7 @@ fn unborn_ok(x: Task) -> bool
 {
     let d = x.processor;
     let w = x.word;
-    let home = x.home;
-    let unmoved = base::both(home.0 == 0, x.moves == 0);
-    let fresh = base::both(is_zero(w), base::both(!x.overflow, unmoved));
+    let fresh = base::both(is_zero(w), base::both(!x.overflow, x.moves == 0));
     base::both(d.0 == 0, base::both(x.pc == 1, fresh))
 }
 
@@ -86,13 +88,12 @@ fn last_ok(kind: u8, x: Task) -> bool
 fn born_ok(n: u8, size: u8, kind: u8, x: Task) -> bool
     ensures { λ b. ⌜ b ≡ bornWith n size kind x ⌝ }
 {
-    let home = x.home;
     let here = base::both(
         where_ok(n, x),
         base::both(place_ok(size, x), last_ok(kind, x)),
     );
     let moves = base::is_within(1, 9999, base::wide16(x.moves));
-    base::both(processor_ok(n, home), base::both(moves, here))
+    base::both(moves, here)
 }
 
 // A task in a rig of n desks and m tasks, with a program of `size` instructions; `kind` is the kind of
@@ -107,4 +108,26 @@ pub fn task_ok(n: u8, m: u8, size: u8, kind: u8, x: Task) -> bool
         return unborn_ok(x);
     }
     born_ok(n, size, kind, x)
+}
+
+// The pointer is none.
+fn is_nowhere(h: Hint) -> bool
+    ensures { λ b. ⌜ b ≡ isUnknown h && eqb (h .moves) 0 ⌝ }
+{
+    let d = h.processor;
+    base::both(d.0 == 0, h.moves == 0)
+}
+
+// The own pointer of task t: none where the task is unborn or is task 1.
+pub fn origin_ok(n: u8, t: usize, x: Task) -> bool
+    ensures { λ b. ⌜ b ≡ originOk n t x ⌝ }
+{
+    let own = x.origin;
+    if is_in(x, TaskState::Unborn) {
+        return is_nowhere(own);
+    }
+    if t == 1 {
+        return is_nowhere(own);
+    }
+    pair_ok(n, 9999, own.processor, base::wide16(own.moves))
 }

@@ -17,7 +17,7 @@ use Rattle.rules_laws.specs.Shapes.{Shaped}
 use Rattle.rules_sound.proofs.Sound.{sound}
 use Rattle.rig_parts.specs.declared.change.Verdict.{Verdict}
 use Rattle.rig_parts.specs.declared.change.Verdict.the-variants.{Refused, Accepted}
-use Rattle.rig_parts.specs.Facts.{factsOf}
+use Rattle.rig_parts.specs.Facts.{factsOf, keptIn}
 use Rattle.rig_parts.specs.RunVerdicts.{judgedRun}
 use Rattle.rig_parts.specs.Rests.{isRefused, restIn}
 use Rattle.rig_parts.specs.Effects.{ranOf}
@@ -35,12 +35,12 @@ refused-by a v h = go (isAccepted a)
 module _ (r : System) (z : Shaped r) (o : systemOk r ≡ true) where
   -- a run of task t
   run-refused : (t : ℕ)
-      → isRefused (judgedRun (factsOf (r .plan)) (r .processors) (r .tasks) (storeIn r) (r .network .used) (taskId t))
+      → isRefused (judgedRun (factsOf (r .plan)) (r .processors) (r .tasks) (keptIn r) (r .network .used) (taskId t))
       ≡ not (isAccepted (stepAnswer r (runStep t)))
   unfolding stepAnswer ruledAnswer wellFormed kindAnswer
   run-refused t =
       rw (o, run-answer r (sound r z o) (taskId t)) (refused-by (runAnswer r (taskId t)) (Accepted (ranOf r (taskId t) (nextOf r (taskId t)))) refl)
 
-  pub rest-is : restIn (factsOf (r .plan)) (r .processors) (r .tasks) (storeIn r) (r .network .used) ≡ quiescent r
+  pub rest-is : restIn (factsOf (r .plan)) (r .processors) (r .tasks) (keptIn r) (r .network .used) ≡ quiescent r
   unfolding restIn quiescent
   rest-is = ap (λ (test : ℕ → Bool). eqb (r .network .used) 0 && upTo (r .plan .tasks) test) (fun-ext run-refused)

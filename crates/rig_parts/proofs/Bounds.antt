@@ -5,16 +5,16 @@ use mathlib.Core.List.{List}
 use Prim.Native.Nat.{ℕ, _≤_}
 use Rattle.rules.specs.declared.task.Task.{Task}
 use Rattle.rules.specs.declared.message.Network.{Network}
-use Rattle.rules.specs.declared.system.Store.{Store}
 use Rattle.rules.specs.Networks.{messageAt}
 use Rattle.rules.specs.Sound.{messageOk}
 use Rattle.rules_sound.proofs.Network.{message-fine}
 use Rattle.rules_sound.proofs.Sound.{sound}
+use Rattle.rig_parts.specs.declared.kept.Kept.{Kept}
 use Rattle.rig_parts.specs.Facts.{Facts}
 use Rattle.rig_parts.specs.Turns.{Rig}
 
 -- the letter at position q
-pub message-ok : {f : Facts} {n : ℕ} {ts : List Task} {k : Network} {s : Store} (g : Rig f n ts k s) (q : ℕ) → 1 ≤ q → q ≤ k .used
+pub message-ok : {f : Facts} {n : ℕ} {ts : List Task} {k : Network} {s : Kept} (g : Rig f n ts k s) (q : ℕ) → 1 ≤ q → q ≤ k .used
     → messageOk n (f .tasks) (messageAt k q) ≡ true
 message-ok g q some there =
     let p = g .parts in

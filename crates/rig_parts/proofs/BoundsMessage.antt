@@ -15,10 +15,10 @@ use Rattle.plan_laws.proofs.Answers.{and-parts}
 use Rattle.rules.specs.declared.task.Task.{Task}
 use Rattle.rules.specs.declared.message.Message.{Message}
 use Rattle.rules.specs.declared.message.Message.the-variants.{Empty, Offered, Advert, ReadyToReceive, Data, Terminated, Migration}
-use Rattle.rules.specs.declared.system.Store.{Store}
 use Rattle.rules.specs.Numbers.{channelNumberOk, processorOk, taskNumberOk}
 use Rattle.rules.specs.Sound.{knownOk, madeOk, messageOk}
 use Rattle.rules_laws.specs.Children.{childOf}
+use Rattle.rig_parts.specs.declared.kept.Kept.{Kept}
 use Rattle.rig_parts.specs.Facts.{Facts, PartsOf}
 use Rattle.rig_parts.specs.Fetches.{siteIn}
 use Rattle.rig_parts.specs.Scopes.{channelScope, messageScope, namesOk}
@@ -29,7 +29,7 @@ use Rattle.rig_parts.proofs.BoundsScope.{Reached, scope-reached}
 channel-named : (c : ChannelId) (b : Bool) → channelNumberOk c && b ≡ true → leb (c .0) 128 ≡ true
 channel-named c b o = and-right (leb 1 (c .0)) (leb (c .0) 128) (and-left (channelNumberOk c) b o)
 
-module _ {f : Facts} {n : ℕ} {ts : List Task} {s : Store} {used : ℕ} (p : PartsOf f n ts s used) where
+module _ {f : Facts} {n : ℕ} {ts : List Task} {s : Kept} {used : ℕ} (p : PartsOf f n ts s used) where
   -- a desk of the rig
   processor-few : (d : ProcessorId) → processorOk n d ≡ true → within 1 6 (d .0) ≡ true
   processor-few d h = within-wider n 6 (processors-few p) (d .0) h
@@ -55,7 +55,9 @@ module _ {f : Facts} {n : ℕ} {ts : List Task} {s : Store} {used : ℕ} (p : Pa
       let (k, rest) = and-parts (channelNumberOk c) _ o in
       channel-reached c d k (and-left (processorOk n d) _ rest)
   message-reached (Data c d w) o = channel-reached c d (and-left (channelNumberOk c) _ o) (and-right (channelNumberOk c) _ o)
-  message-reached (Terminated d t) o = scope-reached p _ (parent-few p (t .0)) (omega arith) (omega arith) (processor-few d (and-left (processorOk n d) _ o))
+  message-reached (Terminated h t) o =
+      scope-reached p _ (parent-few p (t .0)) (omega arith) (omega arith)
+      (processor-few (h .processor) (and-left (processorOk n (h .processor)) _ (and-left (knownOk n h) _ o)))
   message-reached (Migration d t) o =
       let (processor, task) = and-parts (processorOk n d) (taskNumberOk (f .tasks) t) o in
       scope-reached p _ (within-high 1 (f .tasks) (t .0) task) (omega arith) (omega arith) (processor-few d processor)
@@ -67,8 +69,8 @@ module _ {f : Facts} {n : ℕ} {ts : List Task} {s : Store} {used : ℕ} (p : Pa
   names-ok (Advert c d from) o = channel-named c _ o
   names-ok (ReadyToReceive c d h) o = channel-named c _ o
   names-ok (Data c d w) o = channel-named c _ o
-  names-ok (Terminated d t) o =
-      let high = within-high 1 64 (t .0) (task-few t (and-right (processorOk n d) _ o)) in
+  names-ok (Terminated h t) o =
+      let high = within-high 1 64 (t .0) (task-few t (and-right (knownOk n h) _ o)) in
       le-leb (t .0) 128 (omega arith)
   names-ok (Migration d t) o = refl
 
@@ -79,10 +81,10 @@ module _ {f : Facts} {n : ℕ} {ts : List Task} {s : Store} {used : ℕ} (p : Pa
   child-ok (Advert c d from) o = refl
   child-ok (ReadyToReceive c d h) o = refl
   child-ok (Data c d w) o = refl
-  child-ok (Terminated d t) o = task-few t (and-right (processorOk n d) _ o)
+  child-ok (Terminated h t) o = task-few t (and-right (knownOk n h) _ o)
   child-ok (Migration d t) o = refl
 
   pub openable : (m : Message) → messageOk n (f .tasks) m ≡ true
-      → OpenableAt m (siteIn (f .codes) ts s (messageScope (f .senders) (f .receivers) (f .parents) m))
+      → OpenableAt m (siteIn (f .codes) ts (s .store) (messageScope (f .senders) (f .receivers) (f .parents) m))
   unfolding siteIn
   openable m o = record { called = omega (arith, message-reached m o .called); child = child-ok m o }

@@ -12,13 +12,13 @@ use Rattle.base.proofs.Tests.{within-low, within-high, within-both}
 use Rattle.plan.specs.declared.TaskId.{TaskId}
 use Rattle.rules.specs.declared.task.Task.{Task}
 use Rattle.rules.specs.declared.system.System.{System}
-use Rattle.rules.specs.declared.system.Store.{Store}
 use Rattle.rules.specs.Systems.{taskAt, taskIn}
 use Rattle.rules_sound.specs.Sound.{programIn, Sound}
 use Rattle.rules_sound.proofs.Born.{place-few as behind-few}
 use Rattle.rules_sound.proofs.Frames.{tasks-few, program-in}
 use Rattle.rules_sound.proofs.Sound.{sound}
 use Rattle.plan_index.proofs.ends.Entries.{sender-in, receiver-in, parent-in}
+use Rattle.rig_parts.specs.declared.kept.Kept.{Kept}
 use Rattle.rig_parts.specs.Facts.{Facts, PartsOf}
 use Rattle.rig_parts.specs.Scopes.{namedIn}
 
@@ -40,7 +40,7 @@ rig-place r o t h = by-cases (ℕ-discrete (t .0) 0) none some
         let l : 1 ≤ t .0 = omega arith in
         omega (arith, behind-few n (r .plan .tasks) g (taskAt r t) (o .rig .tasks t l h), program-in n (r .plan) (o .frame) t l h .few)
 
-module _ {f : Facts} {n : ℕ} {ts : List Task} {s : Store} {used : ℕ} (p : PartsOf f n ts s used) where
+module _ {f : Facts} {n : ℕ} {ts : List Task} {s : Kept} {used : ℕ} (p : PartsOf f n ts s used) where
   pub rig-sound : Sound (p .system)
   rig-sound = sound (p .system) (p .shaped) (p .sound)
 

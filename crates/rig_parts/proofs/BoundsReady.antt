@@ -17,13 +17,13 @@ use Rattle.plan.specs.Refusals.{instructionOk}
 use Rattle.plan_laws.proofs.Programs.{create-operand, send-operand, receive-operand}
 use Rattle.rules.specs.declared.task.Task.{Task}
 use Rattle.rules.specs.declared.task.TaskState.the-variants.{Ready}
-use Rattle.rules.specs.declared.system.Store.{Store}
 use Rattle.rules.specs.Tasks.{isIn}
 use Rattle.rules.specs.Systems.{taskAt, taskIn}
 use Rattle.rules_sound.specs.Settled.{Settled}
 use Rattle.rules_sound.specs.Sound.{programIn}
 use Rattle.rules_sound.proofs.Settled.{settled}
 use Rattle.rules_sound.proofs.Frames.{program-in}
+use Rattle.rig_parts.specs.declared.kept.Kept.{Kept}
 use Rattle.rig_parts.specs.Facts.{Facts, PartsOf}
 use Rattle.rig_parts.specs.Fetches.{instructionIn}
 use Rattle.rig_parts.specs.Scopes.{argumentOk}
@@ -53,7 +53,7 @@ argument-fine n few i h =
 abbrev pub nextAt : Facts → List Task → TaskId → Instruction
 nextAt f ts t = instructionIn (f .codes) t (taskIn ts t .pc)
 
-module _ {f : Facts} {n : ℕ} {ts : List Task} {s : Store} {used : ℕ} (p : PartsOf f n ts s used) (t : TaskId) where
+module _ {f : Facts} {n : ℕ} {ts : List Task} {s : Kept} {used : ℕ} (p : PartsOf f n ts s used) (t : TaskId) where
   module _ (w : within 1 (f .tasks) (t .0) ≡ true) (ready : isIn Ready (taskIn ts t) ≡ true) where
     -- in the rig
     low : 1 ≤ t .0

@@ -15,9 +15,9 @@ use Rattle.plan.specs.Kinds.{opCreate, opFinish, opSend, opReceive}
 use Rattle.plan_laws.proofs.Programs.{send-operand, receive-operand}
 use Rattle.rules.specs.declared.task.Task.{Task}
 use Rattle.rules.specs.declared.task.TaskState.the-variants.{Ready}
-use Rattle.rules.specs.declared.system.Store.{Store}
 use Rattle.rules.specs.Tasks.{isIn}
 use Rattle.rules.specs.Systems.{taskIn}
+use Rattle.rig_parts.specs.declared.kept.Kept.{Kept}
 use Rattle.rig_parts.specs.declared.change.Scope.{Scope}
 use Rattle.rig_parts.specs.Facts.{Facts, PartsOf}
 use Rattle.rig_parts.specs.Scopes.{runScope}
@@ -25,7 +25,7 @@ use Rattle.rig_parts.proofs.BoundsParts.{sender-few, receiver-few, pare
 use Rattle.rig_parts.proofs.BoundsScope.{Reached, scope-reached}
 use Rattle.rig_parts.proofs.BoundsReady.{nextAt, processor-in, instruction-ok, child-few}
 
-module _ {f : Facts} {n : ℕ} {ts : List Task} {s : Store} {used : ℕ} (p : PartsOf f n ts s used) (t : TaskId)
+module _ {f : Facts} {n : ℕ} {ts : List Task} {s : Kept} {used : ℕ} (p : PartsOf f n ts s used) (t : TaskId)
     (w : within 1 (f .tasks) (t .0) ≡ true) (ready : isIn Ready (taskIn ts t) ≡ true) where
   -- its next instruction, and the scope of that
   abbrev next : Instruction

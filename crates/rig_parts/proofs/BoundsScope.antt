@@ -10,27 +10,27 @@ use Rattle.base.specs.Choice.{within}
 use Rattle.base.proofs.Choices.{pick-cases}
 use Rattle.rules.specs.declared.task.Task.{Task}
 use Rattle.rules.specs.declared.channel.Cell.{Cell}
-use Rattle.rules.specs.declared.system.Store.{Store}
 use Rattle.rules.specs.Systems.{taskIn, channelAt}
+use Rattle.rig_parts.specs.declared.kept.Kept.{Kept}
 use Rattle.rig_parts.specs.declared.change.Scope.{Scope}
 use Rattle.rig_parts.specs.Facts.{Facts, PartsOf}
 use Rattle.rig_parts.specs.Fetches.{noCell, scopeOk, cellOf}
 use Rattle.rig_parts.proofs.BoundsParts.{rig-sound, count-few, place-few}
 
-pub record Reached (ts : List Task) (s : Store) (k : Scope) : Type 0 where
+pub record Reached (ts : List Task) (s : Kept) (k : Scope) : Type 0 where
   pub ok : scopeOk k ≡ true
   pub processor : within 1 6 (k .processor .0) ≡ true
   pub sender : k .sender .0 ≤ 64
   pub sender-place : taskIn ts (k .sender) .pc ≤ 65
   pub receiver-place : taskIn ts (k .receiver) .pc ≤ 65
-  pub called : cellOf s k .channel .granted ≤ 64
+  pub called : cellOf (s .store) k .channel .granted ≤ 64
 
-module _ {f : Facts} {n : ℕ} {ts : List Task} {s : Store} {used : ℕ} (p : PartsOf f n ts s used) (k : Scope) where
-  called-few : k .channel .0 ≤ 128 → cellOf s k .channel .granted ≤ 64
+module _ {f : Facts} {n : ℕ} {ts : List Task} {s : Kept} {used : ℕ} (p : PartsOf f n ts s used) (k : Scope) where
+  called-few : k .channel .0 ≤ 128 → cellOf (s .store) k .channel .granted ≤ 64
   unfolding cellOf channelAt
   called-few h =
       let c = k .channel in
-      rw (p .store)
+      rw (p .kept)
       (pick-cases (λ (x : Cell). x .channel .granted ≤ 64) (eqb (c .0) 0) noCell _
       (λ e. omega arith)
       (λ e. let some = eqb-false (c .0) 0 e in rig-sound p .rig .channels c (omega arith) h .granted))

@@ -17,13 +17,14 @@ use Rattle.plan.specs.Kinds.{opCreate, opSync, opFinish, opSend, opReceive, opS
 use Rattle.rules.specs.declared.task.Task.{Task}
 use Rattle.rules.specs.declared.task.TaskState.the-variants.{Ready}
 use Rattle.rules.specs.declared.rule.Site.{Site}
+use Rattle.rules.specs.declared.system.ParentEntry.{ParentEntry}
 use Rattle.rules.specs.declared.step.StepAnswer.{StepAnswer}
 use Rattle.rules.specs.declared.step.StepAnswer.the-variants.{Accepted as Unrefused, NetworkFull}
-use Rattle.rules.specs.declared.system.Store.{Store}
 use Rattle.rules.specs.Answers.{isAccepted}
 use Rattle.rules.specs.Tasks.{isIn}
 use Rattle.rules.specs.Networks.{messagesOf}
 use Rattle.rules.specs.Systems.{taskIn}
+use Rattle.rig_parts.specs.declared.kept.Kept.{Kept}
 use Rattle.rig_parts.specs.Sweeps.{sweepOk}
 use Rattle.rig_parts.specs.declared.change.Scope.{Scope}
 use Rattle.rig_parts.specs.declared.change.Change.{Change}
@@ -56,28 +57,29 @@ module _ (n used : ℕ) where
       let ok = leb (used + length (messagesOf n (k .outcome .posting))) 256 in
       rw (fitting-answer k ok) (answered-ok (unless ok NetworkFull Unrefused) (Accepted k) (λ e. simp (a, b, passed ok NetworkFull Unrefused refl e .0)))
 
--- an instruction changes its scope, and a birth is at the desk of the creating task
-run-placed : (k : Scope) (t : TaskId) (i : Instruction) (w : ℕ) (x : Site) → scopeOk k ≡ true
+-- an instruction changes its scope, a birth is at the desk of the creating task, and an end at the desk of the scope
+run-placed : (k : Scope) (t : TaskId) (i : Instruction) (w : ℕ) (x : Site) (y : ParentEntry) → scopeOk k ≡ true → within 1 6 (k .processor .0) ≡ true
     → (eqb (i .opcode) opCreate ≡ true → within 1 6 (x .sender .processor .0) ≡ true)
-    → Placed (runChange k t i w x)
+    → Placed (runChange k t i w x y)
 unfolding runChange
-run-placed k t i w x ok processor =
+run-placed k t i w x y ok there processor =
     let is : ℕ → Bool = eqb (i .opcode) in
     pick-cases Placed (is opCreate) _ _ (λ e. (ok, processor e))
     (λ e.
     pick-either Placed (is opSync) _ _ (ok, refl)
-    (pick-either Placed (is opFinish) _ _ (ok, refl)
+    (pick-either Placed (is opFinish) _ _ (ok, there)
     (pick-either Placed (is opSend) _ _ (ok, refl)
     (pick-either Placed (is opReceive) _ _ (ok, refl)
     (pick-either Placed (is opSet) _ _ (ok, refl) (ok, refl))))))
 
-module _ {f : Facts} {n : ℕ} {ts : List Task} {s : Store} {used : ℕ} (p : PartsOf f n ts s used) (t : TaskId) where
+module _ {f : Facts} {n : ℕ} {ts : List Task} {s : Kept} {used : ℕ} (p : PartsOf f n ts s used) (t : TaskId) where
   ran-placed : (w : within 1 (f .tasks) (t .0) ≡ true) (ready : isIn Ready (taskIn ts t) ≡ true)
       → Placed (ranIn f ts s t (nextAt f ts t))
   unfolding ranIn siteIn runScope
   ran-placed w ready =
       let i = nextAt f ts t in
-      run-placed _ t i _ _ (run-reached p t w ready .ok) (λ e. rw (eqb-true (i .opcode) opCreate e) (processor-in p t w ready))
+      let reached = run-reached p t w ready in
+      run-placed _ t i _ _ _ (reached .ok) (reached .processor) (λ e. rw (eqb-true (i .opcode) opCreate e) (processor-in p t w ready))
 
   pub run-feasible : verdictOk n used (judgedRun f n ts s used t) ≡ true
   unfolding judgedRun

@@ -10,6 +10,7 @@ use Rattle.rules.specs.Effects.{Effect, completed}
 use Rattle.rules.specs.Steps.{performed, refused, accepted, answered}
 use Rattle.rules.specs.Systems.{storeIn}
 use Rattle.plan_index.specs.ends.Derived.{endsOf}
+use Rattle.rig_parts.specs.Facts.{keptIn}
 use Rattle.rig_parts.specs.declared.change.Change.{Change}
 use Rattle.rig_parts.specs.declared.change.Verdict.{Verdict}
 use Rattle.rig_parts.specs.declared.change.Verdict.the-variants.{Refused, Accepted as Allowed}
@@ -21,10 +22,10 @@ use Rattle.rig_parts.specs.Turns.{carriedOut, settled, partsOf}
 module _ (r : System) where
   -- on the parts of the rig r
   abbrev pub carriedIn : Change → Turn
-  carriedIn k = carriedOut (endsOf (r .plan) .senders) (endsOf (r .plan) .receivers) (r .processors) k (r .tasks) (r .network) (storeIn r)
+  carriedIn k = carriedOut (endsOf (r .plan) .senders) (endsOf (r .plan) .receivers) (r .processors) k (r .tasks) (r .network) (keptIn r)
 
   abbrev pub settledIn : Verdict → Turn
-  settledIn v = settled (endsOf (r .plan) .senders) (endsOf (r .plan) .receivers) (r .processors) v (r .tasks) (r .network) (storeIn r)
+  settledIn v = settled (endsOf (r .plan) .senders) (endsOf (r .plan) .receivers) (r .processors) v (r .tasks) (r .network) (keptIn r)
 
   pub carried-is : (k : Change) → carriedIn k ≡ partsOf (accepted (effectOf r k))
   unfolding carriedOut effectOf completed

@@ -11,16 +11,19 @@ use Rattle.plan.specs.declared.Instruction.{Instruction}
 use Rattle.plan.specs.Kinds.{opCreate, opSync, opFinish, opSet}
 use Rattle.plan.specs.Users.{parentOf}
 use Rattle.rules.specs.declared.system.System.{System}
-use Rattle.rules.specs.Numbers.{taskId}
+use Rattle.rules.specs.Numbers.{taskId, channelId}
+use Rattle.rules.specs.Hints.{hint}
 use Rattle.rules.specs.Tasks.{born}
-use Rattle.rules.specs.Systems.{taskAt, withTask, meaning}
+use Rattle.rules.specs.Systems.{taskAt, withTask, parentAt, withParent, meaning, storeIn}
 use Rattle.rules.specs.Starts.{birth}
-use Rattle.rules.specs.Local.{createRule}
+use Rattle.rules.specs.Local.{createRule, finishRule}
 use Rattle.rules.specs.Runs.{ranCreate, ranFinish, executed}
-use Rattle.rig_parts.specs.declared.sweep.Sweep.the-variants.{Nothing, Birth}
+use Rattle.rig_parts.specs.declared.sweep.Sweep.the-variants.{Nothing, Birth, Ending}
+use Rattle.plan_index.specs.ends.Derived.{endsOf}
+use Rattle.rig_parts.specs.Sweeps.{parentIn}
 use Rattle.rig_parts.specs.Fetches.{siteIn}
-use Rattle.rig_parts.specs.Scopes.{runScope}
-use Rattle.rig_parts.specs.RunVerdicts.{runChange, ranIn}
+use Rattle.rig_parts.specs.Scopes.{scope, namedIn, runScope}
+use Rattle.rig_parts.specs.RunVerdicts.{finishChange, runChange, ranIn}
 use Rattle.rig_parts.specs.Effects.{effectOf, ranOf}
 use Rattle.rig_parts.proofs.Names.{parent-named}
 use Rattle.rig_parts.proofs.Effects.{tasks-effect, alone-effect}
@@ -32,17 +35,26 @@ module _ (r : System) (t : TaskId) (i : Instruction) where
   create-ran e =
       let u = taskId (i .operand) in
       let d = taskAt r t .processor in
-      rw (e, birth-swept (withTask (withTask r t (createRule (taskAt r t) u)) u (born d)) u d) (sym (tasks-effect r d _ t u (Birth u d)))
+      rw (e, birth-swept (withTask (withTask r t (createRule (taskAt r t) u)) u (born d (hint d (taskAt r t .moves)))) u d) (sym (tasks-effect r d _ t u (Birth u d)))
 
   pub sync-ran : i .opcode ≡ opSync → executed r t i ≡ effectOf r (ranOf r t i)
   unfolding executed ranIn runScope runChange siteIn
   sync-ran e = rw (e) (sym (alone-effect r (taskAt r t .processor) _ t Nothing))
 
-  pub finish-ran : t .0 ≤ 128 → i .opcode ≡ opFinish → executed r t i ≡ effectOf r (ranOf r t i)
-  unfolding executed ranIn runScope runChange siteIn ranFinish
-  finish-ran h e =
+  -- a finish of task t, whose parent is q
+  finish-as : (q : TaskId) → q ≡ parentOf (meaning r) t
+      → let d = taskAt r t .processor in
+      let k = scope q t (channelId 0) d in
+      ranFinish r t ≡ effectOf r (finishChange k (siteIn (r .plan .codes) (r .tasks) (storeIn r) k) t (parentIn (r .parents) d q))
+  unfolding siteIn ranFinish parentAt withParent
+  finish-as q e =
       let p = parentOf (meaning r) t in
-      rw (e, parent-named (r .plan) t h) (sym (tasks-effect r (taskAt r t .processor) _ p t Nothing))
+      let d = taskAt r t .processor in
+      rw e (sym (tasks-effect r d _ p t (Ending p d (finishRule t (taskAt r t) (taskAt r p) (parentAt r d p) .entry))))
+
+  pub finish-ran : t .0 ≤ 128 → i .opcode ≡ opFinish → executed r t i ≡ effectOf r (ranOf r t i)
+  unfolding executed ranIn runScope runChange
+  finish-ran h e = rw e (finish-as (namedIn (endsOf (r .plan) .parents) (t .0)) (parent-named (r .plan) t h))
 
   pub set-ran : i .opcode ≡ opSet → executed r t i ≡ effectOf r (ranOf r t i)
   unfolding executed ranIn runScope runChange siteIn

@@ -13,10 +13,10 @@ use Rattle.rules.specs.declared.task.Task.{Task}
 use Rattle.rules.specs.declared.task.TaskState.the-variants.{Ready}
 use Rattle.rules.specs.declared.message.Message.the-variants.{Migration}
 use Rattle.rules.specs.declared.rule.Posting.the-variants.{Single}
-use Rattle.rules.specs.declared.step.StepAnswer.the-variants.{Accepted, NoTask, NotReady, NetworkFull, NoProcessor, AlreadyThere, MoveWithChildren, MovesSpent}
+use Rattle.rules.specs.declared.step.StepAnswer.the-variants.{Accepted, NoTask, NotReady, NetworkFull, NoProcessor, AlreadyThere, MovesSpent}
 use Rattle.rules.specs.Numbers.{mostMoves}
 use Rattle.rules.specs.Answers.{isAccepted}
-use Rattle.rules.specs.Tasks.{isIn, isAt, isChildless}
+use Rattle.rules.specs.Tasks.{isIn, isAt}
 use Rattle.rules.specs.Networks.{messagesOf}
 use Rattle.rules.specs.Systems.{taskIn}
 use Rattle.rig_parts.specs.RunVerdicts.{runRefusal}
@@ -49,7 +49,6 @@ move-passed m n ts used t e h =
     let (b, h₂) = passed (within 1 n (e .0)) NoProcessor _ refl h₁ in
     let (r, h₃) = passed (isIn Ready x) NotReady _ refl h₂ in
     let (_, h₄) = passed (not (isAt e x)) AlreadyThere _ refl h₃ in
-    let (_, h₅) = passed (isChildless x) MoveWithChildren _ refl h₄ in
-    let (s, h₆) = passed (not (eqb (x .moves) mostMoves)) MovesSpent _ refl h₅ in
-    let (f, _) = passed (leb (used + length (messagesOf n (Single (Migration e t)))) 256) NetworkFull Accepted refl h₆ in
+    let (s, h₅) = passed (not (eqb (x .moves) mostMoves)) MovesSpent _ refl h₄ in
+    let (f, _) = passed (leb (used + length (messagesOf n (Single (Migration e t)))) 256) NetworkFull Accepted refl h₅ in
     record { task = a; processor = b; ready = r; unspent = eqb-false (x .moves) mostMoves (not-true _ s); fitting = f }

@@ -26,7 +26,7 @@ use Rattle.rules_sound.proofs.Settled.{settled}
 use Rattle.rules_sound.proofs.Frames.{tasks-few, in-plan}
 use Rattle.rig_parts.specs.declared.change.Verdict.{Verdict}
 use Rattle.rig_parts.specs.declared.change.Verdict.the-variants.{Accepted as Allowed}
-use Rattle.rig_parts.specs.Facts.{factsOf}
+use Rattle.rig_parts.specs.Facts.{factsOf, keptIn}
 use Rattle.rig_parts.specs.RunVerdicts.{fittingIn, runRefusal, judgedRun}
 use Rattle.rig_parts.specs.Effects.{effectOf, ranOf}
 use Rattle.rig_parts.specs.Answers.{unlessRefused, verdictOf}
@@ -85,7 +85,7 @@ module _ (r : System) (f : Sound r) (t : TaskId) where
         rw run-effect
         (refused-unless _ (Allowed k) (not (finishesEarly r t)) FinishWithChildren Accepted _ refl (λ e. fitting-answer k (fits r (effectOf r k))))
 
-  pub run-answer : judgedRun (factsOf (r .plan)) (r .processors) (r .tasks) (storeIn r) (r .network .used) t ≡ verdictOf (ranOf r t (nextOf r t)) (runAnswer r t)
+  pub run-answer : judgedRun (factsOf (r .plan)) (r .processors) (r .tasks) (keptIn r) (r .network .used) t ≡ verdictOf (ranOf r t (nextOf r t)) (runAnswer r t)
   unfolding judgedRun runRefusal runAnswer
   run-answer =
       let k = ranOf r t (nextOf r t) in

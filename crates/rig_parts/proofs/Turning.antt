@@ -22,7 +22,7 @@ use Rattle.rules_laws.proofs.StepKinds.{answer-run, performed-run, answer-deliv
 use Rattle.rules_sound.specs.Sound.{Sound}
 use Rattle.rules_sound.proofs.Sound.{sound}
 use Rattle.rules_sound.proofs.Answers.{run-passed}
-use Rattle.rig_parts.specs.Facts.{factsOf}
+use Rattle.rig_parts.specs.Facts.{factsOf, keptIn}
 use Rattle.rig_parts.specs.RunVerdicts.{judgedRun}
 use Rattle.rig_parts.specs.MoveVerdicts.{moveChange, judgedMove}
 use Rattle.rig_parts.specs.Openings.{openedIn}
@@ -36,12 +36,12 @@ use Rattle.rig_parts.proofs.Carrying.{carriedIn, settledIn, carried-is,
 
 -- a step, by the answer of its kind where 19 does not refuse it
 form-tested : (r : System) (x : Step) (v : Turn) → (wellFormed x ≡ true → v ≡ partsOf (answered r x (kindAnswer r x)))
-    → unless (wellFormed x) (refusedTurn BadStep (r .tasks) (r .network) (storeIn r)) v ≡ partsOf (ruledStep r x)
+    → unless (wellFormed x) (refusedTurn BadStep (r .tasks) (r .network) (keptIn r)) v ≡ partsOf (ruledStep r x)
 unfolding ruledStep ruledAnswer answered
 form-tested r x v h = go (wellFormed x) h
   where
     go : (ok : Bool) → (ok ≡ true → v ≡ partsOf (answered r x (kindAnswer r x)))
-        → unless ok (refusedTurn BadStep (r .tasks) (r .network) (storeIn r)) v ≡ partsOf (answered r x (unless ok BadStep (kindAnswer r x)))
+        → unless ok (refusedTurn BadStep (r .tasks) (r .network) (keptIn r)) v ≡ partsOf (answered r x (unless ok BadStep (kindAnswer r x)))
     go true k = k refl
     go false k = refl
 
@@ -53,7 +53,7 @@ else-move x e u d = rw (u, d) at e
 module _ (r : System) (z : Shaped r) (f : Sound r) (x : Step) where
   run-turn : isRun x ≡ true
       → let t = taskId (x .task) in
-      settledIn r (judgedRun (factsOf (r .plan)) (r .processors) (r .tasks) (storeIn r) (r .network .used) t) ≡ partsOf (answered r x (runAnswer r t))
+      settledIn r (judgedRun (factsOf (r .plan)) (r .processors) (r .tasks) (keptIn r) (r .network .used) t) ≡ partsOf (answered r x (runAnswer r t))
   run-turn kind =
       let t = taskId (x .task) in
       let m = r .plan .tasks in
@@ -73,23 +73,23 @@ module _ (r : System) (z : Shaped r) (f : Sound r) (x : Step) where
       rw (move-answer r t e) (settled-is r x (moveChange t (taskAt r t) e) (moveAnswer r t e) (λ a. performed-move r x kind ∙ move-effect r t e))
 
   deliver-turn : isDeliver x ≡ true
-      → deliveredTurn (factsOf (r .plan)) (r .processors) (r .tasks) (r .network) (storeIn r) (x .number) ≡ partsOf (answered r x (deliverAnswer r (x .number)))
+      → deliveredTurn (factsOf (r .plan)) (r .processors) (r .tasks) (r .network) (keptIn r) (x .number) ≡ partsOf (answered r x (deliverAnswer r (x .number)))
   unfolding deliveredTurn deliverAnswer answered
   deliver-turn kind = go (within 1 (r .network .used) (x .number)) refl
     where
       go : (b : Bool) → within 1 (r .network .used) (x .number) ≡ b
-          → unless b (refusedTurn NoMessage (r .tasks) (r .network) (storeIn r))
-          (carriedIn (withNetwork r (dequeued (r .network) (x .number))) (openedIn (factsOf (r .plan)) (r .tasks) (storeIn r) (messageAt (r .network) (x .number))))
+          → unless b (refusedTurn NoMessage (r .tasks) (r .network) (keptIn r))
+          (carriedIn (withNetwork r (dequeued (r .network) (x .number))) (openedIn (factsOf (r .plan)) (r .tasks) (keptIn r) (messageAt (r .network) (x .number))))
           ≡ partsOf (answered r x (unless b NoMessage Accepted))
       go true e =
           let p = x .number in
           let used = r .network .used in
           let q = withNetwork r (dequeued (r .network) p) in
           let same = performed-deliver r x kind ∙ deliver-effect r z f p (within-low 1 used p e) (within-high 1 used p e) in
-          carried-is q (openedIn (factsOf (r .plan)) (r .tasks) (storeIn r) (messageAt (r .network) p)) ∙ ap (λ (o : Effect). partsOf (accepted o)) (sym same)
+          carried-is q (openedIn (factsOf (r .plan)) (r .tasks) (keptIn r) (messageAt (r .network) p)) ∙ ap (λ (o : Effect). partsOf (accepted o)) (sym same)
       go false e = refl
 
-  kinds-turn : turnOf (factsOf (r .plan)) (r .processors) (r .tasks) (r .network) (storeIn r) x ≡ partsOf (ruledStep r x)
+  kinds-turn : turnOf (factsOf (r .plan)) (r .processors) (r .tasks) (r .network) (keptIn r) x ≡ partsOf (ruledStep r x)
   unfolding turnOf
   kinds-turn =
       form-tested r x _
@@ -105,5 +105,5 @@ module _ (r : System) (z : Shaped r) (f : Sound r) (x : Step) where
       rw (answer-move r x m) (move-turn m))))
 
 pub turn-is : (r : System) → Shaped r → systemOk r ≡ true → (x : Step)
-    → turnOf (factsOf (r .plan)) (r .processors) (r .tasks) (r .network) (storeIn r) x ≡ partsOf (ruledStep r x)
+    → turnOf (factsOf (r .plan)) (r .processors) (r .tasks) (r .network) (keptIn r) x ≡ partsOf (ruledStep r x)
 turn-is r z o x = kinds-turn r z (sound r z o) x

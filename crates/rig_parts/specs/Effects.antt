@@ -6,11 +6,12 @@ use Rattle.plan.specs.declared.Instruction.{Instruction}
 use Rattle.rules.specs.declared.task.Task.{Task}
 use Rattle.rules.specs.declared.system.Store.{Store}
 use Rattle.rules.specs.declared.system.System.{System}
-use Rattle.rules.specs.Systems.{withTasks, storeIn, withStore, taskStored}
+use Rattle.rules.specs.Systems.{withTasks, storeIn, withStore, withParents, taskStored}
 use Rattle.rules.specs.Effects.{Effect}
-use Rattle.rig_parts.specs.Sweeps.{swept}
+use Rattle.rig_parts.specs.Sweeps.{swept, sweptParents}
+use Rattle.rig_parts.specs.declared.kept.Kept.{Kept}
 use Rattle.rig_parts.specs.declared.change.Change.{Change}
-use Rattle.rig_parts.specs.Facts.{factsOf}
+use Rattle.rig_parts.specs.Facts.{factsOf, keptIn}
 use Rattle.rig_parts.specs.Fetches.{cellPut}
 use Rattle.rig_parts.specs.RunVerdicts.{ranIn}
 
@@ -21,16 +22,22 @@ changedTasks k ts = taskStored (taskStored ts (k .scope .sender) (k .outcome .se
 abbrev pub changedStore : List ℕ → List ℕ → Change → Store → Store
 changedStore senders receivers k s = swept senders receivers (k .sweep) (cellPut (k .scope) (k .outcome .cell) s)
 
+-- and of what is kept for parents beside it
+abbrev pub changedKept : List ℕ → List ℕ → Change → Kept → Kept
+changedKept senders receivers k s = record { store = changedStore senders receivers k (s .store); parents = sweptParents (k .sweep) (s .parents) }
+
 -- of a rig
 unfoldable pub effectOf : System → Change → Effect
 effectOf r k =
     let f = factsOf (r .plan) in
     record {
-      system = withStore (withTasks r (changedTasks k (r .tasks))) (changedStore (f .senders) (f .receivers) k (storeIn r));
+      system =
+          withParents (withStore (withTasks r (changedTasks k (r .tasks))) (changedStore (f .senders) (f .receivers) k (storeIn r)))
+          (sweptParents (k .sweep) (r .parents));
       posting = k .outcome .posting;
       received = k .outcome .received;
     }
 
 -- what instruction i of task t would change, by the parts of the rig
 abbrev pub ranOf : System → TaskId → Instruction → Change
-ranOf r t i = ranIn (factsOf (r .plan)) (r .tasks) (storeIn r) t i
+ranOf r t i = ranIn (factsOf (r .plan)) (r .tasks) (keptIn r) t i

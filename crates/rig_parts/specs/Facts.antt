@@ -6,11 +6,11 @@ use Prim.Native.Nat.{ℕ}
 use Rattle.plan.specs.declared.Plan.{Plan}
 use Rattle.rules.specs.declared.task.Task.{Task}
 use Rattle.rules.specs.declared.system.System.{System}
-use Rattle.rules.specs.declared.system.Store.{Store}
 use Rattle.rules.specs.Sound.{systemOk}
 use Rattle.rules.specs.Systems.{storeIn}
 use Rattle.rules_laws.specs.Shapes.{Shaped}
 use Rattle.plan_index.specs.ends.Derived.{endsOf}
+use Rattle.rig_parts.specs.declared.kept.Kept.{Kept}
 
 pub record Facts : Type 0 where
   pub tasks : ℕ
@@ -27,13 +27,17 @@ facts n codes numbers senders receivers parents =
 abbrev pub factsOf : Plan → Facts
 factsOf p = facts (p .tasks) (p .codes) (endsOf p .numbers) (endsOf p .senders) (endsOf p .receivers) (endsOf p .parents)
 
--- these are the parts of a rig that 9 does not refuse: desks, tasks, what is kept for channels, how many letters
-pub record PartsOf (f : Facts) (n : ℕ) (ts : List Task) (s : Store) (used : ℕ) : Type 0 where
+-- what a rig keeps for channels and for parents
+abbrev pub keptIn : System → Kept
+keptIn r = record { store = storeIn r; parents = r .parents }
+
+-- these are the parts of a rig that 9 does not refuse: desks, tasks, what is kept for channels and parents, how many letters
+pub record PartsOf (f : Facts) (n : ℕ) (ts : List Task) (s : Kept) (used : ℕ) : Type 0 where
   pub system : System
   pub shaped : Shaped system
   pub sound : systemOk system ≡ true
   pub facts-of : f ≡ factsOf (system .plan)
   pub processors : n ≡ system .processors
   pub tasks : ts ≡ system .tasks
-  pub store : s ≡ storeIn system
+  pub kept : s ≡ keptIn system
   pub messages : used ≡ system .network .used

@@ -5,8 +5,8 @@ use Prim.Native.Nat.{ℕ}
 use lib.Dec.{eqb}
 use Rattle.base.specs.Range.{upTo}
 use Rattle.rules.specs.declared.task.Task.{Task}
-use Rattle.rules.specs.declared.system.Store.{Store}
 use Rattle.rules.specs.Numbers.{taskId}
+use Rattle.rig_parts.specs.declared.kept.Kept.{Kept}
 use Rattle.rig_parts.specs.declared.change.Verdict.{Verdict}
 use Rattle.rig_parts.specs.declared.change.Verdict.the-variants.{Refused, Accepted}
 use Rattle.rig_parts.specs.Facts.{Facts}
@@ -16,5 +16,5 @@ abbrev pub isRefused : Verdict → Bool
 isRefused (Refused a) = true
 isRefused (Accepted k) = false
 
-unfoldable pub restIn : Facts → ℕ → List Task → Store → ℕ → Bool
+unfoldable pub restIn : Facts → ℕ → List Task → Kept → ℕ → Bool
 restIn f n ts s used = eqb used 0 && upTo (f .tasks) (λ t. isRefused (judgedRun f n ts s used (taskId t)))

@@ -46,7 +46,7 @@ messageScope senders receivers parents (Offered c o h) = channelScope senders re
 messageScope senders receivers parents (Advert c d from) = channelScope senders receivers c d
 messageScope senders receivers parents (ReadyToReceive c d h) = channelScope senders receivers c d
 messageScope senders receivers parents (Data c d w) = channelScope senders receivers c d
-messageScope senders receivers parents (Terminated d t) = alone (namedIn parents (t .0)) d
+messageScope senders receivers parents (Terminated h t) = alone (namedIn parents (t .0)) (h .processor)
 messageScope senders receivers parents (Migration d t) = alone t d
 
 -- an instruction whose argument is a number of a task or a channel has one up to 128
@@ -61,5 +61,5 @@ namesOk (Offered c o h) = leb (c .0) 128
 namesOk (Advert c d from) = leb (c .0) 128
 namesOk (ReadyToReceive c d h) = leb (c .0) 128
 namesOk (Data c d w) = leb (c .0) 128
-namesOk (Terminated d t) = leb (t .0) 128
+namesOk (Terminated h t) = leb (t .0) 128
 namesOk (Migration d t) = true

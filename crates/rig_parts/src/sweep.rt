@@ -1,7 +1,8 @@
-// What is done for each channel of a task that is born, leaves or arrives.
+// What is done for each channel of a task that is born, leaves or arrives, and to what a desk keeps for a parent.
 use plan::ProcessorId;
 use plan::TaskId;
 use rules::channel::Hint;
+use rules::system::ParentEntry;
 
 // A rule for one channel.
 pub enum CellRule {
@@ -15,7 +16,7 @@ pub enum CellRule {
     DepartSending,
 }
 
-// The tasks' channels that a step sweeps over, at a desk.
+// The tasks' channels that a step sweeps over, at a desk; what the desk keeps for the task as a parent changes beside them.
 pub enum Sweep {
     Nothing,
     // birth of a task
@@ -24,4 +25,6 @@ pub enum Sweep {
     Departure(TaskId, ProcessorId, Hint),
     // arrival of a task, with its count
     Arrival(TaskId, ProcessorId, u16),
+    // end of a child of this task: what the desk keeps for the task then; no channel is swept over
+    Ending(TaskId, ProcessorId, ParentEntry),
 }

@@ -1,7 +1,7 @@
 // What a step leaves.
+use crate::kept::Kept;
 use rules::message::Network;
 use rules::step::Report;
-use rules::system::Store;
 use rules::task::Task;
 
 // What a step leaves: its report, and the parts of the rig then.
@@ -9,5 +9,5 @@ pub struct Turn {
     pub report: Report,
     pub tasks: [Task; 64],
     pub network: Network,
-    pub store: Store,
+    pub kept: Kept,
 }

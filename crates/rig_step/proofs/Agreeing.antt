@@ -1,9 +1,10 @@
--- A list that agrees with another on its first entries, one entry more, and all of them; the same of the six lists of channels.
+-- A list that agrees with another on its first entries, one entry more, and all of them; the same of the six lists of channels and of the three
+-- of parents.
 use mathlib.Core.Path.{_≡_, refl, sym, ap, _∙_}
 use mathlib.Core.Bool.{false}
 use mathlib.Core.List.{List}
 use mathlib.Core.Logic.{by-cases}
-use Prim.Native.Nat.{ℕ, _+_, _-_, _<_, _≤_}
+use Prim.Native.Nat.{ℕ, _+_, _-_, _/_, _%_, _<_, _≤_}
 use native.Mathlib.Omega.{arith}
 use native.Mathlib.Decide.{ℕ-discrete}
 use lib.ListN.{length, getD, set, length-set}
@@ -11,12 +12,17 @@ use lib.Seq.{ext-getD, getD-set-same, getD-set-other}
 use Rattle.base.proofs.Tables.{length-table}
 use Rattle.rules.specs.declared.channel.Channel.{Channel}
 use Rattle.rules.specs.declared.system.Channels.{Channels}
+use Rattle.plan.specs.declared.TaskId.{TaskId}
+use Rattle.plan.specs.declared.ProcessorId.{ProcessorId}
+use Rattle.rules.specs.declared.system.Parents.{Parents}
+use Rattle.rules.specs.declared.system.ParentEntry.{ParentEntry}
 use Rattle.rules.specs.declared.task.Task.{Task}
-use Rattle.rules.specs.Systems.{readChannel, writeChannel, taskIn, taskStored}
+use Rattle.rules.specs.Systems.{readChannel, writeChannel, parentIndex, readParent, writeParent, taskIn, taskStored}
 use borrow.Author.Tests.{ne-eqb}
-use Rattle.rules.specs.Numbers.{taskId}
+use Rattle.rules.specs.Numbers.{taskId, processorId}
 use Rattle.rules.specs.Tasks.{noTask}
-use Rattle.board.specs.Lent.{channelColumn, channelsOn, tasksOn}
+use Rattle.board.specs.Lent.{channelColumn, channelsOn, parentColumn, parentsOn, tasksOn}
+use Rattle.rig_parts.specs.Sweeps.{parentIn, parentStored}
 
 -- xs and ys have n entries, and their first k agree
 pub record Agree {A : Type 0} (d : A) (n k : ℕ) (xs ys : List A) : Type 0 where
@@ -129,3 +135,54 @@ channel-after x k = let e : k + 1 - 1 ≡ k = omega arith in rw e refl
 
 pub written-after : (x : Channels) (k : ℕ) (y : Channel) → writeChannel x (k + 1 - 1) y ≡ writeChannel x k y
 written-after x k y = let e : k + 1 - 1 ≡ k = omega arith in rw e refl
+
+-- the three lists of parents
+pub record AgreeFor (k : ℕ) (x y : Parents) : Type 0 where
+  pub hintprocessors : Agree 0 384 k (x .hintprocessors) (y .hintprocessors)
+  pub hintmoves : Agree 0 384 k (x .hintmoves) (y .hintmoves)
+  pub held : Agree 0 384 k (x .held) (y .held)
+
+module _ {k : ℕ} {x y : Parents} (a : AgreeFor k x y) where
+  pub parents-more : k < 384 → (e : ParentEntry) → e ≡ readParent y k → AgreeFor (k + 1) (writeParent x k e) y
+  parents-more h e q =
+      record {
+        hintprocessors = agree-more (a .hintprocessors) h (e .hint .processor .0) (ap (λ (z : ParentEntry). z .hint .processor .0) q);
+        hintmoves = agree-more (a .hintmoves) h (e .hint .moves) (ap (λ (z : ParentEntry). z .hint .moves) q);
+        held = agree-more (a .held) h (e .held) (ap (λ (z : ParentEntry). z .held) q);
+      }
+
+  pub parents-all : 384 ≤ k → x ≡ y
+  parents-all h = rw (agree-all h (a .hintprocessors), agree-all h (a .hintmoves), agree-all h (a .held)) refl
+
+pub record LongFor (x : Parents) : Type 0 where
+  pub hintprocessors : length (x .hintprocessors) ≡ 384
+  pub hintmoves : length (x .hintmoves) ≡ 384
+  pub held : length (x .held) ≡ 384
+
+for-long : (f : ℕ → ℕ) (start : ℕ) (board : List ℕ) → length (parentColumn f start board) ≡ 384
+unfolding parentColumn
+for-long f start board = length-table 384 _
+
+pub parents-long : (board : List ℕ) → LongFor (parentsOn board)
+unfolding parentsOn
+parents-long board = record { hintprocessors = for-long _ _ board; hintmoves = for-long _ _ board; held = for-long _ _ board }
+
+pub parents-none : {x y : Parents} → LongFor x → LongFor y → AgreeFor 0 x y
+parents-none p q =
+    record {
+      hintprocessors = agree-none (p .hintprocessors) (q .hintprocessors);
+      hintmoves = agree-none (p .hintmoves) (q .hintmoves);
+      held = agree-none (p .held) (q .held);
+    }
+
+-- the entry after the first k, by its desk and its task
+pub index-after : (k : ℕ) → parentIndex (processorId (k / 64 + 1)) (taskId (k % 64 + 1)) ≡ k
+index-after k = omega arith
+
+-- read and stored by desk and task, d and t
+module _ (x : Parents) (k : ℕ) {d : ProcessorId} {t : TaskId} (de : d ≡ processorId (k / 64 + 1)) (te : t ≡ taskId (k % 64 + 1)) where
+  pub parent-after : parentIn x d t ≡ readParent x k
+  parent-after = rw (de, te, index-after k) refl
+
+  pub stored-for : (e : ParentEntry) → parentStored x d t e ≡ writeParent x k e
+  stored-for e = rw (de, te, index-after k) refl

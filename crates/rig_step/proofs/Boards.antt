@@ -10,51 +10,52 @@ use Rattle.rules.specs.declared.message.Network.{Network}
 use Rattle.rules.specs.declared.step.Report.{Report}
 use Rattle.rules.specs.declared.step.Step.{Step}
 use Rattle.rules.specs.declared.system.Channels.{Channels}
-use Rattle.rules.specs.declared.system.Store.{Store}
+use Rattle.rules.specs.declared.system.Parents.{Parents}
+use Rattle.rig_parts.specs.declared.kept.Kept.{Kept}
 use Rattle.rules.specs.StepFiles.{stepAt, fileSteps}
 use Rattle.rules_sound.proofs.Sound.{sound}
 use Rattle.rig_parts.specs.Facts.{Facts, facts, PartsOf}
 use Rattle.rig_parts.specs.Turns.{Rig, turnOf, turned}
 use Rattle.plan_index.specs.user_table.Built.{Few, Built}
 use Rattle.rig.proofs.start.Tables.{few-ends}
-use Rattle.board.specs.Lent.{Lent, lent, Whole, tasksOn, channelsOn, tasksOf, storeOf}
+use Rattle.board.specs.Lent.{Lent, lent, Whole, tasksOn, channelsOn, parentsOn, tasksOf, storeOf, keptOf}
 use Rattle.board.specs.Rigs.{factsIn}
 use Rattle.run.specs.all_steps.Writes.{turnsOf, RanTo}
 use Rattle.rig_step.specs.Rigs.{RigWith}
 
--- what is lent where the tables are those of a store
-abbrev pub lentBy : Store → List ℕ → Lent
-lentBy s board = lent (s .tables .hintprocessors) (s .tables .hintmoves) (s .tables .heldprocessors) (s .tables .heldnumbers) (s .tables .notes) board
+-- what is lent where the tables are those that are kept
+abbrev pub lentBy : Kept → List ℕ → Lent
+lentBy s board = lent (s .store .tables .hintprocessors) (s .store .tables .hintmoves) (s .store .tables .heldprocessors) (s .store .tables .heldnumbers) (s .store .tables .notes) board
 
-module _ (count : ℕ) (codes numbers senders receivers parents : List ℕ) (n : ℕ) (ts : List Task) (k : Network) (s : Store) (users board : List ℕ)
-    (b : Built senders receivers parents users) (et : tasksOn board ≡ ts) (ec : channelsOn board ≡ s .channels) where
+module _ (count : ℕ) (codes numbers senders receivers parents : List ℕ) (n : ℕ) (ts : List Task) (k : Network) (s : Kept) (users board : List ℕ)
+    (b : Built senders receivers parents users) (et : tasksOn board ≡ ts) (ec : channelsOn board ≡ s .store .channels) (ep : parentsOn board ≡ s .parents) where
   abbrev given : Facts
   given = facts count codes numbers senders receivers parents
 
   pub packed-rig : Rig given n ts k s → Whole board
       → RigWith codes numbers users (record { tasks = count; processors = n; used = k .used }) k (lentBy s board)
-  packed-rig g w = record { rig = rw (b .senders-of, b .receivers-of, b .parents-of, et, ec) g; messages = refl; whole = w; indexed = b .indexed }
+  packed-rig g w = record { rig = rw (b .senders-of, b .receivers-of, b .parents-of, et, ec, ep) g; messages = refl; whole = w; indexed = b .indexed }
 
   -- a step there is a step on the parts
-  turn-same : (x : Step) → turnOf (factsIn count codes numbers users) n (tasksOn board) k (storeOf (lentBy s board)) x ≡ turnOf given n ts k s x
-  turn-same x = rw (b .senders-of, b .receivers-of, b .parents-of, et, ec) refl
+  turn-same : (x : Step) → turnOf (factsIn count codes numbers users) n (tasksOn board) k (keptOf (lentBy s board)) x ≡ turnOf given n ts k s x
+  turn-same x = rw (b .senders-of, b .receivers-of, b .parents-of, et, ec, ep) refl
 
-  pub packed-turn : (x : Step) (l' : Lent) {q : Report} {us : List Task} {k' : Network} (steps : List ℕ) {before progress after : List ℕ} {c' : Channels}
-      → q ≡ turnOf (factsIn count codes numbers users) n (tasksOn board) k (storeOf (lentBy s board)) x .report
+  pub packed-turn : (x : Step) (l' : Lent) {q : Report} {us : List Task} {k' : Network} (steps : List ℕ) {before progress after : List ℕ} {c' : Channels} {p' : Parents}
+      → q ≡ turnOf (factsIn count codes numbers users) n (tasksOn board) k (keptOf (lentBy s board)) x .report
       → fileSteps steps ≡ x ∷ []
-      → RanTo (turnsOf (factsIn count codes numbers users) n (tasksOn board) k (storeOf (lentBy s board)) (fileSteps steps)) before (tasksOf l') k' (storeOf l') progress after
-      → us ≡ tasksOf l' → c' ≡ channelsOn (l' .board)
-      → turned q us k' (record { tables = storeOf l' .tables; channels = c' }) ≡ turnOf given n ts k s x
+      → RanTo (turnsOf (factsIn count codes numbers users) n (tasksOn board) k (keptOf (lentBy s board)) (fileSteps steps)) before (tasksOf l') k' (keptOf l') progress after
+      → us ≡ tasksOf l' → c' ≡ channelsOn (l' .board) → p' ≡ parentsOn (l' .board)
+      → turned q us k' (record { store = record { tables = storeOf l' .tables; channels = c' }; parents = p' }) ≡ turnOf given n ts k s x
   unfolding turnsOf
-  packed-turn x l' {q} {us} {k'} steps {c' = c'} e f r eu ek =
-      let t = turnOf (factsIn count codes numbers users) n (tasksOn board) k (storeOf (lentBy s board)) x in
+  packed-turn x l' {q} {us} {k'} steps {c' = c'} {p' = p'} e f r eu ek ep' =
+      let t = turnOf (factsIn count codes numbers users) n (tasksOn board) k (keptOf (lentBy s board)) x in
       let ran = rw f at r in
-      let all : turned q us k' (record { tables = storeOf l' .tables; channels = c' }) ≡ t =
-      rw (e, eu ∙ ran .tasks, ran .network, ek) (ap (λ (z : Store). turned (t .report) (t .tasks) (t .network) z) (ran .store)) in
+      let all : turned q us k' (record { store = record { tables = storeOf l' .tables; channels = c' }; parents = p' }) ≡ t =
+      rw (e, eu ∙ ran .tasks, ran .network, ek, ep') (ap (λ (z : Kept). turned (t .report) (t .tasks) (t .network) z) (ran .kept)) in
       all ∙ turn-same x
 
 -- who uses what in the plan of a rig
-pub few-of : {count : ℕ} {codes numbers senders receivers parents : List ℕ} {n : ℕ} {ts : List Task} {s : Store} {used : ℕ}
+pub few-of : {count : ℕ} {codes numbers senders receivers parents : List ℕ} {n : ℕ} {ts : List Task} {s : Kept} {used : ℕ}
     → PartsOf (facts count codes numbers senders receivers parents) n ts s used → Few senders receivers parents
 few-of p =
     let r = p .system in

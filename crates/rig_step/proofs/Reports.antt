@@ -5,7 +5,7 @@ use Prim.Native.Nat.{ℕ}
 use Rattle.rules.specs.declared.task.Task.{Task}
 use Rattle.rules.specs.declared.message.Network.{Network}
 use Rattle.rules.specs.declared.step.Step.{Step}
-use Rattle.rules.specs.declared.system.Store.{Store}
+use Rattle.rig_parts.specs.declared.kept.Kept.{Kept}
 use Rattle.rules.specs.Networks.{messageAt, dequeued}
 use Rattle.rig_parts.specs.declared.change.Verdict.{Verdict}
 use Rattle.rig_parts.specs.declared.change.Verdict.the-variants.{Refused, Accepted}
@@ -16,19 +16,19 @@ use Rattle.rig_parts.specs.Turns.{settled, carriedOut, turnOf}
 use Rattle.network.specs.Positions.{positionOf}
 use Rattle.board.specs.declared.act.Act.{Act}
 use Rattle.board.specs.declared.act.Size.{Size}
-use Rattle.board.specs.Lent.{Lent, tasksOf, storeOf}
+use Rattle.board.specs.Lent.{Lent, tasksOf, keptOf}
 use Rattle.board.specs.Rigs.{factsIn, RigOn}
 use Rattle.rig_step.specs.Rigs.{RigWith}
 use Rattle.board.specs.Acted.{actOf}
 use Rattle.board.specs.Verdicts.{stepVerdict}
 use Rattle.run.proofs.all_steps.Acting.{reportOf, other-turn, message-turn}
 
-settled-says : (ss rs : List ℕ) (n : ℕ) (v : Verdict) (ts : List Task) (k : Network) (s : Store) → reportOf (actOf v) ≡ settled ss rs n v ts k s .report
+settled-says : (ss rs : List ℕ) (n : ℕ) (v : Verdict) (ts : List Task) (k : Network) (s : Kept) → reportOf (actOf v) ≡ settled ss rs n v ts k s .report
 unfolding carriedOut
 settled-says ss rs n (Refused q) ts k s = refl
 settled-says ss rs n (Accepted y) ts k s = refl
 
-module _ (f : Facts) (n : ℕ) (ts : List Task) (k : Network) (s : Store) (x : Step) where
+module _ (f : Facts) (n : ℕ) (ts : List Task) (k : Network) (s : Kept) (x : Step) where
   -- a step that delivers no letter
   pub other-says : positionOf (k .used) x ≡ 0 → {r : Act} → r ≡ actOf (stepVerdict f n ts s (k .used) x) → reportOf r ≡ turnOf f n ts k s x .report
   other-says none e =
@@ -48,6 +48,6 @@ pub rig-on : {codes numbers users : List ℕ} {n : Size} {k : Network} {l : Lent
 rig-on {codes} {numbers} {users} {n} {k} {l} g =
     record {
       whole = g .whole;
-      parts = subst (λ (u : ℕ). PartsOf (factsIn (n .tasks) codes numbers users) (n .processors) (tasksOf l) (storeOf l) u) (sym (g .messages)) (g .rig .parts);
+      parts = subst (λ (u : ℕ). PartsOf (factsIn (n .tasks) codes numbers users) (n .processors) (tasksOf l) (keptOf l) u) (sym (g .messages)) (g .rig .parts);
       indexed = g .indexed;
     }

@@ -9,15 +9,15 @@ use Rattle.rig_parts.specs.Facts.{Facts}
 use Rattle.rig_parts.specs.Turns.{Rig, turnOf}
 use Rattle.plan_index.specs.user_table.Users.{Indexed}
 use Rattle.board.specs.declared.act.Size.{Size}
-use Rattle.board.specs.Lent.{Lent, Whole, tasksOf, storeOf}
+use Rattle.board.specs.Lent.{Lent, Whole, tasksOf, keptOf}
 use Rattle.board.specs.Rigs.{factsIn}
 
 pub record RigWith (codes numbers users : List ℕ) (n : Size) (k : Network) (l : Lent) : Type 0 where
-  pub rig : Rig (factsIn (n .tasks) codes numbers users) (n .processors) (tasksOf l) k (storeOf l)
+  pub rig : Rig (factsIn (n .tasks) codes numbers users) (n .processors) (tasksOf l) k (keptOf l)
   pub messages : n .used ≡ k .used
   pub whole : Whole (l .board)
   pub indexed : Indexed users
 
 -- what a step says there
 abbrev pub saidOf : Facts → ℕ → Lent → Network → Step → Report
-saidOf f n l k x = turnOf f n (tasksOf l) k (storeOf l) x .report
+saidOf f n l k x = turnOf f n (tasksOf l) k (keptOf l) x .report

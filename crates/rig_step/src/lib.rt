@@ -7,6 +7,7 @@ mod turn;
 
 ghost use mathlib.Core.Path.{_≡_};
 ghost use Rattle.rules.specs.Steps.{step, refused};
+use rig_parts::kept::Kept;
 use rules::rule::Received;
 use rules::step::Report;
 use rules::step::Step;
@@ -52,6 +53,11 @@ pub fn step(r: System, s: Step) -> Stepped
         tables: tables,
         channels: channels,
     };
+    let family = r.parents;
+    let kept = Kept {
+        store: store,
+        parents: family,
+    };
     let tasks = r.tasks;
     let network = r.network;
     let t = turn(
@@ -64,21 +70,24 @@ pub fn step(r: System, s: Step) -> Stepped
         processors,
         tasks,
         network,
-        store,
+        kept,
         s,
     );
     let report = t.report;
     let after = t.tasks;
     let network = t.network;
-    let kept = t.store;
-    let now_tables = kept.tables;
-    let now_channels = kept.channels;
+    let left = t.kept;
+    let now_store = left.store;
+    let now_tables = now_store.tables;
+    let now_channels = now_store.channels;
+    let now_parents = left.parents;
     let system = System {
         processors: processors,
         plan: plan,
         tasks: after,
         tables: now_tables,
         channels: now_channels,
+        parents: now_parents,
         network: network,
     };
     Stepped {

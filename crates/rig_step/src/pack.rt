@@ -1,11 +1,14 @@
-// The tasks and the channels of a rig, put on a board and taken from it.
+// The tasks, the channels and the parents of a rig, put on a board and taken from it.
 ghost use mathlib.Core.Path.{_≡_};
-ghost use Prim.Native.Nat.{_<_};
-ghost use Rattle.rules.specs.Systems.{readChannel};
-ghost use Rattle.board.specs.Lent.{Whole, tasksOn, channelsOn};
+ghost use Prim.Native.Nat.{_<_, _/_, _%_, _+_};
+ghost use Rattle.plan.specs.Numbers.{taskId, processorId};
+ghost use Rattle.rules.specs.Systems.{readChannel, readParent};
+ghost use Rattle.board.specs.Lent.{Whole, tasksOn, channelsOn, parentsOn};
 use board::Board;
 use board::channel_at;
+use board::parent_at;
 use board::put_channel;
+use board::put_parent;
 use board::put_task;
 use board::task_at;
 use plan::ChannelId;
@@ -15,6 +18,8 @@ use rules::channel::Channel;
 use rules::channel::Hint;
 use rules::channel::Offer;
 use rules::system::Channels;
+use rules::system::ParentEntry;
+use rules::system::Parents;
 use rules::task::Task;
 
 // The entry of the channel after the first k.
@@ -116,5 +121,75 @@ pub fn channels_on(board: &Board) -> Channels
         carriednumbers: carriednumbers,
         travellingprocessors: travellingprocessors,
         travellingmoves: travellingmoves,
+    }
+}
+
+// The entry for a parent after the first k.
+fn parent_of(parents: Parents, k: usize) -> ParentEntry
+    requires { ⌜ k < 384 ⌝ }
+    ensures { λ r. ⌜ r ≡ readParent parents k ⌝ }
+{
+    let toward = ProcessorId(parents.hintprocessors[k]);
+    let hint = Hint {
+        processor: toward,
+        moves: parents.hintmoves[k],
+    };
+    ParentEntry {
+        hint: hint,
+        held: parents.held[k],
+    }
+}
+
+// The desk of the entry after the first k, and its task.
+fn desk_after(k: u16) -> ProcessorId
+    requires { ⌜ k < 384 ⌝ }
+    ensures { λ r. ⌜ r ≡ processorId (k / 64 + 1) ⌝ }
+{
+    ProcessorId((k / 64 + 1) as u8)
+}
+
+fn task_after(k: u16) -> TaskId
+    requires { ⌜ k < 384 ⌝ }
+    ensures { λ r. ⌜ r ≡ taskId (k % 64 + 1) ⌝ }
+{
+    TaskId((k % 64 + 1) as u8)
+}
+
+// What desks keep for parents on the board becomes this.
+pub fn put_parents(board: &mut Board, parents: Parents)
+    requires { ⌜ Whole (now board) ⌝ }
+    ensures { λ r. ⌜ (Whole (now (board .exit))) × (parentsOn (now (board .exit)) ≡ parents) × (tasksOn (now (board .exit)) ≡ tasksOn (now (board .entry)))
+        × (channelsOn (now (board .exit)) ≡ channelsOn (now (board .entry))) ⌝ }
+{
+    let mut k: u16 = 0;
+    while k < 384 {
+        let e = parent_of(parents, base::wide16(k));
+        put_parent(board, desk_after(k), task_after(k), e);
+        k += 1;
+    }
+}
+
+// What desks keep for parents on a board.
+pub fn parents_on(board: &Board) -> Parents
+    ensures { λ r. ⌜ r ≡ parentsOn (now (board .entry)) ⌝ }
+{
+    let mut hintprocessors = [0u8; 384];
+    let mut hintmoves = [0u16; 384];
+    let mut held = [0u64; 384];
+    let mut k: u16 = 0;
+    while k < 384 {
+        let e = parent_at(board, desk_after(k), task_after(k));
+        let at = base::wide16(k);
+        let hint = e.hint;
+        let toward = hint.processor;
+        hintprocessors[at] = toward.0;
+        hintmoves[at] = hint.moves;
+        held[at] = e.held;
+        k += 1;
+    }
+    Parents {
+        hintprocessors: hintprocessors,
+        hintmoves: hintmoves,
+        held: held,
     }
 }

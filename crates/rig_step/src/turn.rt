@@ -8,13 +8,16 @@ ghost use Rattle.board.specs.Lent.{lent};
 ghost use Rattle.board.specs.Rigs.{factsIn};
 ghost use Rattle.rig_step.specs.Rigs.{RigWith, saidOf};
 use crate::pack::channels_on;
+use crate::pack::parents_on;
 use crate::pack::put_channels;
+use crate::pack::put_parents;
 use crate::pack::put_tasks;
 use crate::pack::tasks_on;
 use board::Board;
 use board::act::Size;
 use network::position;
 use plan_index::user_table::users::build;
+use rig_parts::kept::Kept;
 use rig_parts::turn::Turn;
 use rules::message::Network;
 use rules::step::Report;
@@ -113,21 +116,24 @@ pub fn turn<'a>(
     processors: u8,
     tasks: [Task; 64],
     network: Network,
-    store: Store,
+    kept: Kept,
     s: Step,
 ) -> Turn
     requires { ⌜ Rig (facts count (now codes) (now numbers) (now senders) (now receivers) (now parents))
-        processors tasks network store ⌝ }
+        processors tasks network kept ⌝ }
     ensures { λ r. ⌜ r ≡ turnOf
         (facts count (now (codes .entry)) (now (numbers .entry)) (now (senders .entry)) (now (receivers .entry)) (now (parents .entry)))
-        processors tasks network store s ⌝ }
+        processors tasks network kept s ⌝ }
 {
     let mut users = [0u8; 1024];
     build(senders, receivers, parents, &mut users);
-    let mut board = [0u64; 320];
+    let mut board = [0u64; 1088];
     put_tasks(&mut board, tasks);
+    let store = kept.store;
     let channels = store.channels;
     put_channels(&mut board, channels);
+    let family = kept.parents;
+    put_parents(&mut board, family);
     let tables = store.tables;
     let mut hintprocessors = tables.hintprocessors;
     let mut hintmoves = tables.hintmoves;
@@ -181,14 +187,19 @@ pub fn turn<'a>(
         notes: notes,
     };
     let now_channels = channels_on(&board);
-    let kept = Store {
+    let now_store = Store {
         tables: now_tables,
         channels: now_channels,
+    };
+    let now_parents = parents_on(&board);
+    let left = Kept {
+        store: now_store,
+        parents: now_parents,
     };
     Turn {
         report: report,
         tasks: after,
         network: network,
-        store: kept,
+        kept: left,
     }
 }

@@ -14,6 +14,8 @@ pub mod SoundCases
 pub mod SendCases
 -- each way of an offer, an advert, a call and a word letter
 pub mod MessageCases
+-- each way of a finish and of an ended letter, a parent that moves
+pub mod ParentCases
 -- tasks, what is kept of two, births and moves, the mail
 pub mod TaskCases
 -- each refusal of a run, a delivery and a move, in their order where several hold; whole steps

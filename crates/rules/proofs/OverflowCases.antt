@@ -6,16 +6,17 @@ use Rattle.plan.specs.Words.{addWord}
 use Rattle.plan.proofs.Edges.{wordOf}
 use Rattle.rules.specs.declared.task.Task.{Task}
 use Rattle.rules.specs.declared.task.TaskState.the-variants.{Receiving}
+use Rattle.rules.specs.declared.system.ParentEntry.{ParentEntry}
 use Rattle.rules.specs.declared.system.System.{System}
 use Rattle.rules.specs.Numbers.{taskId}
-use Rattle.rules.specs.Tasks.{unborn, born, withState, withWord, withOverflow, departed, arrived, taking}
+use Rattle.rules.specs.Tasks.{unborn, withState, withWord, withOverflow, departed, arrived, taking}
 use Rattle.rules.specs.Local.{setRule, addRule, finishRule}
 use Rattle.rules.specs.Sound.{unbornOk}
 use Rattle.rules.specs.Systems.{withTask, taskAt}
 use Rattle.rules.specs.Steps.{ruledSteps}
 use Rattle.rules.specs.Trace.{overLine, overLines}
 use Rattle.rules.proofs.Scripts.{finish, set, add, run, move, deliver}
-use Rattle.rules.proofs.Sites.{processor, seven, plain}
+use Rattle.rules.proofs.Sites.{processor, bornAt, plain}
 use Rattle.rules.proofs.Evaluated.{evaluated}
 
 -- 65,535 and 0 do not pass 65,535; 65,535 and 1 do, and so do 65,535 and 65,535
@@ -33,7 +34,7 @@ twice-the-top = refl
 
 -- a task that has met such a sum
 abbrev over : Task
-over = addRule (withWord (born (processor 2)) (wordOf 65535)) (add 1)
+over = addRule (withWord (bornAt (processor 2)) (wordOf 65535)) (add 1)
 
 over-marked : over .overflow ≡ true
 unfolding evaluated
@@ -52,11 +53,11 @@ kept-on-the-way : arrived (departed over) (processor 1) .overflow ≡ true
 unfolding evaluated
 kept-on-the-way = refl
 
-kept-when-done : finishRule (taskId 1) over over .task .overflow ≡ true
+kept-when-done : (e : ParentEntry) → finishRule (taskId 1) over over e .task .overflow ≡ true
 unfolding evaluated
-kept-when-done = refl
+kept-when-done e = refl
 
-none-with-the-word : taking (withState (born (processor 2)) Receiving) (over .word) .overflow ≡ false
+none-with-the-word : taking (withState (bornAt (processor 2)) Receiving) (over .word) .overflow ≡ false
 unfolding evaluated
 none-with-the-word = refl
 

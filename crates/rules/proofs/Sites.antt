@@ -17,7 +17,7 @@ use Rattle.rules.specs.declared.rule.Site.{Site}
 use Rattle.rules.specs.declared.system.System.{System}
 use Rattle.rules.specs.Numbers.{taskId, processorId, channelId, noProcessor}
 use Rattle.rules.specs.Tasks.{born, withState, withWord, withMoves}
-use Rattle.rules.specs.Cells.{unknown, noOffer}
+use Rattle.rules.specs.Cells.{hint, unknown, noOffer}
 use Rattle.rules.specs.Networks.{slot, noSlot}
 use Rattle.rules.specs.Systems.{withNetwork, withTask}
 use Rattle.rules.specs.Starts.{blank}
@@ -40,12 +40,16 @@ empty =
       channel = record { granted = 0; awaiting = false; carried = noOffer; travelling = unknown };
     }
 
+-- a task born at desk d, of a parent that has stood there since its birth
+abbrev pub bornAt : ProcessorId → Task
+bornAt d = born d (hint d 1)
+
 -- a sender at desk 1 with word 7, sending or ready; a receiver at desk d, with a move count of 3
 abbrev pub talker : Bool → Task
-talker sending = withState (withWord (born (processor 1)) seven) (pick sending Sending Ready)
+talker sending = withState (withWord (bornAt (processor 1)) seven) (pick sending Sending Ready)
 
 abbrev pub listener : ℕ → Task
-listener d = withMoves (born (processor d)) 3
+listener d = withMoves (bornAt (processor d)) 3
 
 -- the two, sending and receiving on the channel or not, and what is kept for it
 abbrev pub site : Bool → ℕ → Bool → Cell → Site
@@ -53,7 +57,7 @@ site sending d receiving x = record { sender = talker sending; receiver = listen
 
 -- a rig of n desks with plan m as at its start, but with no pointer
 unfoldable pub plain : ℕ → Programs → System
-plain n m = withTask (blank n (canonical m)) (taskId 1) (born (processor 1))
+plain n m = withTask (blank n (canonical m)) (taskId 1) (born (processor 1) unknown)
 
 -- two desks and one task, which finishes
 unfoldable pub small : System

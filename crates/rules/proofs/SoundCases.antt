@@ -2,8 +2,8 @@
 use mathlib.Core.Path.{_≡_, refl}
 use mathlib.Core.Bool.{true}
 use Rattle.base.specs.Lists.{every}
-use Rattle.rules.specs.Sound.{hintOk, offerOk, messageOk, taskOk, tablesOk, channelEntriesOk, networkOk}
-use Rattle.rules.proofs.SoundEdges.{judged, program, hintSamples, offerSamples, messageSamples, taskSamples, tablesSamples, channelsSamples, networkSamples}
+use Rattle.rules.specs.Sound.{hintOk, offerOk, messageOk, taskOk, originOk, tablesOk, channelEntriesOk, parentsOk, networkOk}
+use Rattle.rules.proofs.SoundEdges.{judged, program, hintSamples, offerSamples, messageSamples, taskSamples, originSamples, firstSamples, tablesSamples, channelsSamples, parentsSamples, networkSamples}
 use Rattle.rules.proofs.Evaluated.{evaluated}
 
 all-hints : every (judged (hintOk 2)) hintSamples ≡ true
@@ -22,6 +22,14 @@ all-tasks : every (judged (taskOk 2 3 program)) taskSamples ≡ true
 unfolding evaluated taskSamples
 all-tasks = refl
 
+all-origins : every (judged (originOk 2 2)) originSamples ≡ true
+unfolding evaluated originSamples
+all-origins = refl
+
+first-origins : every (judged (originOk 2 1)) firstSamples ≡ true
+unfolding evaluated firstSamples
+first-origins = refl
+
 all-tables : every (judged (tablesOk 2)) tablesSamples ≡ true
 unfolding evaluated tablesSamples
 all-tables = refl
@@ -29,6 +37,10 @@ all-tables = refl
 all-channels : every (judged (channelEntriesOk 2)) channelsSamples ≡ true
 unfolding evaluated channelsSamples
 all-channels = refl
+
+all-parents : every (judged (parentsOk 2 3)) parentsSamples ≡ true
+unfolding evaluated parentsSamples
+all-parents = refl
 
 all-networks : every (judged (networkOk 2 3)) networkSamples ≡ true
 unfolding evaluated networkSamples

@@ -16,6 +16,7 @@ use Rattle.rules.specs.declared.message.Message.the-variants.{Empty, Off
 use Rattle.rules.specs.declared.message.Network.{Network}
 use Rattle.rules.specs.declared.system.Tables.{Tables}
 use Rattle.rules.specs.declared.system.Channels.{Channels}
+use Rattle.rules.specs.declared.system.Parents.{Parents}
 use Rattle.rules.specs.Numbers.{taskId, processorId, channelId}
 use Rattle.rules.specs.Tasks.{unborn, born, withState, withProcessor, withPc, withWord, withMoves, withChildren}
 use Rattle.rules.specs.Cells.{hint, unknown, offer, noOffer}
@@ -67,9 +68,11 @@ messageSamples =
     ∷ fine (Data (channelId 1) (processorId 1) zeroWord)
     ∷ wrong (Data (channelId 129) (processorId 1) zeroWord)
     ∷ wrong (Data (channelId 1) (processorId 3) zeroWord)
-    ∷ fine (Terminated (processorId 1) (taskId 3))
-    ∷ wrong (Terminated (processorId 0) (taskId 3))
-    ∷ wrong (Terminated (processorId 1) (taskId 4))
+    ∷ fine (Terminated (hint (processorId 1) 9999) (taskId 3))
+    ∷ wrong (Terminated (hint (processorId 0) 1) (taskId 3))
+    ∷ wrong (Terminated (hint (processorId 1) 0) (taskId 3))
+    ∷ wrong (Terminated (hint (processorId 1) 10000) (taskId 3))
+    ∷ wrong (Terminated (hint (processorId 1) 1) (taskId 4))
     ∷ fine (Migration (processorId 2) (taskId 1))
     ∷ wrong (Migration (processorId 3) (taskId 1))
     ∷ wrong (Migration (processorId 2) (taskId 0))
@@ -79,9 +82,9 @@ messageSamples =
 abbrev pub program : Program
 program = create 2 ∷ send 1 ∷ receive 2 ∷ finish ∷ []
 
--- a task in a state, at a desk, at a place, with a desk of birth, a word, a move count and children
-abbrev task : TaskState → ℕ → ℕ → ℕ → Word → ℕ → ℕ → Task
-task s d pc home w n kids = withChildren (withMoves (withWord (withPc (withProcessor (withState (born (processorId home)) s) (processorId d)) pc) w) n) kids
+-- a task in a state, at a desk, at a place, with a word, a move count and children
+abbrev task : TaskState → ℕ → ℕ → Word → ℕ → ℕ → Task
+task s d pc w n kids = withChildren (withMoves (withWord (withPc (withProcessor (withState unborn s) (processorId d)) pc) w) n) kids
 
 abbrev someWord : Word
 someWord = wordOf 1
@@ -90,19 +93,48 @@ someWord = wordOf 1
 unfoldable pub taskSamples : List (Sample Task)
 taskSamples =
     fine unborn
-    ∷ wrong (task Unborn 1 1 0 zeroWord 0 0) ∷ wrong (task Unborn 0 2 0 zeroWord 0 0) ∷ wrong (task Unborn 0 1 1 zeroWord 0 0)
-    ∷ wrong (task Unborn 0 1 0 someWord 0 0) ∷ wrong (task Unborn 0 1 0 zeroWord 1 0)
-    ∷ fine (task Unborn 0 1 0 zeroWord 0 7) ∷ wrong (task Unborn 0 1 0 zeroWord 0 8)
-    ∷ fine (task Ready 2 4 1 someWord 9999 7)
-    ∷ wrong (task Ready 0 1 1 zeroWord 1 0) ∷ wrong (task Ready 3 1 1 zeroWord 1 0) ∷ wrong (task Ready 1 0 1 zeroWord 1 0)
-    ∷ wrong (task Ready 1 5 1 zeroWord 1 0) ∷ wrong (task Ready 1 1 0 zeroWord 1 0) ∷ wrong (task Ready 1 1 3 zeroWord 1 0)
-    ∷ wrong (task Ready 1 1 1 zeroWord 0 0) ∷ wrong (task Ready 1 1 1 zeroWord 10000 0) ∷ wrong (task Ready 1 1 1 zeroWord 1 8)
-    ∷ fine (task Waiting 1 1 1 zeroWord 1 0) ∷ wrong (task Waiting 0 1 1 zeroWord 1 0)
-    ∷ fine (task Moving 0 1 1 zeroWord 2 0) ∷ wrong (task Moving 1 1 1 zeroWord 2 0)
-    ∷ fine (task Done 1 5 1 zeroWord 1 0) ∷ wrong (task Done 1 6 1 zeroWord 1 0) ∷ wrong (task Done 0 5 1 zeroWord 1 0)
-    ∷ fine (task Sending 1 3 1 zeroWord 1 0) ∷ wrong (task Sending 0 3 1 zeroWord 1 0) ∷ wrong (task Receiving 0 4 1 zeroWord 1 0) ∷ wrong (task Sending 1 1 1 zeroWord 1 0) ∷ wrong (task Sending 1 4 1 zeroWord 1 0)
-    ∷ fine (task Receiving 1 4 1 zeroWord 1 0) ∷ wrong (task Receiving 1 1 1 zeroWord 1 0) ∷ wrong (task Receiving 1 3 1 zeroWord 1 0)
+    ∷ wrong (task Unborn 1 1 zeroWord 0 0) ∷ wrong (task Unborn 0 2 zeroWord 0 0)
+    ∷ wrong (task Unborn 0 1 someWord 0 0) ∷ wrong (task Unborn 0 1 zeroWord 1 0)
+    ∷ fine (task Unborn 0 1 zeroWord 0 7) ∷ wrong (task Unborn 0 1 zeroWord 0 8)
+    ∷ fine (task Ready 2 4 someWord 9999 7)
+    ∷ wrong (task Ready 0 1 zeroWord 1 0) ∷ wrong (task Ready 3 1 zeroWord 1 0) ∷ wrong (task Ready 1 0 zeroWord 1 0)
+    ∷ wrong (task Ready 1 5 zeroWord 1 0)
+    ∷ wrong (task Ready 1 1 zeroWord 0 0) ∷ wrong (task Ready 1 1 zeroWord 10000 0) ∷ wrong (task Ready 1 1 zeroWord 1 8)
+    ∷ fine (task Waiting 1 1 zeroWord 1 0) ∷ wrong (task Waiting 0 1 zeroWord 1 0)
+    ∷ fine (task Moving 0 1 zeroWord 2 7) ∷ wrong (task Moving 1 1 zeroWord 2 0)
+    ∷ fine (task Done 1 5 zeroWord 1 0) ∷ wrong (task Done 1 6 zeroWord 1 0) ∷ wrong (task Done 0 5 zeroWord 1 0)
+    ∷ fine (task Sending 1 3 zeroWord 1 0) ∷ wrong (task Sending 0 3 zeroWord 1 0) ∷ wrong (task Receiving 0 4 zeroWord 1 0) ∷ wrong (task Sending 1 1 zeroWord 1 0) ∷ wrong (task Sending 1 4 zeroWord 1 0)
+    ∷ fine (task Receiving 1 4 zeroWord 1 0) ∷ wrong (task Receiving 1 1 zeroWord 1 0) ∷ wrong (task Receiving 1 3 zeroWord 1 0)
     ∷ []
+
+-- a task in a state whose own pointer is h
+abbrev owning : TaskState → Hint → Task
+owning s h = withState (born (processorId 1) h) s
+
+-- the own pointer of a task 2..T: "both 0 for an unborn task"
+unfoldable pub originSamples : List (Sample Task)
+originSamples =
+    fine (owning Unborn unknown)
+    ∷ wrong (owning Unborn (hint (processorId 1) 1)) ∷ wrong (owning Unborn (hint (processorId 0) 1)) ∷ wrong (owning Unborn (hint (processorId 1) 0))
+    ∷ fine (owning Ready (hint (processorId 2) 9999)) ∷ fine (owning Done (hint (processorId 1) 1))
+    ∷ wrong (owning Ready unknown) ∷ wrong (owning Ready (hint (processorId 3) 1)) ∷ wrong (owning Ready (hint (processorId 1) 0))
+    ∷ wrong (owning Moving (hint (processorId 1) 10000))
+    ∷ []
+
+-- "and always for task 1"
+unfoldable pub firstSamples : List (Sample Task)
+firstSamples =
+    fine (owning Ready unknown) ∷ wrong (owning Ready (hint (processorId 1) 1)) ∷ wrong (owning Done (hint (processorId 0) 1)) ∷ wrong (owning Ready (hint (processorId 1) 0)) ∷ []
+
+-- one pointer to a parent and one set of held children, behind an entry with none
+abbrev parents : Hint → ℕ → Parents
+parents h s = record { hintprocessors = 0 ∷ h .processor .0 ∷ []; hintmoves = 0 ∷ h .moves ∷ []; held = 0 ∷ s ∷ [] }
+
+unfoldable pub parentsSamples : List (Sample Parents)
+parentsSamples =
+    fine (parents (hint (processorId 2) 9999) 7) ∷ fine (parents unknown 7)
+    ∷ wrong (parents (hint (processorId 3) 1) 0) ∷ wrong (parents (hint (processorId 1) 0) 0) ∷ wrong (parents (hint (processorId 0) 1) 0)
+    ∷ wrong (parents (hint (processorId 1) 10000) 0) ∷ wrong (parents unknown 8) ∷ []
 
 -- one pointer, one held offer and one note, behind an entry with none
 abbrev tables : Hint → Offer → ℕ → Tables

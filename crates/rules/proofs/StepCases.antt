@@ -1,24 +1,22 @@
 -- Cases of answers and of whole steps: each refusal of a run, a delivery and a move, in their order where several hold.
 use mathlib.Core.Path.{_≡_, refl}
 use mathlib.Core.Bool.{true, false}
-use mathlib.Core.List.{List, [], _∷_, map}
-use Prim.Native.Nat.{ℕ}
+use mathlib.Core.List.{[], _∷_, map}
 use Rattle.plan.specs.declared.Refusal.the-variants.{BadFinish}
-use Rattle.plan.proofs.Edges.{single, wordOf}
+use Rattle.plan.proofs.Edges.{wordOf}
 use Rattle.plan.specs.Programs.{canonical}
 use Rattle.plan.specs.Words.{zeroWord}
 use Rattle.rules.specs.declared.task.Task.{Task}
 use Rattle.rules.specs.declared.task.TaskState.the-variants.{Unborn, Ready, Waiting, Sending, Receiving, Moving}
 use Rattle.rules.specs.declared.message.Message.the-variants.{Terminated, Migration}
 use Rattle.rules.specs.declared.rule.Received.the-variants.{Nothing, Word}
-use Rattle.rules.specs.declared.step.Report.{Report}
 use Rattle.rules.specs.declared.step.StepAnswer.the-variants.{Accepted, BadSystem, NoTask, NotReady, FinishWithChildren, NetworkFull, NoMessage, NoProcessor, AlreadyThere, MoveWithChildren, MovesSpent, BadStep}
 use Rattle.rules.specs.declared.step.RunAnswer.the-variants.{Traced, Unstarted, BadSteps, OutputShort}
 use Rattle.rules.specs.declared.system.System.{System}
 use Rattle.rules.specs.Numbers.{taskId, channelId, noProcessor}
 use Rattle.rules.specs.Answers.{stepNumber, runNumber}
-use Rattle.rules.specs.Tasks.{noTask, unborn, born, departed, arrived, advanced, withState, withProcessor, withPc, withMoves, withChild}
-use Rattle.rules.specs.Cells.{hint, offer, withHint, withHeld, withNoted, withGranted, withAwaiting, withCarried, withTravelling}
+use Rattle.rules.specs.Tasks.{noTask, unborn, departed, arrived, withState, withProcessor, withPc, withMoves, withChild}
+use Rattle.rules.specs.Cells.{hint, unknown, offer, withHint, withHeld, withNoted, withGranted, withAwaiting, withCarried, withTravelling}
 use Rattle.rules.specs.Places.{nextIn, lastIn, isOn}
 use Rattle.rules.specs.Networks.{messages}
 use Rattle.rules.specs.Systems.{taskAt, withTask, cellAt, withCell}
@@ -29,7 +27,7 @@ use Rattle.rules.specs.Sound.{systemOk}
 use Rattle.rules.specs.Starts.{blank}
 use Rattle.rules.specs.Steps.{wellFormed, stepAnswer, ruledStep, ruledSteps, receivedOn}
 use Rattle.rules.proofs.Scripts.{create, sync, finish, send, set, add, raw, run, deliver, move}
-use Rattle.rules.proofs.Sites.{processor, one, seven, empty, plain, small, crowded}
+use Rattle.rules.proofs.Sites.{processor, one, seven, empty, bornAt, plain, small, crowded}
 use Rattle.rules.proofs.SoundEdges.{program}
 use Rattle.rules.proofs.Evaluated.{evaluated}
 
@@ -42,21 +40,21 @@ run-numbers : map runNumber (Traced ∷ Unstarted BadFinish ∷ BadSteps ∷ Out
 run-numbers = refl
 
 -- records field by field: before birth, at birth at desk 2, on the way from desk 2, after an arrival at desk 3
-unborn-task : unborn ≡ record { state = Unborn; processor = noProcessor; pc = 1; home = noProcessor; word = zeroWord; overflow = false; moves = 0; children = 0 }
+unborn-task : unborn ≡ record { state = Unborn; processor = noProcessor; pc = 1; origin = unknown; word = zeroWord; overflow = false; moves = 0; children = 0 }
 unborn-task = refl
 
-born-task : born (processor 2) ≡ record { state = Ready; processor = processor 2; pc = 1; home = processor 2; word = zeroWord; overflow = false; moves = 1; children = 0 }
+born-task : bornAt (processor 2) ≡ record { state = Ready; processor = processor 2; pc = 1; origin = hint (processor 2) 1; word = zeroWord; overflow = false; moves = 1; children = 0 }
 born-task = refl
 
-departed-task : departed (born (processor 2)) ≡ record { state = Moving; processor = noProcessor; pc = 1; home = processor 2; word = zeroWord; overflow = false; moves = 2; children = 0 }
+departed-task : departed (bornAt (processor 2)) ≡ record { state = Moving; processor = noProcessor; pc = 1; origin = hint (processor 2) 1; word = zeroWord; overflow = false; moves = 2; children = 0 }
 departed-task = refl
 
-arrived-task : arrived (departed (born (processor 2))) (processor 3) ≡ record { state = Ready; processor = processor 3; pc = 1; home = processor 2; word = zeroWord; overflow = false; moves = 2; children = 0 }
+arrived-task : arrived (departed (bornAt (processor 2))) (processor 3) ≡ record { state = Ready; processor = processor 3; pc = 1; origin = hint (processor 2) 1; word = zeroWord; overflow = false; moves = 2; children = 0 }
 arrived-task = refl
 
 -- a task that has executed the second of four instructions, a send on channel 1; one that has executed none
 abbrev talking : Task
-talking = withPc (withState (born (processor 1)) Sending) 3
+talking = withPc (withState (bornAt (processor 1)) Sending) 3
 
 next-receives : nextIn program talking .operand ≡ 2
 unfolding evaluated
@@ -66,7 +64,7 @@ last-sends : lastIn program talking ≡ send 1
 unfolding evaluated
 last-sends = refl
 
-last-none : lastIn program (born (processor 1)) .opcode ≡ 0
+last-none : lastIn program (bornAt (processor 1)) .opcode ≡ 0
 unfolding evaluated
 last-none = refl
 
@@ -87,7 +85,7 @@ no-task-read : taskAt small (taskId 0) ≡ noTask
 unfolding evaluated small
 no-task-read = refl
 
-no-task-written : withTask small (taskId 0) (born (processor 2)) ≡ small
+no-task-written : withTask small (taskId 0) (bornAt (processor 2)) ≡ small
 unfolding evaluated small
 no-task-written = refl
 
@@ -107,7 +105,7 @@ with-second x = withTask family (taskId 2) x
 
 -- a record about to finish at desk 2, without and with its child; the same with its count spent
 abbrev ending : Task
-ending = withPc (withProcessor (born (processor 1)) (processor 2)) 2
+ending = withPc (withProcessor (bornAt (processor 1)) (processor 2)) 2
 
 abbrev parting : Task
 parting = withChild ending (taskId 3)
@@ -153,7 +151,8 @@ deliver-behind : deliverAnswer (crowded 2 small) 3 ≡ NoMessage
 unfolding evaluated small crowded
 deliver-behind = refl
 
--- move: 10 before 15, 15 before 11, 11 before 16, 16 before 17, 17 before 18, 18 before 13, 13; a count of 9,998 moves
+-- move: 10 before 15, 15 before 11, 11 before 16, 16 before 18, 18 before 13, 13; a count of 9,998 moves; "A ready task with living children may
+-- now move"
 move-of-none : moveAnswer family (taskId 4) (processor 3) ≡ NoTask
 unfolding evaluated family
 move-of-none = refl
@@ -170,7 +169,7 @@ move-there : moveAnswer (with-second (spent parting)) (taskId 2) (processor 2) �
 unfolding evaluated family
 move-there = refl
 
-move-parting : moveAnswer (with-second (spent parting)) (taskId 2) (processor 1) ≡ MoveWithChildren
+move-parting : moveAnswer (with-second parting) (taskId 2) (processor 1) ≡ Accepted
 unfolding evaluated family
 move-parting = refl
 
@@ -214,11 +213,11 @@ refused-stays = refl
 abbrev begun : System
 begun = ruledSteps family (run 1 ∷ run 1 ∷ run 1 ∷ []) .system
 
-begun-parent : taskAt begun (taskId 1) ≡ withPc (withChild (record { state = Ready; processor = processor 1; pc = 1; home = processor 1; word = seven; overflow = true; moves = 1; children = 0 }) (taskId 2)) 4
+begun-parent : taskAt begun (taskId 1) ≡ withPc (withChild (record { state = Ready; processor = processor 1; pc = 1; origin = unknown; word = seven; overflow = true; moves = 1; children = 0 }) (taskId 2)) 4
 unfolding evaluated family
 begun-parent = refl
 
-begun-child : taskAt begun (taskId 2) ≡ born (processor 1)
+begun-child : taskAt begun (taskId 2) ≡ bornAt (processor 1)
 unfolding evaluated family
 begun-child = refl
 
@@ -227,7 +226,7 @@ unfolding evaluated family
 begun-unborn = refl
 
 -- a finish away from its parent posts its letter; so does a move; a delivery takes it from the mail
-posted : messages (ruledSteps (with-second ending) (run 2 ∷ move 1 2 ∷ []) .system .network) ≡ Terminated (processor 1) (taskId 2) ∷ Migration (processor 2) (taskId 1) ∷ []
+posted : messages (ruledSteps (with-second ending) (run 2 ∷ move 1 2 ∷ []) .system .network) ≡ Terminated (hint (processor 1) 1) (taskId 2) ∷ Migration (processor 2) (taskId 1) ∷ []
 unfolding evaluated family
 posted = refl
 
@@ -236,7 +235,7 @@ unfolding evaluated family
 taken = refl
 
 -- an ended letter finds the child's parent
-ended-found : taskAt (gotTerminated (with-second (withProcessor parting (processor 1))) (processor 1) (taskId 3)) (taskId 2) ≡ withProcessor ending (processor 1)
+ended-found : taskAt (gotTerminated (with-second (withProcessor parting (processor 1))) (hint (processor 1) 1) (taskId 3) .system) (taskId 2) ≡ withProcessor ending (processor 1)
 unfolding evaluated family
 ended-found = refl
 

@@ -4,27 +4,24 @@ use mathlib.Core.Bool.{true, false}
 use mathlib.Core.List.{[], _∷_}
 use lib.ListN.{replicate}
 use Rattle.plan.specs.declared.ProcessorId.{ProcessorId}
-use Rattle.rules.specs.declared.task.Task.{Task}
-use Rattle.rules.specs.declared.task.TaskState.the-variants.{Waiting, Done}
 use Rattle.rules.specs.declared.channel.Cell.{Cell}
 use Rattle.rules.specs.declared.message.Message.{Message}
-use Rattle.rules.specs.declared.message.Message.the-variants.{Empty, Advert, Terminated}
-use Rattle.rules.specs.declared.rule.Posting.the-variants.{Nothing, Single, Adverts}
+use Rattle.rules.specs.declared.message.Message.the-variants.{Empty, Advert}
+use Rattle.rules.specs.declared.rule.Posting.the-variants.{Adverts}
 use Rattle.rules.specs.declared.system.System.{System}
 use Rattle.rules.specs.Numbers.{taskId, channelId, noProcessor}
-use Rattle.rules.specs.Tasks.{born, departed, advanced, withChild, withState, withProcessor}
+use Rattle.rules.specs.Tasks.{departed}
 use Rattle.rules.specs.Cells.{hint, offer, newer, larger, withHint, withHeld, withNoted, withGranted, withCarried, withTravelling, carrying, holding, noting}
 use Rattle.rules.specs.Networks.{messages, messageAt, enqueuedAll, dequeued, messagesOf}
 use Rattle.rules.specs.Systems.{entryAt, channelAt, withCell}
-use Rattle.rules.specs.Local.{syncRule, finishRule}
-use Rattle.rules.specs.Arrivals.{terminatedRule, takenOver, arrivalReceiving, arrivalSending}
+use Rattle.rules.specs.Arrivals.{takenOver, arrivalReceiving, arrivalSending}
 use Rattle.rules.specs.Moves.{departureSending}
 use Rattle.rules.specs.Steps.{ruledSteps, quiescent}
 use Rattle.rules.specs.StepFiles.{stepsOk}
 use Rattle.rules.proofs.Scripts.{create, finish, send, receive, run, deliver, move, startOn}
 use Rattle.rules.specs.Starts.{blank}
 use Rattle.rules.specs.Deliver.{gotMigration}
-use Rattle.rules.proofs.Sites.{processor, one, empty, small, crowded}
+use Rattle.rules.proofs.Sites.{processor, one, empty, bornAt, small, crowded}
 use Rattle.rules.proofs.Evaluated.{evaluated}
 
 -- "of equals the desk's own stays"; "the larger number is kept, of equals the earlier"
@@ -53,68 +50,8 @@ note-kept : (x : Cell) → noting (withNoted x (processor 2)) (processor 3) ≡ 
 unfolding evaluated
 note-kept x = refl
 
--- a task with the living child 2, and with 2 and 3
-abbrev parent : Task
-parent = withChild (born (processor 1)) (taskId 2)
-
-abbrev twins : Task
-twins = withChild parent (taskId 3)
-
--- "waits if children live"
-sync-waits : syncRule parent ≡ advanced (withState parent Waiting)
-unfolding evaluated
-sync-waits = refl
-
-sync-passes : syncRule (born (processor 1)) ≡ advanced (born (processor 1))
-unfolding evaluated
-sync-passes = refl
-
--- task 2 finishes: its parent is here and waits for it; for another too; does not wait; is elsewhere; is on its way
-abbrev finished : Task
-finished = advanced (withState (born (processor 1)) Done)
-
-finish-here : finishRule (taskId 2) (born (processor 1)) (withState parent Waiting) ≡ record { task = finished; parent = born (processor 1); posting = Nothing }
-unfolding evaluated
-finish-here = refl
-
-finish-one : finishRule (taskId 2) (born (processor 1)) (withState twins Waiting) .parent ≡ withState (withChild (born (processor 1)) (taskId 3)) Waiting
-unfolding evaluated
-finish-one = refl
-
--- a parent that waits for nobody is ready: its set is empty
-finish-waiting : finishRule (taskId 2) (born (processor 1)) (withState (born (processor 1)) Waiting) .parent ≡ born (processor 1)
-unfolding evaluated
-finish-waiting = refl
-
-finish-away : finishRule (taskId 2) (withProcessor (born (processor 1)) (processor 2)) parent
-    ≡ record { task = withProcessor finished (processor 2); parent = parent; posting = Single (Terminated (processor 1) (taskId 2)) }
-unfolding evaluated
-finish-away = refl
-
-finish-moving : finishRule (taskId 2) (born (processor 1)) (departed parent) .posting ≡ Single (Terminated (processor 1) (taskId 2))
-unfolding evaluated
-finish-moving = refl
-
--- "Task 1 has no parent."
-finish-root : (x p : Task) → finishRule (taskId 1) x p .posting ≡ Nothing
-unfolding evaluated
-finish-root x p = refl
-
--- an ended letter at desk 1 for child 2: the parent is there; elsewhere; the child is not living
-ended-taken : terminatedRule (withState parent Waiting) (processor 1) (taskId 2) ≡ born (processor 1)
-unfolding evaluated
-ended-taken = refl
-
-ended-far : terminatedRule parent (processor 2) (taskId 2) ≡ parent
-unfolding evaluated
-ended-far = refl
-
-ended-idle : terminatedRule (withState (born (processor 1)) Waiting) (processor 1) (taskId 2) ≡ withState (born (processor 1)) Waiting
-unfolding evaluated
-ended-idle = refl
-
 -- a departure and an arrival, of the record
-departs : departed (born (processor 1)) .moves ≡ 2
+departs : departed (bornAt (processor 1)) .moves ≡ 2
 departs = refl
 
 -- arrival of a receiver: the pointer, and the held offer that counts or not

@@ -8,26 +8,13 @@ use Rattle.rules.specs.declared.channel.Hint.{Hint}
 use Rattle.rules.specs.declared.channel.Offer.{Offer}
 use Rattle.rules.specs.declared.channel.Cell.{Cell}
 use Rattle.rules.specs.Numbers.{noProcessor, isNone}
-
-abbrev pub hint : ProcessorId → ℕ → Hint
-hint d n = record { processor = d; moves = n }
-
--- "both 0 is unknown"; 9 refuses a count without a desk
-abbrev pub unknown : Hint
-unknown = hint noProcessor 0
-
-abbrev pub isUnknown : Hint → Bool
-isUnknown h = isNone (h .processor)
+pub use Rattle.rules.specs.Hints.{hint, unknown, isUnknown, newer}
 
 abbrev pub offer : ProcessorId → ℕ → Offer
 offer d w = record { processor = d; number = w }
 
 abbrev pub noOffer : Offer
 noOffer = offer noProcessor 0
-
--- "The newer pointer has the larger count; of equals the desk's own stays."
-unfoldable pub newer : Hint → Hint → Hint
-newer own other = pick (ltb (own .moves) (other .moves)) other own
 
 -- "Of two, the larger number is kept, of equals the earlier."
 unfoldable pub larger : Offer → Offer → Offer

@@ -6,6 +6,7 @@ use Rattle.plan.specs.declared.ProcessorId.{ProcessorId}
 use Rattle.plan.specs.declared.ChannelId.{ChannelId}
 use Rattle.plan.specs.Users.{senderOf, receiverOf, parentOf}
 use Rattle.rules.specs.declared.task.TaskState.the-variants.{Moving}
+use Rattle.rules.specs.declared.channel.Hint.{Hint}
 use Rattle.rules.specs.declared.message.Message.{Message}
 use Rattle.rules.specs.declared.message.Message.the-variants.{Empty, Offered, Advert, ReadyToReceive, Data, Terminated, Migration}
 use Rattle.rules.specs.declared.rule.Site.{Site}
@@ -15,8 +16,8 @@ use Rattle.rules.specs.declared.step.StepAnswer.the-variants.{Accepted, 
 use Rattle.rules.specs.declared.system.System.{System}
 use Rattle.rules.specs.Tasks.{isIn}
 use Rattle.rules.specs.Networks.{messageAt, dequeued}
-use Rattle.rules.specs.Systems.{withNetwork, taskAt, withTask, meaning}
-use Rattle.rules.specs.Effects.{Effect, changed, applied}
+use Rattle.rules.specs.Systems.{withNetwork, taskAt, withTask, parentAt, withParent, meaning}
+use Rattle.rules.specs.Effects.{Effect, changed, changedPosting, applied}
 use Rattle.rules.specs.Offers.{offerRule, advertRule}
 use Rattle.rules.specs.Calls.{callRule, dataRule}
 use Rattle.rules.specs.Arrivals.{terminatedRule, arrival}
@@ -25,11 +26,13 @@ use Rattle.rules.specs.Arrivals.{terminatedRule, arrival}
 abbrev pub onChannel : System → ChannelId → ProcessorId → (Site → Outcome) → Effect
 onChannel r c d rule = applied r (senderOf (meaning r) c) (receiverOf (meaning r) c) c d rule
 
--- an ended letter at d for child t; a mover letter, which supposes "a moving task"
-unfoldable pub gotTerminated : System → ProcessorId → TaskId → System
-gotTerminated r d t =
+-- an ended letter for child t, which came along the pointer h; a mover letter, which supposes "a moving task"
+unfoldable pub gotTerminated : System → Hint → TaskId → Effect
+gotTerminated r h t =
     let p = parentOf (meaning r) t in
-    withTask r p (terminatedRule (taskAt r p) d t)
+    let d = h .processor in
+    let o = terminatedRule (taskAt r p) (parentAt r d p) h t in
+    changedPosting (withParent (withTask r p (o .parent)) d p (o .entry)) (o .posting)
 
 unfoldable pub gotMigration : System → ProcessorId → TaskId → System
 gotMigration r d t = pick (isIn Moving (taskAt r t)) (arrival r t d) r
@@ -41,7 +44,7 @@ opened r (Offered c o h) = onChannel r c (h .processor) (λ x. offerRule x c o h
 opened r (Advert c d from) = onChannel r c d (λ x. advertRule x c d from)
 opened r (ReadyToReceive c d h) = onChannel r c d (λ x. callRule x c d h)
 opened r (Data c d w) = onChannel r c d (λ x. dataRule x c d w)
-opened r (Terminated d t) = changed (gotTerminated r d t)
+opened r (Terminated h t) = gotTerminated r h t
 opened r (Migration d t) = changed (gotMigration r d t)
 
 -- a delivery of the letter at position p

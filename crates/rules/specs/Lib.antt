@@ -2,6 +2,7 @@
 -- trace and step file.
 pub mod Numbers
 pub mod Answers
+pub mod Hints
 pub mod Tasks
 pub mod Places
 pub mod Cells

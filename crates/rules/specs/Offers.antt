@@ -1,6 +1,5 @@
 -- Deliver: an offer letter and an advert. "Here \"receiving\" is on the letter's channel."
-use mathlib.Core.Bool.{Bool, not, _&&_}
-use lib.Dec.{ltb}
+use mathlib.Core.Bool.{not, _&&_}
 use Rattle.base.specs.Choice.{pick}
 use Rattle.plan.specs.declared.ProcessorId.{ProcessorId}
 use Rattle.plan.specs.declared.ChannelId.{ChannelId}
@@ -13,18 +12,14 @@ use Rattle.rules.specs.declared.rule.Posting.{Posting}
 use Rattle.rules.specs.declared.rule.Posting.the-variants.{Nothing, Single}
 use Rattle.rules.specs.declared.rule.Received.the-variants.{Nothing as NoWord}
 use Rattle.rules.specs.declared.rule.Outcome.{Outcome}
-use Rattle.rules.specs.Numbers.{sameProcessor}
 use Rattle.rules.specs.Tasks.{isAt}
+pub use Rattle.rules.specs.Hints.{pointsOn}
 use Rattle.rules.specs.Cells.{counts, noneCalled, carrying, holding, noting, granting}
 use Rattle.rules.specs.Receive.{callTo}
 
 -- both tasks stay as they are
 abbrev pub kept : Site → Cell → Posting → Outcome
 kept x cell posting = record { sender = x .sender; receiver = x .receiver; cell = cell; posting = posting; received = NoWord }
-
--- "d's pointer names another desk with a larger count than the letter's": the desk's own, and the one that the letter came along
-abbrev pub pointsOn : Hint → Hint → ProcessorId → Bool
-pointsOn own along d = not (sameProcessor (own .processor) d) && ltb (along .moves) (own .moves)
 
 -- "Offer at d: if it no longer counts and the receiver is here, dropped. Receiver here, receiving and not called: answered. Receiver here
 -- otherwise: carried. Not here: if d's pointer names another desk with a larger count than the letter's, forwarded there with that count;

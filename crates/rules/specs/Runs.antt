@@ -16,7 +16,8 @@ use Rattle.rules.specs.declared.system.System.{System}
 use Rattle.rules.specs.Numbers.{taskId, channelId, taskNumberOk}
 use Rattle.rules.specs.Tasks.{isIn, isChildless}
 use Rattle.rules.specs.Networks.{fitsIn}
-use Rattle.rules.specs.Systems.{taskAt, withTask, meaning, taskProgram}
+use Rattle.rules.specs.Hints.{hint}
+use Rattle.rules.specs.Systems.{taskAt, withTask, parentAt, withParent, meaning, taskProgram}
 use Rattle.rules.specs.Places.{nextIn, sendNumber}
 use Rattle.rules.specs.Effects.{Effect, changed, changedPosting, applied}
 use Rattle.rules.specs.Starts.{birth}
@@ -25,14 +26,18 @@ use Rattle.rules.specs.Send.{sendRule}
 use Rattle.rules.specs.Receive.{receiveRule}
 
 -- each instruction of task t on the rig; d is the task's desk
+-- the child's own pointer is the creating task's desk and move count
 unfoldable pub ranCreate : System → TaskId → TaskId → Effect
-ranCreate r t u = changed (birth (withTask r t (createRule (taskAt r t) u)) u (taskAt r t .processor))
+ranCreate r t u =
+    let d = taskAt r t .processor in
+    changed (birth (withTask r t (createRule (taskAt r t) u)) u d (hint d (taskAt r t .moves)))
 
 unfoldable pub ranFinish : System → TaskId → Effect
 ranFinish r t =
     let p = parentOf (meaning r) t in
-    let o = finishRule t (taskAt r t) (taskAt r p) in
-    changedPosting (withTask (withTask r p (o .parent)) t (o .task)) (o .posting)
+    let d = taskAt r t .processor in
+    let o = finishRule t (taskAt r t) (taskAt r p) (parentAt r d p) in
+    changedPosting (withParent (withTask (withTask r p (o .parent)) t (o .task)) d p (o .entry)) (o .posting)
 
 -- the number of a send is counted to this one
 unfoldable pub ranSend : System → TaskId → ChannelId → Effect

@@ -23,6 +23,7 @@ use Rattle.rules.specs.declared.message.Message.the-variants.{Empty, Off
 use Rattle.rules.specs.declared.message.Network.{Network}
 use Rattle.rules.specs.declared.system.Tables.{Tables}
 use Rattle.rules.specs.declared.system.Channels.{Channels}
+use Rattle.rules.specs.declared.system.Parents.{Parents}
 use Rattle.rules.specs.declared.system.System.{System}
 use Rattle.rules.specs.Numbers.{taskId, processorId, isNone, processorOk, taskNumberOk, channelNumberOk, networkSize, mostMoves}
 use Rattle.rules.specs.Tasks.{isIn}
@@ -68,7 +69,7 @@ messageOk n m (Offered c o h) = channelNumberOk c && (madeOk n o && knownOk n h)
 messageOk n m (Advert c d from) = channelNumberOk c && (processorOk n d && processorOk n from)
 messageOk n m (ReadyToReceive c d h) = channelNumberOk c && (processorOk n d && knownOk n h)
 messageOk n m (Data c d w) = channelNumberOk c && processorOk n d
-messageOk n m (Terminated d t) = processorOk n d && taskNumberOk m t
+messageOk n m (Terminated h t) = knownOk n h && taskNumberOk m t
 messageOk n m (Migration d t) = processorOk n d && taskNumberOk m t
 
 -- the mail
@@ -79,7 +80,7 @@ networkOk n m x = leb (x .used) networkSize && every (messageOk n m) (messages x
 unfoldable pub unbornOk : Task → Bool
 unbornOk x =
     isNone (x .processor)
-    && (eqb (x .pc) 1 && (every (eqb 0) (wordNumbers (x .word)) && (not (x .overflow) && (isNone (x .home) && eqb (x .moves) 0))))
+    && (eqb (x .pc) 1 && (every (eqb 0) (wordNumbers (x .word)) && (not (x .overflow) && eqb (x .moves) 0)))
 
 -- "a .. moving task not as said above"; any other is at a desk of the rig
 abbrev pub whereOk : ℕ → Task → Bool
@@ -95,17 +96,29 @@ abbrev pub lastOk : Program → Task → Bool
 lastOk g x = (not (isIn Sending x) || eqb (lastIn g x .opcode) opSend) && (not (isIn Receiving x) || eqb (lastIn g x .opcode) opReceive)
 
 unfoldable pub bornOk : ℕ → Program → Task → Bool
-bornOk n g x = processorOk n (x .home) && (movesOk (x .moves) && (whereOk n x && (placeOk (length g) x && lastOk g x)))
+bornOk n g x = movesOk (x .moves) && (whereOk n x && (placeOk (length g) x && lastOk g x))
 
 -- a task in a rig of n desks and m tasks; its living children are tasks of the rig
 unfoldable pub taskOk : ℕ → ℕ → Program → Task → Bool
 taskOk n m g x = ltb (x .children) (2 ^ m) && pick (isIn Unborn x) (unbornOk x) (bornOk n g x)
+
+-- the child's own pointer, of task t: "both 0 for an unborn task, and always for task 1"; "0 stands only where this paper names it"
+unfoldable pub originOk : ℕ → ℕ → Task → Bool
+originOk n t x = pick (isIn Unborn x || eqb t 1) (isUnknown (x .origin) && eqb (x .origin .moves) 0) (knownOk n (x .origin))
+
+-- pointers to parents, and held children, which are tasks of the rig
+unfoldable pub parentsOk : ℕ → ℕ → Parents → Bool
+parentsOk n m x =
+    everyPair (λ d k. hintOk n (hint (processorId d) k)) (x .hintprocessors) (x .hintmoves)
+    && every (λ s. ltb s (2 ^ m)) (x .held)
 
 unfoldable pub systemOk : System → Bool
 systemOk r =
     within 1 6 (r .processors)
     && (isAccepted (planAnswer (meaning r))
     && (upTo (r .plan .tasks) (λ t. taskOk (r .processors) (r .plan .tasks) (taskProgram r (taskId t)) (taskAt r (taskId t)))
+    && (upTo (r .plan .tasks) (λ t. originOk (r .processors) t (taskAt r (taskId t)))
     && (tablesOk (r .processors) (r .tables)
     && (channelEntriesOk (r .processors) (r .channels)
-    && networkOk (r .processors) (r .plan .tasks) (r .network)))))
+    && (parentsOk (r .processors) (r .plan .tasks) (r .parents)
+    && networkOk (r .processors) (r .plan .tasks) (r .network)))))))

@@ -1,4 +1,4 @@
--- The rig read and changed: a task, a cell, the mail; each in the part of the rig that it is in, then in the rig. Nothing above looks into
+-- The rig read and changed: a task, a cell, what a desk keeps for a parent, the mail; each in the part of the rig that it is in, then in the rig. Nothing above looks into
 -- an array.
 use mathlib.Core.Bool.{false}
 use mathlib.Core.List.{List}
@@ -18,6 +18,8 @@ use Rattle.rules.specs.declared.message.Network.{Network}
 use Rattle.rules.specs.declared.system.Tables.{Tables}
 use Rattle.rules.specs.declared.system.Channels.{Channels}
 use Rattle.rules.specs.declared.system.Store.{Store}
+use Rattle.rules.specs.declared.system.Parents.{Parents}
+use Rattle.rules.specs.declared.system.ParentEntry.{ParentEntry}
 use Rattle.rules.specs.declared.system.System.{System}
 use Rattle.rules.specs.Numbers.{processorId}
 use Rattle.rules.specs.Tasks.{noTask}
@@ -32,14 +34,18 @@ storeIn r = store (r .tables) (r .channels)
 
 -- the rig with one part changed
 abbrev pub withTasks : System → List Task → System
-withTasks r x = record { processors = r .processors; plan = r .plan; tasks = x; tables = r .tables; channels = r .channels; network = r .network }
+withTasks r x = record { processors = r .processors; plan = r .plan; tasks = x; tables = r .tables; channels = r .channels; parents = r .parents; network = r .network }
 
 abbrev pub withStore : System → Store → System
 withStore r s =
-    record { processors = r .processors; plan = r .plan; tasks = r .tasks; tables = s .tables; channels = s .channels; network = r .network }
+    record { processors = r .processors; plan = r .plan; tasks = r .tasks; tables = s .tables; channels = s .channels; parents = r .parents; network = r .network }
 
 abbrev pub withNetwork : System → Network → System
-withNetwork r x = record { processors = r .processors; plan = r .plan; tasks = r .tasks; tables = r .tables; channels = r .channels; network = x }
+withNetwork r x = record { processors = r .processors; plan = r .plan; tasks = r .tasks; tables = r .tables; channels = r .channels; parents = r .parents; network = x }
+
+abbrev pub withParents : System → Parents → System
+withParents r x =
+    record { processors = r .processors; plan = r .plan; tasks = r .tasks; tables = r .tables; channels = r .channels; parents = x; network = r .network }
 
 -- task t of the tasks; "0 means none"
 unfoldable pub taskIn : List Task → TaskId → Task
@@ -124,6 +130,28 @@ cellAt r d c = record { entry = entryAt r d c; channel = channelAt r c }
 
 unfoldable pub withCell : System → ProcessorId → ChannelId → Cell → System
 withCell r d c x = withStore r (cellStored (storeIn r) d c x)
+
+-- "Each desk keeps a pointer for every parent": where the entry of desk d and task t is, both from 1
+abbrev pub parentIndex : ProcessorId → TaskId → ℕ
+parentIndex d t = 64 * (d .0 - 1) + (t .0 - 1)
+
+abbrev pub readParent : Parents → ℕ → ParentEntry
+readParent x i = record { hint = hint (processorId (getD (x .hintprocessors) i 0)) (getD (x .hintmoves) i 0); held = getD (x .held) i 0 }
+
+abbrev pub writeParent : Parents → ℕ → ParentEntry → Parents
+writeParent x i e =
+    record {
+      hintprocessors = set (x .hintprocessors) i (e .hint .processor .0);
+      hintmoves = set (x .hintmoves) i (e .hint .moves);
+      held = set (x .held) i (e .held);
+    }
+
+-- desk d's entry for parent t, of the rig
+unfoldable pub parentAt : System → ProcessorId → TaskId → ParentEntry
+parentAt r d t = readParent (r .parents) (parentIndex d t)
+
+unfoldable pub withParent : System → ProcessorId → TaskId → ParentEntry → System
+withParent r d t e = withParents r (writeParent (r .parents) (parentIndex d t) e)
 
 -- what the rig's plan means, and the program of task t, from 1
 abbrev pub meaning : System → Programs

@@ -1,7 +1,7 @@
 // What the rig keeps for one channel: at a desk, and for the channel itself.
 use plan::ProcessorId;
 
-// A location hint, the paper's pointer: "(desk, count; both 0 is unknown)" of a channel's receiver.
+// A location hint, the paper's pointer: "(desk, count; both 0 is unknown)" of a channel's receiver, or of a parent.
 pub struct Hint {
     pub processor: ProcessorId,
     pub moves: u16,

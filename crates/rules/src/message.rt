@@ -6,7 +6,7 @@ use plan::ProcessorId;
 use plan::TaskId;
 use plan::Word;
 
-// A letter. Each names the desk that it goes to; an offer's is its hint's.
+// A letter. Each names the desk that it goes to; that of an offer and of an ended letter is its hint's.
 pub enum Message {
     // no letter: what an unused slot holds
     Empty,
@@ -18,8 +18,8 @@ pub enum Message {
     ReadyToReceive(ChannelId, ProcessorId, Hint),
     // word letter: the channel, where to, the word
     Data(ChannelId, ProcessorId, Word),
-    // ended letter: where to, the child
-    Terminated(ProcessorId, TaskId),
+    // ended letter: the pointer to the parent that it follows, the child
+    Terminated(Hint, TaskId),
     // mover letter: where to, the task
     Migration(ProcessorId, TaskId),
 }

@@ -1,6 +1,7 @@
 // What a rule takes and gives back: a rule is a function of what it may touch.
 use crate::channel::Cell;
 use crate::message::Message;
+use crate::system::ParentEntry;
 use crate::task::Task;
 use plan::ChannelId;
 use plan::ProcessorId;
@@ -40,9 +41,17 @@ pub struct Outcome {
     pub received: Received,
 }
 
-// What a finish leaves behind: the task, its parent, the letter.
+// What a finish leaves behind: the task, its parent, what the task's desk keeps for the parent, the letter.
 pub struct Finished {
     pub task: Task,
     pub parent: Task,
+    pub entry: ParentEntry,
+    pub posting: Posting,
+}
+
+// What an ended letter leaves behind: the parent, what the letter's desk keeps for it, the letter where it is forwarded.
+pub struct Ended {
+    pub parent: Task,
+    pub entry: ParentEntry,
     pub posting: Posting,
 }

@@ -1,4 +1,5 @@
 // The rig.
+use crate::channel::Hint;
 use crate::message::Network;
 use crate::task::Task;
 use plan::Plan;
@@ -36,12 +37,29 @@ pub struct Store {
     pub channels: Channels,
 }
 
-// The rig: how many desks, the plan, task t at t - 1, the tables, the channels, the mail.
+// "Each desk keeps a pointer for every parent", and children "held for one parent": six desks by 64 tasks, 384 entries each. The
+// entry of desk d and task t is at 64 (d - 1) + (t - 1).
+pub struct Parents {
+    // pointers: desk and count
+    pub hintprocessors: [u8; 384],
+    pub hintmoves: [u16; 384],
+    // held children: bit t - 1 for task t
+    pub held: [u64; 384],
+}
+
+// One such entry.
+pub struct ParentEntry {
+    pub hint: Hint,
+    pub held: u64,
+}
+
+// The rig: how many desks, the plan, task t at t - 1, the tables, the channels, the parents, the mail.
 pub struct System {
     pub processors: u8,
     pub plan: Plan,
     pub tasks: [Task; 64],
     pub tables: Tables,
     pub channels: Channels,
+    pub parents: Parents,
     pub network: Network,
 }

@@ -2,6 +2,7 @@
 ghost use mathlib.Core.Path.{_≡_};
 ghost use Prim.Native.Nat.{_<_};
 ghost use Rattle.rules.specs.Tasks.{withState, born, departed, arrived};
+use crate::channel::Hint;
 use plan::ProcessorId;
 use plan::Word;
 
@@ -16,16 +17,17 @@ pub enum TaskState {
     Done,
 }
 
-// "A task has a state .., a desk, a place, a word (0 at birth), a desk of birth (0 before it), a move count (1 at birth) and a
-// 64-bit set of living children, bit t−1 for task t."; "A task that met this .. carries a mark": it met a sum over the top.
+// "A task has a state .., a desk, a place, a word (0 at birth), .. a move count (1 at birth) and a 64-bit set of living children,
+// bit t−1 for task t."; "the child's own" pointer, "which it keeps unchanged from its birth in place of the desk of birth";
+// "A task that met this .. carries a mark": it met a sum over the top.
 pub struct Task {
     pub state: TaskState,
     // its desk, 0 where it has none
     pub processor: ProcessorId,
     // its place: the number of the next instruction, from 1
     pub pc: u8,
-    // its desk of birth
-    pub home: ProcessorId,
+    // its own pointer to its parent
+    pub origin: Hint,
     pub word: Word,
     // its mark
     pub overflow: bool,
@@ -41,13 +43,13 @@ impl Task {
         ensures { λ r. ⌜ r ≡ withState self s ⌝ }
     {
         let processor = self.processor;
-        let home = self.home;
+        let origin = self.origin;
         let word = self.word;
         Task {
             state: s,
             processor: processor,
             pc: self.pc,
-            home: home,
+            origin: origin,
             word: word,
             overflow: self.overflow,
             moves: self.moves,
@@ -55,14 +57,15 @@ impl Task {
         }
     }
 
-    // Birth at desk d, whatever the record was.
-    pub fn birth(mut self, d: ProcessorId) -> Task
-        ensures { λ r. ⌜ r ≡ born d ⌝ }
+    // Birth at desk d with a pointer to its parent, whatever the record was.
+    pub fn birth(mut self, d: ProcessorId, origin: Hint) -> Task
+        ensures { λ r. ⌜ r ≡ born d origin ⌝ }
     {
         let at = d;
         self.processor = at;
         self.pc = 1;
-        self.home = at;
+        let own = origin;
+        self.origin = own;
         let zero = Word(0, 0, 0, 0);
         self.word = zero;
         self.overflow = false;

@@ -16,7 +16,7 @@ use Rattle.rules.specs.Systems.{taskAt, entryIndex, entryAt, channelAt, cellAt,
 use Rattle.rules_laws.specs.Shapes.{Shaped}
 
 -- an element of a list of n, written and read
-stored : {A : Type 0} (n : ℕ) (l : List A) (i : ℕ) (a b : A) → length l ≡ n → i < n → getD (set l i a) i b ≡ a
+pub stored : {A : Type 0} (n : ℕ) (l : List A) (i : ℕ) (a b : A) → length l ≡ n → i < n → getD (set l i a) i b ≡ a
 stored n l i a b e h = getD-set-same l i a b (omega arith)
 
 module _ (r : System) (d : ProcessorId) (c : ChannelId) (x : Cell) where
@@ -27,6 +27,10 @@ module _ (r : System) (d : ProcessorId) (c : ChannelId) (x : Cell) where
   pub withCell-plan : withCell r d c x .plan ≡ r .plan
   unfolding withCell
   withCell-plan = refl
+
+  pub withCell-parents : withCell r d c x .parents ≡ r .parents
+  unfolding withCell
+  withCell-parents = refl
 
   pub withCell-tasks : withCell r d c x .tasks ≡ r .tasks
   unfolding withCell

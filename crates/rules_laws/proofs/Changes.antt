@@ -1,4 +1,4 @@
--- What every small change of the rig keeps, every step keeps: a rule changes tasks and cells, and letters leave the mail and join it.
+-- What every small change of the rig keeps, every step keeps: a rule changes tasks, cells and what is kept for parents, and letters leave the mail and join it.
 use mathlib.Core.Path.{_≡_, sym, _∙_}
 use mathlib.Core.Bool.{Bool}
 use mathlib.Core.List.{List, [], _∷_}
@@ -12,17 +12,19 @@ use Rattle.plan.specs.declared.Instruction.{Instruction}
 use Rattle.plan.specs.Kinds.{opCreate, opSync, opFinish, opSend, opReceive, opSet}
 use Rattle.rules.specs.declared.task.Task.{Task}
 use Rattle.rules.specs.declared.task.TaskState.the-variants.{Moving}
+use Rattle.rules.specs.declared.channel.Hint.{Hint}
 use Rattle.rules.specs.declared.channel.Cell.{Cell}
 use Rattle.rules.specs.declared.message.Message.{Message}
 use Rattle.rules.specs.declared.message.Message.the-variants.{Empty, Offered, Advert, ReadyToReceive, Data, Terminated, Migration}
 use Rattle.rules.specs.declared.rule.Outcome.{Outcome}
 use Rattle.rules.specs.declared.step.Step.{Step}
 use Rattle.rules.specs.declared.step.StepAnswer.the-variants.{Accepted}
+use Rattle.rules.specs.declared.system.ParentEntry.{ParentEntry}
 use Rattle.rules.specs.declared.system.System.{System}
 use Rattle.rules.specs.Numbers.{taskId, processorId, channelId}
 use Rattle.rules.specs.Tasks.{isIn}
 use Rattle.rules.specs.Networks.{messageAt, enqueuedAll, dequeued}
-use Rattle.rules.specs.Systems.{withNetwork, taskAt, withTask, withCell}
+use Rattle.rules.specs.Systems.{withNetwork, taskAt, withTask, withCell, withParent}
 use Rattle.rules.specs.Effects.{Effect, completed, withOutcome, forChannels}
 use Rattle.rules.specs.Starts.{birth}
 use Rattle.rules.specs.Runs.{ranCreate, ranFinish, ranSend, ranReceive, executed, ran, nextOf}
@@ -35,10 +37,11 @@ use Rattle.rules_laws.proofs.Sound.{messages-fit}
 use Rattle.rules_laws.proofs.Steps.{step-cases, step-passed}
 use Rattle.rules_laws.proofs.StepKinds.{answer-deliver, deliver-passed}
 
--- a task is written, a cell is written, letters join the mail, one leaves it
+-- a task is written, a cell, an entry of a parent, letters join the mail, one leaves it
 pub record Kept (P : System → Type 0) : Type 0 where
   pub task : (q : System) (t : TaskId) (x : Task) → P q → P (withTask q t x)
   pub cell : (q : System) (d : ProcessorId) (c : ChannelId) (x : Cell) → P q → P (withCell q d c x)
+  pub parent : (q : System) (d : ProcessorId) (t : TaskId) (e : ParentEntry) → P q → P (withParent q d t e)
   pub join : (q : System) (ms : List Message) → P q → P (withNetwork q (enqueuedAll (q .network) ms))
   pub leave : (q : System) (p : ℕ) → 1 ≤ p → p ≤ q .network .used → q .network .used ≤ 256 → P q → P (withNetwork q (dequeued (q .network) p))
 
@@ -46,9 +49,9 @@ module _ (P : System → Type 0) (k : Kept P) where
   channels : (n : ℕ) (test : ChannelId → Bool) (rule : Cell → Cell) (d : ProcessorId) (r : System) → P r → P (forChannels n test rule d r)
   channels n test rule d r h = forChannels-all test rule d P n r (λ q i x l. k .cell q d (channelId (suc i)) x) h
 
-  pub birth-keeps : (r : System) (t : TaskId) (d : ProcessorId) → P r → P (birth r t d)
+  pub birth-keeps : (r : System) (t : TaskId) (d : ProcessorId) (own : Hint) → P r → P (birth r t d own)
   unfolding birth
-  birth-keeps r t d h = channels 128 _ _ d _ (k .task r t _ h)
+  birth-keeps r t d own h = channels 128 _ _ d _ (k .parent _ d t _ (k .task r t _ h))
 
   outcome : (r : System) (s u : TaskId) (c : ChannelId) (d : ProcessorId) (o : Outcome) → P r → P (withOutcome r s u c d o .system)
   unfolding withOutcome
@@ -57,11 +60,11 @@ module _ (P : System → Type 0) (k : Kept P) where
   -- a run
   finish : (r : System) (t : TaskId) → P r → P (ranFinish r t .system)
   unfolding ranFinish
-  finish r t h = k .task _ t _ (k .task r _ _ h)
+  finish r t h = k .parent _ _ _ _ (k .task _ t _ (k .task r _ _ h))
 
   create : (r : System) (t u : TaskId) → P r → P (ranCreate r t u .system)
   unfolding ranCreate
-  create r t u h = birth-keeps _ u _ (k .task r t _ h)
+  create r t u h = birth-keeps _ u _ _ (k .task r t _ h)
 
   send : (r : System) (t : TaskId) (c : ChannelId) → P r → P (ranSend r t c .system)
   unfolding ranSend
@@ -90,15 +93,15 @@ module _ (P : System → Type 0) (k : Kept P) where
   -- a delivery
   arrive : (r : System) (t : TaskId) (d : ProcessorId) → P r → P (arrival r t d)
   unfolding arrival
-  arrive r t d h = channels 128 _ _ d _ (channels 128 _ _ d _ (k .task r t _ h))
+  arrive r t d h = channels 128 _ _ d _ (channels 128 _ _ d _ (k .parent _ d t _ (k .task r t _ h)))
 
   migration : (r : System) (d : ProcessorId) (t : TaskId) → P r → P (gotMigration r d t)
   unfolding gotMigration
   migration r d t h = pick-either P (isIn Moving (taskAt r t)) (arrival r t d) r (arrive r t d h) h
 
-  termination : (r : System) (d : ProcessorId) (t : TaskId) → P r → P (gotTerminated r d t)
+  termination : (r : System) (p : Hint) (t : TaskId) → P r → P (gotTerminated r p t .system)
   unfolding gotTerminated
-  termination r d t h = k .task r _ _ h
+  termination r p t h = k .parent _ _ _ _ (k .task r _ _ h)
 
   pub opened-keeps : (r : System) (m : Message) → P r → P (opened r m .system)
   unfolding opened
@@ -107,7 +110,7 @@ module _ (P : System → Type 0) (k : Kept P) where
   opened-keeps r (Advert c d from) h = outcome r _ _ c _ _ h
   opened-keeps r (ReadyToReceive c d p) h = outcome r _ _ c _ _ h
   opened-keeps r (Data c d w) h = outcome r _ _ c _ _ h
-  opened-keeps r (Terminated d t) h = termination r d t h
+  opened-keeps r (Terminated p t) h = termination r p t h
   opened-keeps r (Migration d t) h = migration r d t h
 
   pub delivered-keeps : (r : System) (p : ℕ) → 1 ≤ p → p ≤ r .network .used → r .network .used ≤ 256 → P r → P (delivered r p .system)
@@ -117,7 +120,7 @@ module _ (P : System → Type 0) (k : Kept P) where
   -- a move
   pub moved-keeps : (r : System) (t : TaskId) (e : ProcessorId) → P r → P (moved r t e .system)
   unfolding moved
-  moved-keeps r t e h = channels 128 _ _ _ _ (channels 128 _ _ _ _ (k .task r t _ h))
+  moved-keeps r t e h = channels 128 _ _ _ _ (channels 128 _ _ _ _ (k .parent _ _ t _ (k .task r t _ h)))
 
   -- letters
   pub completed-keeps : (e : Effect) → P (e .system) → P (completed e)

@@ -16,11 +16,12 @@ use Rattle.plan.specs.declared.ChannelId.{ChannelId}
 use Rattle.rules.specs.declared.channel.Cell.{Cell}
 use Rattle.rules.specs.declared.system.System.{System}
 use Rattle.rules.specs.Numbers.{channelId}
-use Rattle.rules.specs.Systems.{storeIn, withStore, taskAt, entryAt, channelAt, cellAt, withCell}
+use Rattle.rules.specs.Systems.{storeIn, withStore, taskAt, entryAt, channelAt, cellAt, withCell, parentAt}
 use Rattle.rules.specs.Effects.{cellRuled, forCells, forChannels}
 use Rattle.rules_laws.specs.Shapes.{Shaped}
-use Rattle.rules_laws.proofs.CellAt.{withCell-processors, withCell-plan, withCell-tasks, withCell-network, withCell-taskAt, withCell-shaped}
+use Rattle.rules_laws.proofs.CellAt.{withCell-processors, withCell-plan, withCell-parents, withCell-tasks, withCell-network, withCell-taskAt, withCell-shaped}
 use Rattle.rules_laws.proofs.CellAt.{entryAt-other-processor, cellAt-same, cellAt-other}
+use Rattle.rules_laws.proofs.ParentAt.{withCell-parentAt}
 
 -- a bound that is one higher
 leb-step : (k n : ℕ) → k ≢ suc n → leb k n ≡ leb k (suc n)
@@ -68,6 +69,9 @@ module _ (test : ChannelId → Bool) (rule : Cell → Cell) (d : ProcessorId) wh
     pub forChannels-plan : forChannels n test rule d r .plan ≡ r .plan
     forChannels-plan = forChannels-keeps (λ q. q .plan) n r (λ q k x h. withCell-plan q d (channelId (suc k)) x)
 
+    pub forChannels-parents : forChannels n test rule d r .parents ≡ r .parents
+    forChannels-parents = forChannels-keeps (λ q. q .parents) n r (λ q k x h. withCell-parents q d (channelId (suc k)) x)
+
     pub forChannels-tasks : forChannels n test rule d r .tasks ≡ r .tasks
     forChannels-tasks = forChannels-keeps (λ q. q .tasks) n r (λ q k x h. withCell-tasks q d (channelId (suc k)) x)
 
@@ -76,6 +80,9 @@ module _ (test : ChannelId → Bool) (rule : Cell → Cell) (d : ProcessorId) wh
 
     pub forChannels-taskAt : (t : TaskId) → taskAt (forChannels n test rule d r) t ≡ taskAt r t
     forChannels-taskAt t = forChannels-keeps (λ q. taskAt q t) n r (λ q k x h. withCell-taskAt q d (channelId (suc k)) x t)
+
+    pub forChannels-parentAt : (e : ProcessorId) (t : TaskId) → parentAt (forChannels n test rule d r) e t ≡ parentAt r e t
+    forChannels-parentAt e t = forChannels-keeps (λ q. parentAt q e t) n r (λ q k x h. withCell-parentAt q d (channelId (suc k)) x e t)
 
     pub forChannels-elsewhere : (e : ProcessorId) (c : ChannelId) → n ≤ 128 → 1 ≤ d .0 → 1 ≤ e .0 → c .0 ≤ 128 → d .0 ≢ e .0
         → entryAt (forChannels n test rule d r) e c ≡ entryAt r e c

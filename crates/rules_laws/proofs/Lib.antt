@@ -1,6 +1,7 @@
 -- The laws of the rules: what is read and written, the mail, steps, what each step keeps.
 pub mod TaskAt
 pub mod CellAt
+pub mod ParentAt
 pub mod ForChannels
 pub mod Messages
 pub mod Steps

@@ -7,16 +7,19 @@ use lib.ListN.{length}
 use Rattle.plan.specs.declared.Plan.{Plan}
 use Rattle.plan.specs.declared.TaskId.{TaskId}
 use Rattle.plan.specs.declared.ProcessorId.{ProcessorId}
+use Rattle.rules.specs.declared.channel.Hint.{Hint}
 use Rattle.rules.specs.declared.message.Network.{Network}
 use Rattle.rules.specs.declared.step.Step.{Step}
 use Rattle.rules.specs.declared.system.System.{System}
 use Rattle.rules.specs.Numbers.{taskId, processorId}
+use Rattle.rules.specs.Hints.{unknown}
 use Rattle.rules.specs.Systems.{withNetwork}
 use Rattle.rules.specs.Starts.{birth, blank, started}
 use Rattle.rules.specs.Steps.{step, steps}
 use Rattle.rules_laws.specs.Shapes.{Shaped}
 use Rattle.rules_laws.proofs.TaskAt.{withTask-processors, withTask-plan, withTask-shaped}
 use Rattle.rules_laws.proofs.CellAt.{withCell-processors, withCell-plan, withCell-shaped}
+use Rattle.rules_laws.proofs.ParentAt.{withParent-processors, withParent-plan, withParent-shaped}
 use Rattle.rules_laws.proofs.Messages.{enqueuedAll-size, dequeued-size}
 use Rattle.rules_laws.proofs.Changes.{Kept, birth-keeps, step-keeps, steps-keep}
 
@@ -29,6 +32,7 @@ shaped-kept =
     record {
       task = withTask-shaped;
       cell = withCell-shaped;
+      parent = withParent-shaped;
       join = λ q ms s. withNetwork-shaped q _ s (enqueuedAll-size (q .network) ms ∙ s .slots);
       leave = λ q p some there few s. withNetwork-shaped q _ s (dequeued-size (q .network) p some there (omega (arith, s .slots)) ∙ s .slots);
     }
@@ -40,7 +44,7 @@ blank-shaped n p = search
 
 pub started-shaped : (n : ℕ) (p : Plan) → Shaped (started n p)
 unfolding started
-started-shaped n p = birth-keeps Shaped shaped-kept (blank n p) (taskId 1) (processorId 1) (blank-shaped n p)
+started-shaped n p = birth-keeps Shaped shaped-kept (blank n p) (taskId 1) (processorId 1) unknown (blank-shaped n p)
 
 -- steps
 pub step-shaped : (r : System) (s : Step) → Shaped r → Shaped (step r s .system)
@@ -55,6 +59,7 @@ module _ (r : System) where
       record {
         task = λ q t x h. withTask-plan q t x ∙ h;
         cell = λ q d c x h. withCell-plan q d c x ∙ h;
+        parent = λ q d t e h. withParent-plan q d t e ∙ h;
         join = λ q ms h. h;
         leave = λ q p some there few h. h;
       }
@@ -64,15 +69,16 @@ module _ (r : System) where
       record {
         task = λ q t x h. withTask-processors q t x ∙ h;
         cell = λ q d c x h. withCell-processors q d c x ∙ h;
+        parent = λ q d t e h. withParent-processors q d t e ∙ h;
         join = λ q ms h. h;
         leave = λ q p some there few h. h;
       }
 
-  pub birth-plan : (t : TaskId) (d : ProcessorId) → birth r t d .plan ≡ r .plan
-  birth-plan t d = birth-keeps _ plan-kept r t d refl
+  pub birth-plan : (t : TaskId) (d : ProcessorId) (own : Hint) → birth r t d own .plan ≡ r .plan
+  birth-plan t d own = birth-keeps _ plan-kept r t d own refl
 
-  pub birth-processors : (t : TaskId) (d : ProcessorId) → birth r t d .processors ≡ r .processors
-  birth-processors t d = birth-keeps _ processors-kept r t d refl
+  pub birth-processors : (t : TaskId) (d : ProcessorId) (own : Hint) → birth r t d own .processors ≡ r .processors
+  birth-processors t d own = birth-keeps _ processors-kept r t d own refl
 
   pub step-plan : (s : Step) → step r s .system .plan ≡ r .plan
   step-plan s = step-keeps _ plan-kept r s refl
@@ -88,8 +94,8 @@ module _ (r : System) where
 
 pub started-plan : (n : ℕ) (p : Plan) → started n p .plan ≡ p
 unfolding started blank
-started-plan n p = birth-plan (blank n p) (taskId 1) (processorId 1)
+started-plan n p = birth-plan (blank n p) (taskId 1) (processorId 1) unknown
 
 pub started-processors : (n : ℕ) (p : Plan) → started n p .processors ≡ n
 unfolding started blank
-started-processors n p = birth-processors (blank n p) (taskId 1) (processorId 1)
+started-processors n p = birth-processors (blank n p) (taskId 1) (processorId 1) unknown

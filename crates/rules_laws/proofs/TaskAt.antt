@@ -98,6 +98,9 @@ module _ (r : System) (t : TaskId) (x : Task) where
   pub withTask-channels : withTask r t x .channels ≡ r .channels
   withTask-channels = withTask-keeps (λ q. q .channels) (λ q y. refl) r t x
 
+  pub withTask-parents : withTask r t x .parents ≡ r .parents
+  withTask-parents = withTask-keeps (λ q. q .parents) (λ q y. refl) r t x
+
   pub withTask-network : withTask r t x .network ≡ r .network
   withTask-network = withTask-keeps (λ q. q .network) (λ q y. refl) r t x
 

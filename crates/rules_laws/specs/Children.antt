@@ -10,5 +10,5 @@ childOf (Offered c o h) = 1
 childOf (Advert c d from) = 1
 childOf (ReadyToReceive c d h) = 1
 childOf (Data c d w) = 1
-childOf (Terminated d t) = t .0
+childOf (Terminated h t) = t .0
 childOf (Migration d t) = 1

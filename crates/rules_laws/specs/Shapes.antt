@@ -18,5 +18,9 @@ pub record Shaped (r : System) : Type 0 where
   pub carriednumbers : length (r .channels .carriednumbers) ≡ 128
   pub travellingprocessors : length (r .channels .travellingprocessors) ≡ 128
   pub travellingmoves : length (r .channels .travellingmoves) ≡ 128
+  -- six desks by 64 tasks
+  pub parentprocessors : length (r .parents .hintprocessors) ≡ 384
+  pub parentmoves : length (r .parents .hintmoves) ≡ 384
+  pub parentheld : length (r .parents .held) ≡ 384
   -- the mail
   pub slots : length (r .network .slots) ≡ 256

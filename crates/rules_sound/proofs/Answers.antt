@@ -12,11 +12,11 @@ use Rattle.plan.specs.declared.ProcessorId.{ProcessorId}
 use Rattle.rules.specs.declared.task.TaskState.the-variants.{Ready}
 use Rattle.rules.specs.declared.step.Step.{Step}
 use Rattle.rules.specs.declared.step.StepAnswer.{StepAnswer}
-use Rattle.rules.specs.declared.step.StepAnswer.the-variants.{Accepted, BadSystem, NoTask, NotReady, FinishWithChildren, NetworkFull, NoMessage, NoProcessor, AlreadyThere, MoveWithChildren, MovesSpent, BadStep}
+use Rattle.rules.specs.declared.step.StepAnswer.the-variants.{Accepted, BadSystem, NoTask, NotReady, FinishWithChildren, NetworkFull, NoMessage, NoProcessor, AlreadyThere, MovesSpent, BadStep}
 use Rattle.rules.specs.declared.system.System.{System}
 use Rattle.rules.specs.Numbers.{taskId, processorId}
 use Rattle.rules.specs.Answers.{stepNumber}
-use Rattle.rules.specs.Tasks.{isIn, isAt, isChildless}
+use Rattle.rules.specs.Tasks.{isIn, isAt}
 use Rattle.rules.specs.Systems.{taskAt}
 use Rattle.rules.specs.Runs.{ran, fits, finishesEarly, runAnswer}
 use Rattle.rules.specs.Deliver.{deliverAnswer}
@@ -48,7 +48,6 @@ pub record MovePassed (r : System) (t : TaskId) (e : ProcessorId) : Type 0 where
   pub processor : within 1 (r .processors) (e .0) ≡ true
   pub ready : isIn Ready (taskAt r t) ≡ true
   pub elsewhere : isAt e (taskAt r t) ≡ false
-  pub childless : isChildless (taskAt r t) ≡ true
   pub count : eqb (taskAt r t .moves) 9999 ≡ false
   pub fitting : fits r (moved r t e) ≡ true
 
@@ -59,12 +58,11 @@ move-passed r t e h =
     let (d, h₂) = passed (within 1 (r .processors) (e .0)) NoProcessor _ refl h₁ in
     let (y, h₃) = passed (isIn Ready (taskAt r t)) NotReady _ refl h₂ in
     let (a, h₄) = passed (not (isAt e (taskAt r t))) AlreadyThere _ refl h₃ in
-    let (c, h₅) = passed (isChildless (taskAt r t)) MoveWithChildren _ refl h₄ in
-    let (k, h₆) = passed (not (eqb (taskAt r t .moves) 9999)) MovesSpent _ refl h₅ in
-    let (f, _) = passed (fits r (moved r t e)) NetworkFull Accepted refl h₆ in
-    record { task = i; processor = d; ready = y; elsewhere = not-true _ a; childless = c; count = not-true _ k; fitting = f }
+    let (k, h₅) = passed (not (eqb (taskAt r t .moves) 9999)) MovesSpent _ refl h₄ in
+    let (f, _) = passed (fits r (moved r t e)) NetworkFull Accepted refl h₅ in
+    record { task = i; processor = d; ready = y; elsewhere = not-true _ a; count = not-true _ k; fitting = f }
 
--- what holds of every answer but 9 and 18
+-- what holds of every answer but 9, 17 and 18
 pub record Answers (P : StepAnswer → Type 0) : Type 0 where
   pub accepted : P Accepted
   pub no-task : P NoTask
@@ -74,7 +72,6 @@ pub record Answers (P : StepAnswer → Type 0) : Type 0 where
   pub no-message : P NoMessage
   pub no-processor : P NoProcessor
   pub already-there : P AlreadyThere
-  pub move-with-children : P MoveWithChildren
   pub bad-step : P BadStep
 
 -- holds of the answer of a rig that 9 does not refuse, if it holds of 18 where the task has that count
@@ -103,8 +100,7 @@ module _ (r : System) (P : StepAnswer → Type 0) (all : Answers P) where
       (either (within 1 (r .processors) (e .0)) NoProcessor _ (all .no-processor)
       (either (isIn Ready (taskAt r t)) NotReady _ (all .not-ready)
       (either (not (isAt e (taskAt r t))) AlreadyThere _ (all .already-there)
-      (either (isChildless (taskAt r t)) MoveWithChildren _ (all .move-with-children)
-      (count (eqb (taskAt r t .moves) 9999) refl (unless (fits r (moved r t e)) NetworkFull Accepted) rest)))))
+      (count (eqb (taskAt r t .moves) 9999) refl (unless (fits r (moved r t e)) NetworkFull Accepted) rest))))
     where
       count : (b : Bool) → eqb (taskAt r t .moves) 9999 ≡ b → (a : StepAnswer) → P a → P (unless (not b) MovesSpent a)
       count true f a p = spent (eqb-true (taskAt r t .moves) 9999 f)
@@ -118,7 +114,7 @@ module _ (r : System) (P : StepAnswer → Type 0) (all : Answers P) where
       (pick-either P (isRun s) _ _ (run-either (taskId (s .task)))
       (pick-either P (isDeliver s) _ _ (deliver-either (s .number)) (move-either (taskId (s .task)) (processorId (s .number)) spent))))
 
--- it is not answered by 9, and by 18 only where the task has that count
+-- it is not answered by 9 or 17, and by 18 only where the task has that count
 module _ (r : System) (s : Step) (ok : systemOk r ≡ true) where
   -- an answer with a number other than n
   abbrev pub Other : ℕ → StepAnswer → Type 0
@@ -128,6 +124,12 @@ module _ (r : System) (s : Step) (ok : systemOk r ≡ true) where
   number-not-9 = each-answer r (Other 9) others s ok (λ m. refl)
     where
       others : Answers (Other 9)
+      others = search
+
+  pub number-not-17 : Other 17 (stepAnswer r s)
+  number-not-17 = each-answer r (Other 17) others s ok (λ m. refl)
+    where
+      others : Answers (Other 17)
       others = search
 
   pub number-not-18 : taskAt r (taskId (s .task)) .moves ≢ 9999 → Other 18 (stepAnswer r s)

@@ -21,7 +21,6 @@ use Rattle.rules.specs.Sound.{movesOk, knownOk, unbornOk, whereOk, placeOk, las
 module _ (n m : ℕ) (g : Program) (x : Task) where
   pub record BornPassed : Type 0 where
     pub children : ltb (x .children) (2 ^ m) ≡ true
-    pub home : processorOk n (x .home) ≡ true
     pub moves : movesOk (x .moves) ≡ true
     pub processor : whereOk n x ≡ true
     pub place : placeOk (length g) x ≡ true
@@ -31,15 +30,14 @@ module _ (n m : ℕ) (g : Program) (x : Task) where
   unfolding taskOk bornOk
   born-passed h u =
       let (c, b) = and-parts (ltb (x .children) (2 ^ m)) (pick (isIn Unborn x) (unbornOk x) (bornOk n g x)) h in
-      let (o, b₁) = and-parts (processorOk n (x .home)) _ (rw u at b) in
-      let (k, b₂) = and-parts (movesOk (x .moves)) _ b₁ in
+      let (k, b₂) = and-parts (movesOk (x .moves)) _ (rw u at b) in
       let (d, b₃) = and-parts (whereOk n x) _ b₂ in
       let (p, l) = and-parts (placeOk (length g) x) (lastOk g x) b₃ in
-      record { children = c; home = o; moves = k; processor = d; place = p; last = l }
+      record { children = c; moves = k; processor = d; place = p; last = l }
 
   pub born-ok : BornPassed → isIn Unborn x ≡ false → taskOk n m g x ≡ true
   unfolding taskOk bornOk
-  born-ok b u = simp (u, b .children, b .home, b .moves, b .processor, b .place, b .last)
+  born-ok b u = simp (u, b .children, b .moves, b .processor, b .place, b .last)
 
   module _ (h : taskOk n m g x ≡ true) where
     unborn-passed : isIn Unborn x ≡ true → unbornOk x ≡ true

@@ -4,7 +4,7 @@ use mathlib.Core.Bool.{Bool, true, false}
 use Prim.Native.Nat.{ℕ, _+_, _≤_, _<_}
 use native.Mathlib.Omega.{arith}
 use lib.Dec.{eqb, ltb}
-use borrow.Author.Tests.{eqb-true, ne-eqb, ltb-true}
+use borrow.Author.Tests.{eqb-true, ne-eqb, ltb-true, ltb-false}
 use Rattle.base.specs.Choice.{pick, within}
 use Rattle.base.proofs.Tests.{and-left, and-right, within-low, within-high}
 use Rattle.plan.specs.declared.ProcessorId.{ProcessorId}
@@ -16,6 +16,7 @@ use Rattle.rules.specs.Cells.{isUnknown, newer, larger, firstNoted, counts, non
 use Rattle.rules.specs.Sound.{movesOk, knownOk, madeOk, hintOk, offerOk}
 use Rattle.rules_sound.specs.Fine.{FineCell}
 use Rattle.base.proofs.Choices.{pick-cases}
+use Rattle.rules.specs.Hints.{newer}
 
 module _ (n : ℕ) where
   -- a pointer that is known is fine, and one that is fine is known where it names a desk
@@ -50,6 +51,14 @@ module _ (n : ℕ) where
   pub newer-fine : (own other : Hint) → hintOk n own ≡ true → hintOk n other ≡ true → hintOk n (newer own other) ≡ true
   unfolding newer
   newer-fine own other p q = pick-cases (λ h. hintOk n h ≡ true) (ltb (own .moves) (other .moves)) other own (λ e. q) (λ e. p)
+
+  -- the newer of a pointer and a known one is known
+  pub newer-known : (own other : Hint) → hintOk n own ≡ true → knownOk n other ≡ true → knownOk n (newer own other) ≡ true
+  unfolding newer
+  newer-known own other p q =
+      let l = within-low 1 9999 (other .moves) (and-right (processorOk n (other .processor)) (movesOk (other .moves)) q) in
+      pick-cases (λ h. knownOk n h ≡ true) (ltb (own .moves) (other .moves)) other own (λ e. q)
+      (λ e. counted-known own p (omega (arith, ltb-false (own .moves) (other .moves) e)))
 
   pub larger-fine : (first later : Offer) → offerOk n first ≡ true → offerOk n later ≡ true → offerOk n (larger first later) ≡ true
   unfolding larger

@@ -19,7 +19,7 @@ use Rattle.rules.specs.declared.message.Message.the-variants.{Offered, ReadyToR
 use Rattle.rules.specs.declared.rule.Posting.{Posting}
 use Rattle.rules.specs.declared.rule.Outcome.{Outcome}
 use Rattle.rules.specs.Numbers.{sameProcessor, processorOk, channelNumberOk}
-use Rattle.rules.specs.Tasks.{isAt}
+use Rattle.rules.specs.Tasks.{isAt, readied, taking}
 use Rattle.rules.specs.Cells.{hint, newer, counts, noneCalled, granting}
 use Rattle.rules.specs.Receive.{callTo}
 use Rattle.rules.specs.Offers.{kept, pointsOn, offerRule, advertRule}
@@ -32,13 +32,22 @@ use Rattle.rules_sound.proofs.Settled.{settled}
 use Rattle.rules_sound.proofs.TaskRules.{readied-ok, taking-ok}
 use Rattle.rules_sound.proofs.Cells.{known-fine, counted-known, made-fine, newer-fine, withHint-fine, carrying-fine, holding-fine, noting-fine, granting-fine, cleared-fine, counts-more, none-more}
 use Rattle.rules_sound.proofs.Postings.{nothing-reply, message-reply, offered-posted, call-posted, data-posted}
+use Rattle.rules_sound.proofs.Origins.{same-origin, born-origin}
 
 module _ (n m : ℕ) (gs gr : Program) (x : Site) (f : FineSite n m gr x) where
   abbrev Left : Outcome → Type 0
   Left = FineOutcome n m gs gr (FineReply n m) x
 
   kept-fine : (cell : Cell) (posting : Posting) → FineCell n cell → FineReply n m posting → Left (kept x cell posting)
-  kept-fine cell posting p q = record { sender = λ h. h; receiver = λ h. h; cell = p; posting = q }
+  kept-fine cell posting p q =
+      record {
+        sender = λ h. h;
+        receiver = λ h. h;
+        sender-origin = same-origin (x .sender);
+        receiver-origin = same-origin (x .receiver);
+        cell = p;
+        posting = q;
+      }
 
   -- the receiver is at a desk of the rig, so that a call can name it
   here : (d : ProcessorId) → processorOk n d ≡ true → isAt d (x .receiver) ≡ true → knownOk n (hint (x .receiver .processor) (x .receiver .moves)) ≡ true
@@ -100,6 +109,8 @@ module _ (n m : ℕ) (gs gr : Program) (x : Site) (f : FineSite n m gr x) where
         record {
           sender = λ s. readied-ok n m gs (x .sender) (settled n m gs (x .sender) Sending refl (f .sending (and-left (x .sending) _ e)) s);
           receiver = λ s. s;
+          sender-origin = born-origin Sending (x .sender) (readied (x .sender)) (f .sending (and-left (x .sending) _ e)) refl refl refl;
+          receiver-origin = same-origin (x .receiver);
           cell = withHint-fine n (x .cell) (f .cell) (newer own h) (newer-fine n own h (f .cell .entry .hint) (known-fine n h known));
           posting = message-reply n m (Data c (h .processor) (x .sender .word)) word;
         })
@@ -114,6 +125,8 @@ module _ (n m : ℕ) (gs gr : Program) (x : Site) (f : FineSite n m gr x) where
       record {
         sender = λ s. s;
         receiver = λ s. taking-ok n m gr (x .receiver) (settled n m gr (x .receiver) Receiving refl on s) w;
+        sender-origin = same-origin (x .sender);
+        receiver-origin = born-origin Receiving (x .receiver) (taking (x .receiver) w) on refl refl refl;
         cell = cleared-fine n (x .cell) (f .cell);
         posting = nothing-reply n m;
       })

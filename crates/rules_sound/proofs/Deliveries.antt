@@ -1,5 +1,5 @@
 -- A letter of a fine mail, opened, leaves a fine effect with at most one letter.
-use mathlib.Core.Path.{_≡_}
+use mathlib.Core.Path.{_≡_, refl}
 use mathlib.Core.Bool.{true}
 use Prim.Native.Nat.{_≤_}
 use native.Mathlib.Omega.{arith}
@@ -19,25 +19,31 @@ use Rattle.rules.specs.declared.message.Message.the-variants.{Empty, Offered, A
 use Rattle.rules.specs.declared.rule.Site.{Site}
 use Rattle.rules.specs.declared.rule.Outcome.{Outcome}
 use Rattle.rules.specs.declared.system.System.{System}
-use Rattle.rules.specs.Tasks.{isIn, arrived}
-use Rattle.rules.specs.Systems.{taskAt, withTask, meaning}
+use Rattle.rules.specs.Tasks.{isIn, arrived, withoutChildren}
+use Rattle.rules.specs.Systems.{taskAt, withTask, meaning, parentAt, withParent}
 use Rattle.rules.specs.Effects.{Effect, siteAt, forReceiving}
 use Rattle.rules.specs.Offers.{offerRule, advertRule}
 use Rattle.rules.specs.Calls.{callRule, dataRule}
-use Rattle.rules.specs.Arrivals.{terminatedRule, arrivalReceiving, arrivalSending, arrival}
+use Rattle.rules.specs.Arrivals.{terminatedRule, arrivalReceiving, arrivalSending, arrival, arrivalParent}
 use Rattle.rules.specs.Deliver.{onChannel, gotTerminated, gotMigration, opened}
 use Rattle.rules.specs.Sound.{movesOk, knownOk, madeOk, messageOk}
 use Rattle.rules_sound.specs.Fine.{FineReply}
 use Rattle.rules_sound.specs.Sites.{FineSite, FineOutcome}
 use Rattle.rules_sound.specs.Sound.{programIn, Startable}
 use Rattle.rules_sound.specs.Stands.{Whole, Stands, FineEffect}
-use Rattle.rules_sound.proofs.LifeRules.{arrived-ok, terminated-ok, moving-count}
+use Rattle.rules_sound.proofs.LifeRules.{arrived-ok, moving-count, withoutChildren-ok}
 use Rattle.rules_sound.proofs.ChannelRules.{arrivalReceiving-fine, arrivalSending-fine}
 use Rattle.rules_sound.proofs.DeliverRules.{offer-fine, advert-fine, call-fine, data-fine}
 use Rattle.rules_sound.proofs.Postings.{nothing-reply}
-use Rattle.rules_sound.proofs.Rigs.{task-stands, receiving-stands, sending-stands}
+use Rattle.rules_sound.proofs.Rigs.{receiving-stands, sending-stands, same-stands, parent-stands}
 use Rattle.rules_sound.proofs.Frames.{user-in, tasks-few}
 use Rattle.rules_sound.proofs.Sites.{applied-fine}
+use lib.Pow.{pow-pos}
+use Rattle.rules.specs.declared.channel.Hint.{Hint}
+use Rattle.rules.specs.Hints.{hint}
+use Rattle.rules_sound.proofs.FinishRule.{ended-fine}
+use Rattle.rules_sound.proofs.Origins.{born-origin}
+use Rattle.rules_sound.proofs.Cells.{known-fine}
 
 module _ (r : System) (s : Startable (r .processors) (r .plan)) (w : Whole r) where
   abbrev Left : Effect → Type 0
@@ -64,12 +70,20 @@ module _ (r : System) (s : Startable (r .processors) (r .plan)) (w : Whole r) wh
         (within-low 1 128 (c .0) o) (within-high 1 128 (c .0) o)
         (FineReply (r .processors) (r .plan .tasks)) rule f
 
-  terminated : (d : ProcessorId) (t : TaskId) → Stands (r .processors) (r .plan) (r .network) (gotTerminated r d t)
+  terminated : (h : Hint) (t : TaskId) → knownOk (r .processors) h ≡ true → taskNumberOk (r .plan .tasks) t ≡ true → Left (gotTerminated r h t)
   unfolding gotTerminated
-  terminated d t =
+  terminated h t known number =
+      let n = r .processors in
       let v = parentOf (meaning r) t in
-      task-stands _ _ _ r w (tasks-few _ _ s) v (terminatedRule (taskAt r v) d t)
-      (λ l. terminated-ok _ _ _ (taskAt r v) (w .holds .tasks v l (user-in (r .plan) opCreate (t .0))) d t)
+      let vh = user-in (r .plan) opCreate (t .0) in
+      let few = tasks-few _ _ s in
+      let d = h .processor in
+      let dh : d .0 ≤ 6 = omega (arith, within-high 1 n (d .0) (and-left (processorOk n d) _ known), s .few) in
+      let e = parentAt r d v in
+      let o = terminatedRule (taskAt r v) e h t in
+      let f = ended-fine n (r .plan .tasks) (programIn (r .plan) v) (taskAt r v) e h t number (w .holds .parents d v dh (omega arith)) in
+      let left = same-stands _ _ _ r w few v (o .parent) vh (λ l. f .parent (w .holds .tasks v l vh)) (f .parent-origin) in
+      record { system = parent-stands _ _ _ (withTask r v (o .parent)) left d v dh (omega arith) (o .entry) (f .entry); posting = f .posting }
 
   module _ (d : ProcessorId) (t : TaskId) (k : processorOk (r .processors) d ≡ true) (l : 1 ≤ t .0) (h : t .0 ≤ r .plan .tasks) where
     arrives : isIn Moving (taskAt r t) ≡ true → Stands (r .processors) (r .plan) (r .network) (arrival r t d)
@@ -81,8 +95,18 @@ module _ (r : System) (s : Startable (r .processors) (r .plan)) (w : Whole r) wh
         let low = within-low 1 n (d .0) k in
         let high : d .0 ≤ 6 = omega (arith, within-high 1 n (d .0) k, s .few) in
         let known = and-both (processorOk n d) (movesOk (x .moves)) k (moving-count _ _ _ x fine e) in
-        let q = withTask r t (arrived x d) in
-        let here = task-stands n (r .plan) (r .network) r w (tasks-few n (r .plan) s) t (arrived x d) (λ z. arrived-ok _ _ _ x fine e d k) in
+        let few = tasks-few n (r .plan) s in
+        let y = withoutChildren (arrived x d) (parentAt r d t .held) in
+        let first = withTask r t y in
+        let there =
+        same-stands n (r .plan) (r .network) r w few t y h
+        (λ z. withoutChildren-ok _ _ _ (arrived x d) (arrived-ok _ _ _ x fine e d k) (parentAt r d t .held))
+        (born-origin Moving x y e refl refl refl) in
+        let a = arrivalParent d (x .moves) in
+        let q = withParent first d t a in
+        let here =
+        parent-stands n (r .plan) (r .network) first there d t high (omega arith) a
+        (record { hint = known-fine n (hint d (x .moves)) known; held = pow-pos (r .plan .tasks) }) in
         let rule = arrivalReceiving d (x .moves) in
         let pointed = receiving-stands n (r .plan) (r .network) rule (λ y f. arrivalReceiving-fine n y f d (x .moves) known) d low high t q here in
         sending-stands n (r .plan) (r .network) arrivalSending (arrivalSending-fine n) d low high t (forReceiving q t d rule) pointed
@@ -109,7 +133,9 @@ module _ (r : System) (s : Startable (r .processors) (r .plan)) (w : Whole r) wh
   open-fine (Data c d v) f =
       let (k, processor) = and-parts (channelNumberOk c) (processorOk (r .processors) d) f in
       on-channel c k d processor (λ x. dataRule x c d v) (λ y. data-fine _ _ _ _ _ y c d v)
-  open-fine (Terminated d t) f = record { system = terminated d t; posting = nothing-reply _ _ }
+  open-fine (Terminated h t) f =
+      let (known, number) = and-parts (knownOk (r .processors) h) (taskNumberOk (r .plan .tasks) t) f in
+      terminated h t known number
   open-fine (Migration d t) f =
       let (processor, number) = and-parts (processorOk (r .processors) d) (taskNumberOk (r .plan .tasks) t) f in
       record { system = migrated d t processor (within-low 1 (r .plan .tasks) (t .0) number) (within-high 1 (r .plan .tasks) (t .0) number); posting = nothing-reply _ _ }

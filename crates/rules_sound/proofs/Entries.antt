@@ -1,10 +1,10 @@
--- The tests of tables and of channels say of each entry that it is fine, and no more.
+-- The tests of tables, of channels and of parents say of each entry that it is fine, and no more.
 use mathlib.Core.Path.{_≡_}
 use mathlib.Core.Bool.{true}
-use Prim.Native.Nat.{ℕ, _+_, _*_, _-_, _/_, _%_, _≤_, _<_}
+use Prim.Native.Nat.{ℕ, _+_, _*_, _-_, _/_, _%_, _≤_, _<_, _^_}
 use native.Mathlib.Omega.{arith}
 use lib.Dec.{leb}
-use borrow.Author.Tests.{leb-true, le-leb}
+use borrow.Author.Tests.{leb-true, le-leb, ltb-true, lt-ltb}
 use Rattle.base.specs.Lists.{every, everyPair}
 use Rattle.base.proofs.Tests.{and-both, every-at}
 use Rattle.base.proofs.Pairs.{every-all, everyPair-at, everyPair-all}
@@ -12,12 +12,13 @@ use Rattle.plan.specs.declared.ProcessorId.{ProcessorId}
 use Rattle.plan.specs.declared.ChannelId.{ChannelId}
 use Rattle.plan_laws.proofs.Answers.{and-parts}
 use Rattle.rules.specs.declared.system.System.{System}
-use Rattle.rules.specs.Numbers.{processorId, channelId}
+use Rattle.rules.specs.Numbers.{processorId, channelId, taskId}
 use Rattle.rules.specs.Cells.{hint, offer}
-use Rattle.rules.specs.Systems.{entryIndex, entryAt, channelAt}
-use Rattle.rules.specs.Sound.{hintOk, offerOk, tablesOk, channelEntriesOk}
+use Rattle.rules.specs.Systems.{entryIndex, entryAt, channelAt, parentIndex, parentAt}
+use Rattle.rules.specs.Sound.{hintOk, offerOk, tablesOk, channelEntriesOk, parentsOk}
 use Rattle.rules_laws.specs.Shapes.{Shaped}
-use Rattle.rules_sound.specs.Fine.{FineEntry, FineChannel}
+use Rattle.rules_sound.specs.Fine.{FineEntry, FineChannel, FineParent}
+use Rattle.plan.specs.declared.TaskId.{TaskId}
 
 module _ (n : ℕ) (r : System) (s : Shaped r) where
   pub tables-fine : tablesOk n (r .tables) ≡ true → (d : ProcessorId) (c : ChannelId) → 1 ≤ d .0 → d .0 ≤ 6 → 1 ≤ c .0 → c .0 ≤ 128 → FineEntry n (entryAt r d c)
@@ -48,6 +49,32 @@ module _ (n : ℕ) (r : System) (s : Shaped r) where
       and-both _ _ (everyPair-all _ (x .hintprocessors) (x .hintmoves) 0 0 (λ i l k. rw (place i) at (at i (omega (arith, s .hintprocessors)) .hint)))
       (and-both _ _ (everyPair-all _ (x .heldprocessors) (x .heldnumbers) 0 0 (λ i l k. rw (place i) at (at i (omega (arith, s .heldprocessors)) .held)))
       (every-all _ (x .notes) 0 (λ i l. le-leb _ n (rw (place i) at (at i (omega (arith, s .notes)) .noted)))))
+
+  -- the same of parents' entries: place i is that of desk i / 64 + 1 and task i % 64 + 1
+  module _ (m : ℕ) where
+    pub parents-fine : parentsOk n m (r .parents) ≡ true → (d : ProcessorId) (t : TaskId) → d .0 ≤ 6 → t .0 ≤ 64 → FineParent n m (parentAt r d t)
+    unfolding parentsOk parentAt
+    parents-fine h d t dh th =
+        let x = r .parents in
+        let i = parentIndex d t in
+        let l : i < 384 = omega arith in
+        let (hints, held) = and-parts (everyPair (λ e k. hintOk n (hint (processorId e) k)) (x .hintprocessors) (x .hintmoves)) _ h in
+        record {
+          hint = everyPair-at _ (x .hintprocessors) (x .hintmoves) i 0 0 (omega (arith, s .parentprocessors)) (omega (arith, s .parentmoves)) hints;
+          held = ltb-true _ (2 ^ m) (every-at _ (x .held) i 0 (omega (arith, s .parentheld)) held);
+        }
+
+    parent-place : (i : ℕ) → 64 * (i / 64 + 1 - 1) + (i % 64 + 1 - 1) ≡ i
+    parent-place i = omega arith
+
+    pub fine-parents : ((d : ProcessorId) (t : TaskId) → d .0 ≤ 6 → t .0 ≤ 64 → FineParent n m (parentAt r d t)) → parentsOk n m (r .parents) ≡ true
+    unfolding parentsOk parentAt
+    fine-parents f =
+        let x = r .parents in
+        let at : (i : ℕ) → i < 384 → FineParent n m (parentAt r (processorId (i / 64 + 1)) (taskId (i % 64 + 1))) =
+        λ i l. f (processorId (i / 64 + 1)) (taskId (i % 64 + 1)) (omega arith) (omega arith) in
+        and-both _ _ (everyPair-all _ (x .hintprocessors) (x .hintmoves) 0 0 (λ i l k. rw (parent-place i) at (at i (omega (arith, s .parentprocessors)) .hint)))
+        (every-all _ (x .held) 0 (λ i l. lt-ltb _ (2 ^ m) (rw (parent-place i) at (at i (omega (arith, s .parentheld)) .held))))
 
   pub channels-fine : channelEntriesOk n (r .channels) ≡ true → (c : ChannelId) → 1 ≤ c .0 → c .0 ≤ 128 → FineChannel n (channelAt r c)
   unfolding channelEntriesOk channelAt

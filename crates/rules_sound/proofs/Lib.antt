@@ -3,8 +3,10 @@ pub mod Cells
 pub mod ChannelRules
 pub mod Born
 pub mod Settled
+pub mod Origins
 pub mod TaskRules
 pub mod LifeRules
+pub mod ParentRules
 pub mod Postings
 pub mod SendRule
 pub mod ReceiveRule

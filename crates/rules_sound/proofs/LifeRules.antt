@@ -8,9 +8,9 @@ use lib.ListN.{length}
 use borrow.Author.Tests.{eqb-true, lt-ltb}
 use Rattle.base.specs.Choice.{pick}
 use Rattle.base.specs.Lists.{every}
-use Rattle.base.specs.Sets.{member, removed}
+use Rattle.base.specs.Sets.{removed, removedAll}
 use Rattle.base.proofs.Choices.{pick-cases}
-use Rattle.base.proofs.Sets.{removed-at-most}
+use Rattle.base.proofs.Sets.{removed-at-most, removed-all-at-most}
 use Rattle.base.proofs.Tests.{and-left, and-right, and-both, within-low, within-high, within-both}
 use Rattle.plan.specs.declared.TaskId.{TaskId}
 use Rattle.plan.specs.declared.ProcessorId.{ProcessorId}
@@ -18,22 +18,22 @@ use Rattle.plan.specs.Programs.{Program}
 use Rattle.rules.specs.Numbers.{processorOk}
 use Rattle.rules.specs.declared.task.Task.{Task}
 use Rattle.rules.specs.declared.task.TaskState.the-variants.{Unborn, Waiting, Moving, Done}
-use Rattle.rules.specs.Tasks.{stateNumber, isIn, isAt, withState, withChildren, unborn, born, departed, arrived, advanced, readied, isChildless, woken, withoutChild}
+use Rattle.rules.specs.Tasks.{stateNumber, isIn, withState, withChildren, unborn, born, departed, arrived, advanced, readied, isChildless, woken, withoutChild, withoutChildren}
 use Rattle.rules.specs.Places.{lastIn}
-use Rattle.rules.specs.Arrivals.{terminatedRule}
 use Rattle.rules.specs.Sound.{movesOk, unbornOk, bornOk, taskOk}
 use Rattle.rules_sound.specs.Settled.{Settled}
 use Rattle.rules_sound.proofs.Born.{born-passed, born-ok, children-few}
 use Rattle.rules_sound.proofs.Settled.{settled, settled-ok}
 use Rattle.rules_sound.proofs.TaskRules.{readied-ok}
+use Rattle.rules.specs.declared.channel.Hint.{Hint}
 
 module _ (n m : ℕ) (g : Program) where
   pub unborn-ok : 0 < 2 ^ m → taskOk n m g unborn ≡ true
   unfolding taskOk unbornOk every
   unborn-ok p = rw (lt-ltb 0 (2 ^ m) p) refl
 
-  pub birth-ok : (d : ProcessorId) → processorOk n d ≡ true → 0 < 2 ^ m → 1 ≤ length g → taskOk n m g (born d) ≡ true
-  birth-ok d k p q = settled-ok n m g (born d) (omega (arith, within-low 1 n (d .0) k, within-high 1 n (d .0) k)) refl
+  pub birth-ok : (d : ProcessorId) (own : Hint) → processorOk n d ≡ true → 0 < 2 ^ m → 1 ≤ length g → taskOk n m g (born d own) ≡ true
+  birth-ok d own k p q = settled-ok n m g (born d own) (omega (arith, within-low 1 n (d .0) k, within-high 1 n (d .0) k)) refl
 
   module _ (x : Task) where
     -- the end of a ready task
@@ -42,7 +42,6 @@ module _ (n m : ℕ) (g : Program) where
         born-ok n m g (advanced (withState x Done))
         (record {
           children = lt-ltb _ _ (s .children);
-          home = within-both 1 n (x .home .0) (s .home) (s .home-few);
           moves = within-both 1 9999 (x .moves) (s .moves) (s .moves-few);
           processor = within-both 1 n (x .processor .0) (s .processor) (s .processor-few);
           place = within-both 1 (length g + 1) (x .pc + 1) (omega arith) (omega arith);
@@ -55,7 +54,6 @@ module _ (n m : ℕ) (g : Program) where
         born-ok n m g (departed x)
         (record {
           children = lt-ltb _ _ (s .children);
-          home = within-both 1 n (x .home .0) (s .home) (s .home-few);
           moves = within-both 1 9999 (x .moves + 1) (omega arith) (omega arith);
           processor = refl;
           place = within-both 1 (length g) (x .pc) (s .place) (s .place-few);
@@ -69,7 +67,6 @@ module _ (n m : ℕ) (g : Program) where
         born-ok n m g (arrived x d)
         (record {
           children = b .children;
-          home = b .home;
           moves = b .moves;
           processor = k;
           place = rw (eqb-true (stateNumber (x .state)) 5 e) at (b .place);
@@ -101,6 +98,7 @@ module _ (n m : ℕ) (g : Program) where
         let y = withChildren x (removed (t .0) (x .children)) in
         woken-ok y (withChildren-ok x (removed (t .0) (x .children)) (omega (arith, removed-at-most (t .0) (x .children), children-few n m g x h)) h)
 
-    pub terminated-ok : (d : ProcessorId) (t : TaskId) → taskOk n m g (terminatedRule x d t) ≡ true
-    unfolding terminatedRule
-    terminated-ok d t = pick-cases (λ y. taskOk n m g y ≡ true) (isAt d x && member (t .0) (x .children)) (withoutChild x t) x (λ e. withoutChild-ok t) (λ e. h)
+    pub withoutChildren-ok : (held : ℕ) → taskOk n m g (withoutChildren x held) ≡ true
+    withoutChildren-ok held =
+        let s : ℕ = removedAll 64 held (x .children) in
+        withChildren-ok x s (omega (arith, removed-all-at-most 64 held (x .children), children-few n m g x h)) h

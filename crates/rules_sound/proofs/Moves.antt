@@ -12,9 +12,9 @@ use Rattle.rules.specs.declared.task.TaskState.the-variants.{Ready}
 use Rattle.rules.specs.declared.message.Message.the-variants.{Migration}
 use Rattle.rules.specs.declared.system.System.{System}
 use Rattle.rules.specs.Tasks.{isIn, departed}
-use Rattle.rules.specs.Systems.{taskAt, withTask}
+use Rattle.rules.specs.Systems.{taskAt, withTask, parentAt}
 use Rattle.rules.specs.Effects.{forReceiving}
-use Rattle.rules.specs.Starts.{located}
+use Rattle.rules.specs.Starts.{located, pointing, pointed}
 use Rattle.rules.specs.Moves.{departureSending, moved}
 use Rattle.rules.specs.Sound.{movesOk, messageOk}
 use Rattle.rules_sound.specs.Fine.{FinePosting}
@@ -24,8 +24,11 @@ use Rattle.rules_sound.proofs.Settled.{settled}
 use Rattle.rules_sound.proofs.LifeRules.{departed-ok}
 use Rattle.rules_sound.proofs.ChannelRules.{located-fine, departureSending-fine}
 use Rattle.rules_sound.proofs.Postings.{message-posted}
-use Rattle.rules_sound.proofs.Rigs.{task-stands, receiving-stands, sending-stands}
+use Rattle.rules_sound.proofs.Rigs.{receiving-stands, sending-stands, same-stands, parent-stands}
 use Rattle.rules_sound.proofs.Frames.{tasks-few}
+use Rattle.rules.specs.Hints.{hint}
+use Rattle.rules_sound.proofs.Origins.{born-origin}
+use Rattle.rules_sound.proofs.ParentRules.{pointing-fine}
 
 pub move-fine : (r : System) → Startable (r .processors) (r .plan) → Whole r → (t : TaskId) → 1 ≤ t .0 → t .0 ≤ r .plan .tasks
     → isIn Ready (taskAt r t) ≡ true → taskAt r t .moves ≢ 9999
@@ -41,10 +44,19 @@ move-fine r s w t l h ready k e o =
     let low = b .processor in
     let high : d .0 ≤ 6 = omega (arith, b .processor-few, s .few) in
     let known = and-both (processorOk n e) (movesOk (x .moves + 1)) o (within-both 1 9999 (x .moves + 1) (omega arith) (omega arith)) in
-    let q = withTask r t (departed x) in
-    let here = task-stands n (r .plan) (r .network) r w (tasks-few n (r .plan) s) t (departed x) (λ z. departed-ok n m (programIn (r .plan) t) x b (omega arith)) in
-    let pointed = receiving-stands n (r .plan) (r .network) (located e (x .moves + 1)) (λ y f. located-fine n y f e (x .moves + 1) known) d low high t q here in
+    let few = tasks-few n (r .plan) s in
+    let first = withTask r t (departed x) in
+    let there =
+    same-stands n (r .plan) (r .network) r w few t (departed x) h (λ z. departed-ok n m (programIn (r .plan) t) x b (omega arith))
+    (born-origin Ready x (departed x) ready refl refl refl) in
+    let p = hint e (x .moves + 1) in
+    let old = parentAt first d t in
+    let q = pointed first d t p in
+    let here =
+    parent-stands n (r .plan) (r .network) first there d t high (omega arith) (pointing old p)
+    (pointing-fine n m old (there .holds .parents d t high (omega arith)) p known) in
+    let located-here = receiving-stands n (r .plan) (r .network) (located e (x .moves + 1)) (λ y f. located-fine n y f e (x .moves + 1) known) d low high t q here in
     record {
-      system = sending-stands n (r .plan) (r .network) departureSending (departureSending-fine n) d low high t (forReceiving q t d (located e (x .moves + 1))) pointed;
+      system = sending-stands n (r .plan) (r .network) departureSending (departureSending-fine n) d low high t (forReceiving q t d (located e (x .moves + 1))) located-here;
       posting = message-posted n m (Migration e t) (and-both (processorOk n e) (taskNumberOk m t) o (within-both 1 m (t .0) l h));
     }

@@ -13,7 +13,7 @@ use Rattle.rules.specs.declared.message.Message.{Message}
 use Rattle.rules.specs.declared.message.Network.{Network}
 use Rattle.rules.specs.declared.system.System.{System}
 use Rattle.rules.specs.Networks.{messages, messageAt, enqueuedAll, dequeued, messagesOf}
-use Rattle.rules.specs.Systems.{withNetwork, channelAt, entryAt}
+use Rattle.rules.specs.Systems.{withNetwork, channelAt, entryAt, parentAt}
 use Rattle.rules.specs.Effects.{Effect, completed}
 use Rattle.rules.specs.Sound.{messageOk}
 use Rattle.rules_laws.proofs.Messages.{enqueuedAll-used, enqueuedAll-size, messages-enqueuedAll, messages-split, dequeued-used, messages-dequeued}
@@ -58,14 +58,21 @@ module _ (n : ℕ) (p : Plan) (k : Network) (size : length (k .slots) ≡ 256) (
 
 -- a rig with another mail
 pub network-stands : (n : ℕ) (p : Plan) (k : Network) (r : System) → Stands n p k r → (q : Network) → length (q .slots) ≡ 256 → Stands n p q (withNetwork r q)
-unfolding entryAt channelAt
+unfolding entryAt channelAt parentAt
 network-stands n p k r s q size =
     record {
       processors = s .processors;
       plan = s .plan;
       network = refl;
       shaped = withNetwork-shaped r q (s .shaped) size;
-      holds = record { tasks = s .holds .tasks; entries = s .holds .entries; channels = s .holds .channels };
+      holds =
+          record {
+            tasks = s .holds .tasks;
+            origins = s .holds .origins;
+            entries = s .holds .entries;
+            channels = s .holds .channels;
+            parents = s .holds .parents;
+          };
     }
 
 pub stands-sound : (n : ℕ) (p : Plan) (k : Network) (r : System) → Startable n p → HoldsNetwork n p k → Stands n p k r → Sound r

@@ -9,12 +9,12 @@ use Rattle.base.proofs.Tests.{and-left, and-right, within-both}
 use Rattle.plan.specs.declared.ChannelId.{ChannelId}
 use Rattle.plan.specs.Kinds.{opReceive}
 use Rattle.plan.specs.Programs.{Program}
-use Rattle.rules.specs.declared.task.TaskState.the-variants.{Sending}
+use Rattle.rules.specs.declared.task.TaskState.the-variants.{Sending, Ready, Receiving}
 use Rattle.rules.specs.declared.channel.Cell.{Cell}
 use Rattle.rules.specs.declared.rule.Site.{Site}
 use Rattle.rules.specs.declared.rule.Posting.{Posting}
 use Rattle.rules.specs.Numbers.{noProcessor, isNone, processorOk, channelNumberOk}
-use Rattle.rules.specs.Tasks.{isAt}
+use Rattle.rules.specs.Tasks.{isAt, advanced, readied, taking, withState}
 use Rattle.rules.specs.Cells.{hint, noOffer, counts, noneCalled, withNoted, withCarried, passing}
 use Rattle.rules.specs.Receive.{receivePasses, receiveWaits, receiveRule}
 use Rattle.rules.specs.Sound.{knownOk}
@@ -25,6 +25,7 @@ use Rattle.rules_sound.proofs.Settled.{settled, acting-settled}
 use Rattle.rules_sound.proofs.TaskRules.{readied-ok, passing-ok, receiving-ok}
 use Rattle.rules_sound.proofs.Cells.{withNoted-fine, withCarried-fine, granting-fine, passing-fine, counts-made, counts-more, none-more}
 use Rattle.rules_sound.proofs.Postings.{nothing-posted, call-posted}
+use Rattle.rules_sound.proofs.Origins.{same-origin, born-origin}
 
 module _ (n m : ℕ) (gs gr : Program) (x : Site) (f : FineSite n m gr x) (a : Acting n m gr opReceive (x .receiver)) where
   passes-fine : x .sending ≡ true → (c : ChannelId) (w : ℕ) → w ≤ 64 → FineOutcome n m gs gr (FinePosting n m) x (receivePasses x c w)
@@ -33,6 +34,8 @@ module _ (n m : ℕ) (gs gr : Program) (x : Site) (f : FineSite n m gr x) (a : A
       record {
         sender = λ h. readied-ok n m gs (x .sender) (settled n m gs (x .sender) Sending refl (f .sending e) h);
         receiver = λ h. passing-ok n m gr (x .receiver) opReceive a (x .sender .word);
+        sender-origin = born-origin Sending (x .sender) (readied (x .sender)) (f .sending e) refl refl refl;
+        receiver-origin = born-origin Ready (x .receiver) (advanced (taking (x .receiver) (x .sender .word))) (a .ready) refl refl refl;
         cell = withCarried-fine n (passing (x .cell) w) (passing-fine n (x .cell) (f .cell) w l) noOffer refl;
         posting = nothing-posted n m;
       }
@@ -43,6 +46,8 @@ module _ (n m : ℕ) (gs gr : Program) (x : Site) (f : FineSite n m gr x) (a : A
       record {
         sender = λ h. h;
         receiver = λ h. receiving-ok n m gr (x .receiver) a;
+        sender-origin = same-origin (x .sender);
+        receiver-origin = born-origin Ready (x .receiver) (advanced (withState (x .receiver) Receiving)) (a .ready) refl refl refl;
         cell = p;
         posting = q;
       }

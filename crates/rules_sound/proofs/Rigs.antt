@@ -1,4 +1,4 @@
--- A rig stands where a fine task or a fine cell is written, and where a rule that leaves fine cells is applied to channels of a desk.
+-- A rig stands where a fine task, a fine cell or a fine entry for a parent is written, and where a rule that leaves fine cells is applied to channels of a desk.
 use mathlib.Core.Path.{_≡_, sym, _∙_, ap}
 use mathlib.Core.Bool.{Bool, true}
 use mathlib.Core.Logic.{by-cases}
@@ -15,21 +15,26 @@ use Rattle.rules.specs.declared.channel.Cell.{Cell}
 use Rattle.rules.specs.declared.message.Network.{Network}
 use Rattle.rules.specs.declared.system.System.{System}
 use Rattle.rules.specs.Numbers.{taskId, processorId, channelId}
-use Rattle.rules.specs.Systems.{withTask, cellAt, withCell, meaning}
+use Rattle.rules.specs.Systems.{withTask, cellAt, withCell, meaning, taskAt, parentIndex, withParent}
 use Rattle.rules.specs.Effects.{forChannels, receivesOn, sendsOn, forReceiving, forSending}
-use Rattle.rules.specs.Sound.{taskOk}
+use Rattle.rules.specs.Sound.{taskOk, originOk}
 use Rattle.rules_laws.proofs.TaskAt.{withTask-processors, withTask-plan, withTask-network, withTask-entryAt, withTask-channelAt, withTask-shaped, taskAt-same, taskAt-other}
 use Rattle.rules_laws.proofs.ForChannels.{forChannels-zero, forChannels-suc}
 use Rattle.rules_laws.proofs.CellAt.{withCell-processors, withCell-plan, withCell-network, withCell-taskAt, withCell-shaped, entryAt-same, entryAt-other-processor, entryAt-other-channel, channelAt-same, channelAt-other}
-use Rattle.rules_sound.specs.Fine.{FineCell}
+use Rattle.rules_sound.specs.Fine.{FineCell, FineParent}
 use Rattle.rules_sound.specs.Sound.{programIn}
 use Rattle.rules_sound.specs.Stands.{Stands}
+use Rattle.rules.specs.declared.system.ParentEntry.{ParentEntry}
+use Rattle.rules_laws.proofs.ParentAt.{withParent-processors, withParent-plan, withParent-network, withParent-taskAt, withParent-entryAt, withParent-channelAt, withParent-shaped, parentAt-index, parentAt-place, withTask-parentAt, withCell-parentAt}
+use Rattle.rules_sound.specs.Sites.{SameOrigin}
+use Rattle.rules_sound.proofs.Origins.{origin-kept}
 
 module _ (n : ℕ) (p : Plan) (k : Network) where
   module _ (r : System) (s : Stands n p k r) where
     -- task 0 is none, so nothing is asked of what is written there
-    pub task-stands : p .tasks ≤ 64 → (t : TaskId) (x : Task) → (1 ≤ t .0 → taskOk n (p .tasks) (programIn p t) x ≡ true) → Stands n p k (withTask r t x)
-    task-stands few t x f =
+    pub task-stands : p .tasks ≤ 64 → (t : TaskId) (x : Task) → (1 ≤ t .0 → taskOk n (p .tasks) (programIn p t) x ≡ true)
+        → (1 ≤ t .0 → originOk n (t .0) x ≡ true) → Stands n p k (withTask r t x)
+    task-stands few t x f own =
         record {
           processors = withTask-processors r t x ∙ s .processors;
           plan = withTask-plan r t x ∙ s .plan;
@@ -45,8 +50,45 @@ module _ (n : ℕ) (p : Plan) (k : Network) where
                     let here : u ≡ t = ap taskId (sym e) in
                     rw (here, taskAt-same r t x (s .shaped) (omega arith) (omega arith)) (f (omega arith)))
                     (λ e. rw (taskAt-other r t x u e) (s .holds .tasks u l h));
+                origins =
+                    λ u l h.
+                    by-cases
+                    (ℕ-discrete (t .0) (u .0))
+                    (λ (e : t .0 ≡ u .0).
+                    let here : u ≡ t = ap taskId (sym e) in
+                    rw (here, taskAt-same r t x (s .shaped) (omega arith) (omega arith)) (own (omega arith)))
+                    (λ e. rw (taskAt-other r t x u e) (s .holds .origins u l h));
                 entries = λ d c dl dh cl ch. rw (withTask-entryAt r t x d c) (s .holds .entries d c dl dh cl ch);
                 channels = λ c cl ch. rw (withTask-channelAt r t x c) (s .holds .channels c cl ch);
+                parents = λ d u dh uh. rw (withTask-parentAt r t x d u) (s .holds .parents d u dh uh);
+              };
+        }
+
+    -- a task that keeps its own pointer
+    pub same-stands : p .tasks ≤ 64 → (t : TaskId) (x : Task) → t .0 ≤ p .tasks → (1 ≤ t .0 → taskOk n (p .tasks) (programIn p t) x ≡ true)
+        → SameOrigin (taskAt r t) x → Stands n p k (withTask r t x)
+    same-stands few t x h f e = task-stands few t x f (λ l. origin-kept n (t .0) (taskAt r t) x e (s .holds .origins t l h))
+
+    -- what a desk keeps for a parent
+    pub parent-stands : (d : ProcessorId) (t : TaskId) → d .0 ≤ 6 → t .0 ≤ 64 → (e : ParentEntry) → FineParent n (p .tasks) e → Stands n p k (withParent r d t e)
+    parent-stands d t dh th e f =
+        record {
+          processors = withParent-processors r d t e ∙ s .processors;
+          plan = withParent-plan r d t e ∙ s .plan;
+          network = withParent-network r d t e ∙ s .network;
+          shaped = withParent-shaped r d t e (s .shaped);
+          holds =
+              record {
+                tasks = λ u l h. rw (withParent-taskAt r d t e u) (s .holds .tasks u l h);
+                origins = λ u l h. rw (withParent-taskAt r d t e u) (s .holds .origins u l h);
+                entries = λ a c al ah cl ch. rw (withParent-entryAt r d t e a c) (s .holds .entries a c al ah cl ch);
+                channels = λ c cl ch. rw (withParent-channelAt r d t e c) (s .holds .channels c cl ch);
+                parents =
+                    λ a u ah uh.
+                    by-cases
+                    (ℕ-discrete (parentIndex a u) (parentIndex d t))
+                    (λ (i : parentIndex a u ≡ parentIndex d t). rw (parentAt-index r d t e (s .shaped) dh th a u i) f)
+                    (λ i. rw (parentAt-place r d t e a u i) (s .holds .parents a u ah uh));
               };
         }
 
@@ -64,6 +106,8 @@ module _ (n : ℕ) (p : Plan) (k : Network) where
             holds =
                 record {
                   tasks = λ t l h. rw (withCell-taskAt r d c x t) (s .holds .tasks t l h);
+                  origins = λ t l h. rw (withCell-taskAt r d c x t) (s .holds .origins t l h);
+                  parents = λ a t ah th. rw (withCell-parentAt r d c x a t) (s .holds .parents a t ah th);
                   entries =
                       λ e b el eh bl bh.
                       by-cases

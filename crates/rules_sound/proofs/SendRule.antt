@@ -8,12 +8,12 @@ use Rattle.base.proofs.Tests.{and-left, and-right, and-both, within-both}
 use Rattle.plan.specs.declared.ChannelId.{ChannelId}
 use Rattle.plan.specs.Kinds.{opSend}
 use Rattle.plan.specs.Programs.{Program}
-use Rattle.rules.specs.declared.task.TaskState.the-variants.{Receiving}
+use Rattle.rules.specs.declared.task.TaskState.the-variants.{Receiving, Ready, Sending}
 use Rattle.rules.specs.declared.channel.Cell.{Cell}
 use Rattle.rules.specs.declared.rule.Site.{Site}
 use Rattle.rules.specs.declared.rule.Posting.{Posting}
 use Rattle.rules.specs.Numbers.{sameProcessor, processorOk, channelNumberOk}
-use Rattle.rules.specs.Tasks.{isAt}
+use Rattle.rules.specs.Tasks.{isAt, stateNumber, advanced, taking, withState}
 use Rattle.rules.specs.Cells.{isUnknown, offer}
 use Rattle.rules.specs.Send.{sendPasses, sendWaits, sendRule}
 use Rattle.rules.specs.Sound.{madeOk}
@@ -23,6 +23,8 @@ use Rattle.rules_sound.proofs.Settled.{settled, acting-settled}
 use Rattle.rules_sound.proofs.TaskRules.{taking-ok, advanced-ok, sending-ok}
 use Rattle.rules_sound.proofs.Cells.{fine-known, made-fine, carrying-fine, holding-fine, passing-fine}
 use Rattle.rules_sound.proofs.Postings.{nothing-posted, offered-posted, adverts-posted}
+use Rattle.rules_sound.proofs.Origins.{same-origin, born-origin}
+use borrow.Author.Tests.{eqb-true}
 
 module _ (n m : ℕ) (gs gr : Program) (x : Site) (f : FineSite n m gr x) (a : Acting n m gs opSend (x .sender)) where
   passes-fine : x .receiving ≡ true → (c : ChannelId) (w : ℕ) → w ≤ 64 → FineOutcome n m gs gr (FinePosting n m) x (sendPasses x c w)
@@ -31,6 +33,8 @@ module _ (n m : ℕ) (gs gr : Program) (x : Site) (f : FineSite n m gr x) (a : A
       record {
         sender = λ h. advanced-ok n m gs (x .sender) opSend a;
         receiver = λ h. taking-ok n m gr (x .receiver) (settled n m gr (x .receiver) Receiving refl (f .receiving e) h) (x .sender .word);
+        sender-origin = born-origin Ready (x .sender) (advanced (x .sender)) (a .ready) refl refl (rw (eqb-true (stateNumber (x .sender .state)) 1 (a .ready)) refl);
+        receiver-origin = born-origin Receiving (x .receiver) (taking (x .receiver) (x .sender .word)) (f .receiving e) refl refl refl;
         cell = passing-fine n (x .cell) (f .cell) w l;
         posting = nothing-posted n m;
       }
@@ -41,6 +45,8 @@ module _ (n m : ℕ) (gs gr : Program) (x : Site) (f : FineSite n m gr x) (a : A
       record {
         sender = λ h. sending-ok n m gs (x .sender) a;
         receiver = λ h. h;
+        sender-origin = born-origin Ready (x .sender) (advanced (withState (x .sender) Sending)) (a .ready) refl refl refl;
+        receiver-origin = same-origin (x .receiver);
         cell = p;
         posting = q;
       }

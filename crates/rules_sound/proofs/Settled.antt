@@ -32,8 +32,6 @@ module _ (n m : ℕ) (g : Program) (x : Task) where
         born = p;
         still = q;
         children = ltb-true _ _ (b .children);
-        home = within-low 1 n (x .home .0) (b .home);
-        home-few = within-high 1 n (x .home .0) (b .home);
         moves = within-low 1 9999 (x .moves) (b .moves);
         moves-few = within-high 1 9999 (x .moves) (b .moves);
         processor = within-low 1 n (x .processor .0) d;
@@ -50,7 +48,6 @@ module _ (n m : ℕ) (g : Program) (x : Task) where
       born-ok n m g x
       (record {
         children = lt-ltb _ _ (s .children);
-        home = within-both 1 n (x .home .0) (s .home) (s .home-few);
         moves = within-both 1 9999 (x .moves) (s .moves) (s .moves-few);
         processor = rw (ne-eqb (stateNumber (x .state)) 5 (λ z. omega arith)) (within-both 1 n (x .processor .0) (s .processor) (s .processor-few));
         place = rw (ne-eqb (stateNumber (x .state)) 6 (λ z. omega arith)) (within-both 1 (length g) (x .pc) (s .place) (s .place-few));

@@ -25,7 +25,8 @@ use Rattle.rules.specs.Sound.{taskOk}
 use Rattle.rules_sound.specs.Sites.{FineSite, FineOutcome}
 use Rattle.rules_sound.specs.Sound.{programIn}
 use Rattle.rules_sound.specs.Stands.{Whole, FineEffect}
-use Rattle.rules_sound.proofs.Rigs.{task-stands, cell-fine, cell-stands}
+use Rattle.rules_sound.proofs.Rigs.{task-stands, cell-fine, cell-stands, same-stands}
+use Rattle.rules_sound.proofs.Origins.{origin-kept}
 
 on-in : (s : TaskState) (g : Program) (c : ChannelId) (x : Task) → isOn s g c x ≡ true → isIn s x ≡ true
 unfolding isOn
@@ -61,8 +62,10 @@ module _ (r : System) (w : Whole r) where
           let n = r .processors in
           let p = r .plan in
           let k = r .network in
-          let first = task-stands n p k r w few s (o .sender) (λ l. f .sender (w .holds .tasks s l sh)) in
-          let both = task-stands n p k (withTask r s (o .sender)) first few u (o .receiver) (λ l. f .receiver (w .holds .tasks u l uh)) in
+          let first = same-stands n p k r w few s (o .sender) sh (λ l. f .sender (w .holds .tasks s l sh)) (f .sender-origin) in
+          let both =
+          task-stands n p k (withTask r s (o .sender)) first few u (o .receiver) (λ l. f .receiver (w .holds .tasks u l uh))
+          (λ l. origin-kept n (u .0) (taskAt r u) (o .receiver) (f .receiver-origin) (w .holds .origins u l uh)) in
           record { system = cell-stands n p k (withTask (withTask r s (o .sender)) u (o .receiver)) both d c dl dh cl ch (o .cell) (f .cell); posting = f .posting }
 
       -- a rule that leaves a fine outcome at each fine site

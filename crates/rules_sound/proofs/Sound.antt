@@ -17,9 +17,9 @@ use Rattle.rules.specs.Networks.{messages}
 use Rattle.rules.specs.Systems.{meaning}
 use Rattle.rules.specs.Sound.{networkOk, systemOk}
 use Rattle.rules_laws.specs.Shapes.{Shaped}
-use Rattle.rules_laws.proofs.Sound.{taskOkIn, system-passed, system-ok}
+use Rattle.rules_laws.proofs.Sound.{taskOkIn, system-passed, system-ok, originOkIn}
 use Rattle.rules_sound.specs.Sound.{Sound}
-use Rattle.rules_sound.proofs.Entries.{tables-fine, fine-tables, channels-fine, fine-channels}
+use Rattle.rules_sound.proofs.Entries.{tables-fine, fine-tables, channels-fine, fine-channels, parents-fine, fine-parents}
 
 accepted-is : (a : PlanAnswer) → isAccepted a ≡ true → a ≡ Accepted
 accepted-is Accepted h = refl
@@ -37,8 +37,10 @@ module _ (r : System) (s : Shaped r) where
         rig =
             record {
               tasks = λ t l k. up-to-at (taskOkIn r) (r .plan .tasks) (t .0) l k (b .tasks);
+              origins = λ t l k. up-to-at (originOkIn r) (r .plan .tasks) (t .0) l k (b .origins);
               entries = tables-fine n r s (b .tables);
               channels = channels-fine n r s (b .channels);
+              parents = parents-fine n r s (r .plan .tasks) (b .parents);
             };
         network = record { messages = all; used = leb-true (r .network .used) 256 used };
       }
@@ -52,7 +54,9 @@ module _ (r : System) (s : Shaped r) where
         processors = within-both 1 6 n (f .frame .some) (f .frame .few);
         plan = rw (f .frame .plan) refl;
         tasks = below-all (λ i. taskOkIn r (suc i)) (r .plan .tasks) (λ i l. f .rig .tasks (taskId (suc i)) (omega arith) (omega arith));
+        origins = below-all (λ i. originOkIn r (suc i)) (r .plan .tasks) (λ i l. f .rig .origins (taskId (suc i)) (omega arith) (omega arith));
         tables = fine-tables n r s (f .rig .entries);
         channels = fine-channels n r s (f .rig .channels);
+        parents = fine-parents n r s (r .plan .tasks) (f .rig .parents);
         network = and-both (leb (r .network .used) 256) _ (le-leb (r .network .used) 256 (f .network .used)) (f .network .messages);
       })

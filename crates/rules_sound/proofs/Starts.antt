@@ -22,12 +22,12 @@ use Rattle.rules.specs.declared.step.StepAnswer.the-variants.{BadSystem}
 use Rattle.rules.specs.Numbers.{taskId, processorId}
 use Rattle.rules.specs.Tasks.{noTask, unborn}
 use Rattle.rules.specs.Networks.{messages}
-use Rattle.rules.specs.Systems.{taskAt, entryIndex, entryAt, channelAt, taskIn}
+use Rattle.rules.specs.Systems.{taskAt, entryIndex, entryAt, channelAt, taskIn, parentIndex, parentAt}
 use Rattle.rules.specs.Starts.{blank, started}
-use Rattle.rules.specs.Sound.{systemOk}
+use Rattle.rules.specs.Sound.{systemOk, originOk}
 use Rattle.rules.specs.Steps.{stepAnswer, steps}
 use Rattle.rules_laws.proofs.Shapes.{blank-shaped, started-shaped}
-use Rattle.rules_sound.specs.Fine.{FineEntry, FineChannel}
+use Rattle.rules_sound.specs.Fine.{FineEntry, FineChannel, FineParent}
 use Rattle.rules_sound.specs.Sound.{programIn, HoldsNetwork, Startable, Sound}
 use Rattle.rules_sound.specs.Stands.{Stands}
 use Rattle.rules_sound.proofs.LifeRules.{unborn-ok}
@@ -37,6 +37,7 @@ use Rattle.rules_sound.proofs.Network.{stands-sound}
 use Rattle.rules_sound.proofs.Sound.{sound-ok}
 use Rattle.rules_sound.proofs.Kept.{steps-kept}
 use Rattle.rules_sound.proofs.Answers.{not-bad}
+use Rattle.rules.specs.Hints.{unknown}
 
 module _ (n : ℕ) (p : Plan) (s : Startable n p) where
   blank-tasks : (t : TaskId) → 1 ≤ t .0 → t .0 ≤ p .tasks → taskAt (blank n p) t ≡ unborn
@@ -55,8 +56,14 @@ module _ (n : ℕ) (p : Plan) (s : Startable n p) where
       let z = getD-replicate {A = ℕ} 128 (c .0 - 1) 0 0 (omega arith) in
       record { granted = rw z (omega arith); carried = rw z refl; travelling = rw z refl }
 
+  blank-parents : (d : ProcessorId) (t : TaskId) → d .0 ≤ 6 → t .0 ≤ 64 → FineParent n (p .tasks) (parentAt (blank n p) d t)
+  unfolding parentAt blank
+  blank-parents d t dh th =
+      let z = getD-replicate {A = ℕ} 384 (parentIndex d t) 0 0 (omega arith) in
+      record { hint = rw z refl; held = rw z (pow-pos (p .tasks)) }
+
   blank-stands : Stands n p (blank n p .network) (blank n p)
-  unfolding blank
+  unfolding blank originOk
   blank-stands =
       record {
         processors = refl;
@@ -66,8 +73,10 @@ module _ (n : ℕ) (p : Plan) (s : Startable n p) where
         holds =
             record {
               tasks = λ t l h. rw (blank-tasks t l h) (unborn-ok n (p .tasks) (programIn p t) (pow-pos (p .tasks)));
+              origins = λ t l h. rw (blank-tasks t l h) refl;
               entries = λ d c dl dh cl ch. blank-entries d c dh ch;
               channels = λ c cl ch. blank-channels c ch;
+              parents = λ d t dh th. blank-parents d t dh th;
             };
       }
 
@@ -76,11 +85,11 @@ module _ (n : ℕ) (p : Plan) (s : Startable n p) where
   blank-network = record { messages = refl; used = omega arith }
 
 pub started-sound : (n : ℕ) (p : Plan) → Startable n p → Sound (started n p)
-unfolding started
+unfolding started originOk
 started-sound n p s =
     let k = blank n p .network in
     stands-sound n p k (started n p) s (blank-network n p s)
-    (birth-stands n p k s (blank n p) (blank-stands n p s) (taskId 1) (tasks-some n p s) (processorId 1) (within-both 1 n 1 (omega arith) (s .some)))
+    (birth-stands n p k s (blank n p) (blank-stands n p s) (taskId 1) (tasks-some n p s) (processorId 1) (within-both 1 n 1 (omega arith) (s .some)) unknown refl)
 
 pub started-ok : (n : ℕ) (p : Plan) → 1 ≤ n → n ≤ 6 → planAnswer (programs p) ≡ Accepted → systemOk (started n p) ≡ true
 started-ok n p l h a = sound-ok (started n p) (started-shaped n p) (started-sound n p (record { some = l; few = h; plan = a }))

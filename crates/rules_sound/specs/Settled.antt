@@ -8,8 +8,6 @@ pub record Settled (n m size : ℕ) (x : Task) : Type 0 where
   pub born : 1 ≤ stateNumber (x .state)
   pub still : stateNumber (x .state) ≤ 4
   pub children : x .children < 2 ^ m
-  pub home : 1 ≤ x .home .0
-  pub home-few : x .home .0 ≤ n
   pub moves : 1 ≤ x .moves
   pub moves-few : x .moves ≤ 9999
   pub processor : 1 ≤ x .processor .0

@@ -29,7 +29,7 @@ same-acted e h = rw e h
 
 module _ (ss rs : List ℕ) (l : Lent) {r : Act} (w : Whole (l .board)) where
   pub refused-acted : (v : Verdict) (q : StepAnswer) → v ≡ Refused q → r ≡ refusedAct q → Acted ss rs v l r l
-  refused-acted v q e h = rw e (record { whole = w; act = h; tasks = refl; store = refl })
+  refused-acted v q e h = rw e (record { whole = w; act = h; tasks = refl; store = refl; parents = refl })
 
   -- by what it is answered
   pub answered-acted : (v : Verdict) → isAccepted (actOf v .answer) ≡ false → r ≡ actOf v → Acted ss rs v l r l

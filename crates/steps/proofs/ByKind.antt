@@ -9,7 +9,7 @@ use Rattle.base.specs.Choice.{pick, unless}
 use Rattle.rules.specs.declared.task.Task.{Task}
 use Rattle.rules.specs.declared.step.Step.{Step}
 use Rattle.rules.specs.declared.step.StepAnswer.the-variants.{NoMessage, BadStep}
-use Rattle.rules.specs.declared.system.Store.{Store}
+use Rattle.rig_parts.specs.declared.kept.Kept.{Kept}
 use Rattle.rules.specs.Numbers.{taskId, processorId}
 use Rattle.rules.specs.Steps.{wellFormed}
 use Rattle.rig_parts.specs.declared.change.Verdict.{Verdict}
@@ -26,7 +26,7 @@ under true true v = refl
 under true false v = refl
 under false b v = refl
 
-module _ (f : Facts) (n : ℕ) (ts : List Task) (s : Store) (used : ℕ) (x : Step) where
+module _ (f : Facts) (n : ℕ) (ts : List Task) (s : Kept) (used : ℕ) (x : Step) where
   abbrev verdict : Verdict
   verdict = stepVerdict f n ts s used x
 

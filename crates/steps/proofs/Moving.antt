@@ -17,13 +17,15 @@ use Rattle.rules.specs.declared.step.StepAnswer.{StepAnswer}
 use Rattle.rules.specs.declared.system.Channels.{Channels}
 use Rattle.rules.specs.Answers.{isAccepted}
 use Rattle.rules.specs.Tasks.{departed}
+use Rattle.rules.specs.Hints.{hint}
+use Rattle.rules.specs.Starts.{pointing}
 use Rattle.rules.specs.Networks.{messagesOf}
 use Rattle.rules.specs.Systems.{store, taskIn, taskStored}
 use Rattle.rig_parts.specs.declared.sweep.CellRule.the-variants.{Locate, DepartSending}
 use Rattle.rig_parts.specs.declared.change.Change.{Change}
 use Rattle.rig_parts.specs.declared.change.Verdict.{Verdict}
 use Rattle.rig_parts.specs.declared.change.Verdict.the-variants.{Refused, Accepted as Allowed}
-use Rattle.rig_parts.specs.Sweeps.{forEnds}
+use Rattle.rig_parts.specs.Sweeps.{forEnds, parentIn}
 use Rattle.rig_parts.specs.Fetches.{cellPut}
 use Rattle.rig_parts.specs.MoveVerdicts.{moveChange, moveRefusal, judgedMove}
 use Rattle.rig_parts.specs.Answers.{verdictOf}
@@ -32,7 +34,7 @@ use Rattle.rig_parts.proofs.BoundsReady.{processor-in, ready-counts}
 use Rattle.board.specs.declared.act.Act.{Act}
 use Rattle.board.specs.declared.act.Size.{Size}
 use Rattle.board.specs.Rigs.{RigOn}
-use Rattle.board.specs.Lent.{Lent, lent, tasksOn, channelsOn, storeOf}
+use Rattle.board.specs.Lent.{Lent, lent, tasksOn, channelsOn, parentsOn, storeOf, ParentPut}
 use Rattle.board.specs.Acted.{Acted, StoredBy, actOf, refusedAct}
 use Rattle.steps.specs.Moves.{CanMove}
 use Rattle.steps.proofs.Acting.{stored-none}
@@ -72,24 +74,26 @@ module _ (m n : ℕ) (ts : List Task) (used : ℕ) (t : TaskId) (e : ProcessorId
   unfolding judgedMove
   move-said = said-of (moveChange t (taskIn ts t) e) answer
 
--- the task leaves, then pointers follow it, then what it sent travels
-module _ (ss rs hp hm op on notes board gone hp' hm' left : List ℕ) (t : TaskId) (e : ProcessorId) where
+-- the task leaves, then its desk points to where it goes, then pointers follow it, then what it sent travels
+module _ (ss rs hp hm op on notes board left₀ gone hp' hm' left : List ℕ) (t : TaskId) (e : ProcessorId) where
   pub move-acted : (x y : Task) (v : Verdict) {r : Act} → y ≡ departed x → v ≡ Allowed (moveChange t x e)
-      → tasksOn gone ≡ taskStored (tasksOn board) t y → channelsOn gone ≡ channelsOn board
+      → tasksOn left₀ ≡ taskStored (tasksOn board) t y → channelsOn left₀ ≡ channelsOn board → parentsOn left₀ ≡ parentsOn board
+      → ParentPut (x .processor) t (pointing (parentIn (parentsOn left₀) (x .processor) t) (hint e (x .moves + 1))) left₀ gone
       → StoredBy (forEnds rs t (x .processor) (Locate e (x .moves + 1))) (lent hp hm op on notes gone) (lent hp' hm' op on notes gone)
       → StoredBy (forEnds ss t (x .processor) DepartSending) (lent hp' hm' op on notes gone) (lent hp' hm' op on notes left)
       → r ≡ actOf v
       → Acted ss rs v (lent hp hm op on notes board) r (lent hp' hm' op on notes left)
   unfolding cellPut
-  move-acted x y v ey ev et ek located departed er =
+  move-acted x y v ey ev et ek ep put located departed er =
       let d = x .processor in
       let same : storeOf (lent hp hm op on notes gone) ≡ storeOf (lent hp hm op on notes board) =
-      ap (λ (z : Channels). store (record { hintprocessors = hp; hintmoves = hm; heldprocessors = op; heldnumbers = on; notes = notes }) z) ek in
+      ap (λ (z : Channels). store (record { hintprocessors = hp; hintmoves = hm; heldprocessors = op; heldnumbers = on; notes = notes }) z) (put .3 ∙ ek) in
       record {
         whole = departed .whole;
         act = er;
-        tasks = departed .tasks ∙ located .tasks ∙ et ∙ rw (ev, ey) (sym (stored-none _ _));
+        tasks = departed .tasks ∙ located .tasks ∙ put .2 ∙ et ∙ rw (ev, ey) (sym (stored-none _ _));
         store = departed .store ∙ ap (forEnds ss t d DepartSending) (located .store ∙ ap (forEnds rs t d (Locate e (x .moves + 1))) same) ∙ rw ev refl;
+        parents = departed .parents ∙ located .parents ∙ put .1 ∙ rw (ev, ep) refl;
       }
 
 -- in a rig that 9 does not refuse a task can be moved

@@ -17,6 +17,7 @@ use Rattle.rules.specs.declared.task.TaskState.the-variants.{Ready}
 use Rattle.rules.specs.declared.step.Step.{Step}
 use Rattle.rules.specs.declared.system.Channels.{Channels}
 use Rattle.rules.specs.declared.system.Store.{Store}
+use Rattle.rig_parts.specs.declared.kept.Kept.{Kept}
 use Rattle.rules.specs.Numbers.{taskId}
 use Rattle.rules.specs.Networks.{messagesOf}
 use Rattle.rules.specs.Steps.{isRun, wellFormed}
@@ -31,7 +32,7 @@ use Rattle.rig_parts.specs.Scopes.{alone, runScope}
 use Rattle.rig_parts.specs.RunVerdicts.{runRefusal, judgedRun, ranIn, runChange, sendIn, taskChange}
 use Rattle.rig_parts.proofs.BoundsReady.{nextAt}
 use Rattle.steps.specs.Words.{wordChanged}
-use Rattle.board.specs.Lent.{lent, Whole, tasksOn, channelsOn, storeOf, SameAbove}
+use Rattle.board.specs.Lent.{lent, Whole, tasksOn, channelsOn, storeOf, parentsOn, SameAbove}
 use Rattle.board.specs.Acted.{Acted, plainAct}
 use Rattle.board.specs.Verdicts.{stepVerdict}
 use Rattle.steps.proofs.Acting.{stored-none}
@@ -51,7 +52,7 @@ unfolding setWord addWord withLevel
 above-kept x i e =
     by-bool (eqb (i .opcode) 6) (λ q. rw (q, e) (refl, refl, refl)) (λ q. rw (q, e) (refl, refl, refl))
 
-module _ (f : Facts) (n : ℕ) (ts : List Task) (s : Store) (used : ℕ) (x : Step) where
+module _ (f : Facts) (n : ℕ) (ts : List Task) (s : Kept) (used : ℕ) (x : Step) where
   -- the task of the step, alone
   abbrev t : TaskId
   t = taskId (x .task)
@@ -61,7 +62,7 @@ module _ (f : Facts) (n : ℕ) (ts : List Task) (s : Store) (used : ℕ) (x : St
 
   -- a set or an add of a ready task is accepted
   pub word-judged : isRun x ≡ true → x .number ≡ 0 → within 1 (f .tasks) (x .task) ≡ true → isIn Ready (taskIn ts t) ≡ true → 6 ≤ nextAt f ts t .opcode → used ≤ 256
-      → stepVerdict f n ts s used x ≡ Accepted (taskChange k (siteIn (f .codes) ts s k) (wordChanged (taskIn ts t) (nextAt f ts t)))
+      → stepVerdict f n ts s used x ≡ Accepted (taskChange k (siteIn (f .codes) ts (s .store) k) (wordChanged (taskIn ts t) (nextAt f ts t)))
   unfolding stepVerdict judgedRun runRefusal ranIn runChange runScope sendIn siteIn messagesOf wellFormed
   word-judged run zero w ready high few =
       let o = nextAt f ts t .opcode in
@@ -75,7 +76,7 @@ module _ (ss rs hp hm op on notes board board' : List ℕ) (t : TaskId) (y : Tas
 
   -- and its task's new record is all that it leaves
   pub word-acted : (codes : List ℕ) (d : ProcessorId) → v ≡ Accepted (taskChange (alone t d) (siteIn codes (tasksOn board) s (alone t d)) y)
-      → (Whole board') × (tasksOn board' ≡ taskStored (tasksOn board) t y) × (channelsOn board' ≡ channelsOn board)
+      → (Whole board') × (tasksOn board' ≡ taskStored (tasksOn board) t y) × (channelsOn board' ≡ channelsOn board) × (parentsOn board' ≡ parentsOn board)
       → Acted ss rs v (lent hp hm op on notes board) plainAct (lent hp hm op on notes board')
   unfolding cellPut
   word-acted codes d e w =
@@ -85,4 +86,5 @@ module _ (ss rs hp hm op on notes board board' : List ℕ) (t : TaskId) (y : Tas
         act = refl;
         tasks = w .1 ∙ sym (stored-none (taskStored (tasksOn board) t y) _);
         store = ap (λ (z : Channels). store (record { hintprocessors = hp; hintmoves = hm; heldprocessors = op; heldnumbers = on; notes = notes }) z) (w .2);
+        parents = w .3;
       })

@@ -11,7 +11,7 @@ pub mod word;
 
 ghost use mathlib.Core.Path.{_≡_};
 ghost use Rattle.plan_index.specs.user_table.Users.{sendersOf, receiversOf};
-ghost use Rattle.board.specs.Lent.{lent, tasksOf, storeOf};
+ghost use Rattle.board.specs.Lent.{lent, tasksOf, keptOf};
 ghost use Rattle.board.specs.Acted.{Acted, actOf, refusedAct};
 ghost use Rattle.board.specs.Rigs.{RigOn, factsIn};
 ghost use Rattle.board.specs.Verdicts.{stepVerdict};
@@ -59,7 +59,7 @@ pub fn other<'a>(
         (lent (now hintprocessors) (now hintmoves) (now heldprocessors) (now heldnumbers) (now notes) (now board)) ⌝ }
     ensures { λ r. ⌜ (let l = lent (now (hintprocessors .entry)) (now (hintmoves .entry)) (now (heldprocessors .entry)) (now (heldnumbers .entry)) (now (notes .entry)) (now (board .entry)) in
         Acted (sendersOf (now (users .entry))) (receiversOf (now (users .entry)))
-        (stepVerdict (factsIn (n .tasks) (now (codes .entry)) (now (numbers .entry)) (now (users .entry))) (n .processors) (tasksOf l) (storeOf l) (n .used) s)
+        (stepVerdict (factsIn (n .tasks) (now (codes .entry)) (now (numbers .entry)) (now (users .entry))) (n .processors) (tasksOf l) (keptOf l) (n .used) s)
         l
         r
         (lent (now (hintprocessors .exit)) (now (hintmoves .exit)) (now (heldprocessors .exit)) (now (heldnumbers .exit)) (now (notes .exit)) (now (board .exit)))) ⌝ }
@@ -113,7 +113,7 @@ pub fn step_decided<'a>(
     requires { ⌜ RigOn (now codes) (now numbers) (now users) n
         (lent (now hintprocessors) (now hintmoves) (now heldprocessors) (now heldnumbers) (now notes) (now board)) ⌝ }
     ensures { λ r. ⌜ (let l = lent (now (hintprocessors .entry)) (now (hintmoves .entry)) (now (heldprocessors .entry)) (now (heldnumbers .entry)) (now (notes .entry)) (now (board .entry)) in
-        r ≡ actOf (stepVerdict (factsIn (n .tasks) (now (codes .entry)) (now (numbers .entry)) (now (users .entry))) (n .processors) (tasksOf l) (storeOf l) (n .used) s)) ⌝ }
+        r ≡ actOf (stepVerdict (factsIn (n .tasks) (now (codes .entry)) (now (numbers .entry)) (now (users .entry))) (n .processors) (tasksOf l) (keptOf l) (n .used) s)) ⌝ }
 {
     if s.kind == 1 {
         if s.number != 0 {

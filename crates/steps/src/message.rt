@@ -4,7 +4,7 @@
 pub mod advert;
 // A call: its sender goes on, and the word leaves.
 pub mod call;
-// An ended letter: the child leaves its parent's set.
+// An ended letter: the child leaves its parent's set, or the letter is forwarded or held.
 pub mod ended;
 // A mover letter: the task arrives.
 pub mod mover;
@@ -65,7 +65,7 @@ pub fn deliver<'a>(
             m,
         ),
         Message::Data(_, _, _) => word::word(codes, users, board, m),
-        Message::Terminated(_, _) => ended::ended(users, board, m),
+        Message::Terminated(h, t) => ended::ended(users, board, h, t),
         Message::Migration(_, _) => mover::mover(
             users,
             hintprocessors,
@@ -118,6 +118,7 @@ pub fn message_decided<'a>(
             m,
         ),
         Message::Data(_, _, _) => word::word_decided(codes, users, board, m),
+        Message::Terminated(h, t) => ended::ended_decided(users, board, h, t),
         _ => posted(Posting::Nothing),
     }
 }

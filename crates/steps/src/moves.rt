@@ -12,6 +12,7 @@ use board::act::Act;
 use board::act::Size;
 use board::act::posted;
 use board::act::refused;
+use board::point_parent;
 use board::put_task;
 use board::sweeps::depart;
 use board::sweeps::locate;
@@ -43,9 +44,6 @@ pub fn move_refusal(board: &Board, n: Size, t: TaskId, to: u16) -> StepAnswer
     if task_rules::state::is_at(x, e) {
         return StepAnswer::AlreadyThere;
     }
-    if !task_rules::children::is_childless(x) {
-        return StepAnswer::MoveWithChildren;
-    }
     if x.moves == 9999 {
         return StepAnswer::MovesSpent;
     }
@@ -68,8 +66,8 @@ pub fn move_decided(board: &Board, n: Size, t: TaskId, to: u16) -> Act
     posted(Posting::Single(Message::Migration(e, t)))
 }
 
-// The move, where it is not refused: the task leaves, the pointers of its desk for what it receives on name the desk that it
-// leaves for, and those for what it sends on travel with it.
+// The move, where it is not refused: the task leaves, the pointers of its desk for it as a parent and for what it receives on name
+// the desk that it leaves for, and those for what it sends on travel with it.
 pub fn move_task<'a>(
     users: &'a [u8; 1024],
     hintprocessors: &'a mut [u8; 768],
@@ -97,6 +95,7 @@ pub fn move_task<'a>(
         moves: x.moves + 1,
     };
     put_task(board, t, x.departure());
+    point_parent(board, d, t, h);
     locate(users, hintprocessors, hintmoves, t, d, h);
     depart(users, hintprocessors, hintmoves, board, t, d);
     r

@@ -2,13 +2,13 @@
 use mathlib.Core.Path.{_≡_, refl}
 use mathlib.Core.Bool.{true, false}
 use mathlib.Core.Logic.{by-cases}
-use Prim.Native.Nat.{ℕ, _+_, _-_, _*_, _/_, _%_, _^_, _<_, _≤_}
-use native.Mathlib.Nat.{div-eq-of-lt, mod-eq-of-lt, one-mul}
+use Prim.Native.Nat.{ℕ, zero, suc, _+_, _-_, _*_, _/_, _%_, _^_, _<_, _≤_}
+use native.Mathlib.Nat.{div-eq-of-lt, mod-eq-of-lt, one-mul, zero-div}
 use native.Mathlib.Omega.{arith}
 use native.Mathlib.Decide.{decLt}
 use lib.Pow.{pow-lt}
 use borrow.Author.Tests.{eqb-true}
-use Rattle.base.specs.Sets.{member, inserted, removed}
+use Rattle.base.specs.Sets.{member, inserted, removed, removedAll}
 use Rattle.base.proofs.Sets.{inserted-below}
 
 -- the bit as the code makes it
@@ -38,3 +38,13 @@ module _ (t s : ℕ) where
   pub low : member t s ≡ true → 2 ^ (t - 1) ≤ s
   unfolding member
   low e = by-cases (decLt s (2 ^ (t - 1))) (λ l. absurd (omega (arith, div-eq-of-lt l, eqb-true (s / 2 ^ (t - 1) % 2) 1 e))) (λ l. omega arith)
+
+-- the empty set has no member, and takes nothing away
+none-there : (t : ℕ) → member t 0 ≡ false
+unfolding member
+none-there t = rw (zero-div (2 ^ (t - 1))) refl
+
+pub none-removed : (n s : ℕ) → removedAll n 0 s ≡ s
+unfolding removedAll
+none-removed zero s = refl
+none-removed (suc n) s = rw (none-there (suc n)) (none-removed n s)

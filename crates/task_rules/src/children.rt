@@ -2,7 +2,7 @@
 ghost use mathlib.Core.Path.{_≡_};
 ghost use Prim.Native.Nat.{_≤_};
 ghost use Rattle.base.specs.Sets.{member};
-ghost use Rattle.rules.specs.Tasks.{isChildless, withChild, woken, withoutChild};
+ghost use Rattle.rules.specs.Tasks.{isChildless, withChild, woken, withoutChild, withoutChildren};
 use crate::change;
 use crate::set;
 use crate::state;
@@ -56,4 +56,13 @@ pub fn without_child(mut x: Task, t: TaskId) -> Task
     let fewer = set::remove(x.children, t.0);
     x.children = fewer;
     woken(x)
+}
+
+// None of the set is a child any more; the task is ready.
+pub fn without_children(mut x: Task, held: u64) -> Task
+    ensures { λ r. ⌜ r ≡ withoutChildren x held ⌝ }
+{
+    let fewer = set::remove_all(held, x.children);
+    x.children = fewer;
+    x
 }

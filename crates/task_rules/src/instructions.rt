@@ -5,13 +5,16 @@ ghost use Rattle.rules.specs.Arrivals.{terminatedRule};
 ghost use Rattle.rules.specs.Local.{createRule, syncRule, finishRule, setRule, addRule};
 use crate::change;
 use crate::children;
+use crate::parents;
 use crate::state;
 use plan::Instruction;
-use plan::ProcessorId;
 use plan::TaskId;
+use rules::channel::Hint;
 use rules::message::Message;
+use rules::rule::Ended;
 use rules::rule::Finished;
 use rules::rule::Posting;
+use rules::system::ParentEntry;
 use rules::task::Task;
 use rules::task::TaskState;
 
@@ -37,19 +40,21 @@ pub fn sync_rule(x: Task) -> Task
     }
 }
 
-// Finish: task t with record x, and its parent's record. A parent elsewhere is told by a letter.
-pub fn finish_rule(t: TaskId, x: Task, parent: Task) -> Finished
+// Finish: task t with record x, its parent's record, and what its desk keeps for the parent. A parent elsewhere is told by a
+// letter along the newer pointer; where that names the task's desk, the task is held.
+pub fn finish_rule(t: TaskId, x: Task, parent: Task, e: ParentEntry) -> Finished
     requires { ⌜ (x .pc < 255) × (1 ≤ t .0) × (t .0 ≤ 64) ⌝ }
-    ensures { λ r. ⌜ r ≡ finishRule t x parent ⌝ }
+    ensures { λ r. ⌜ r ≡ finishRule t x parent e ⌝ }
 {
     let at = x.processor;
-    let home = x.home;
+    let along = cell_rules::order::newer(e.hint, x.origin);
     let next = change::advanced(x);
     let done = next.with_state(TaskState::Done);
     if t.0 == 1 {
         return Finished {
             task: done,
             parent: parent,
+            entry: e,
             posting: Posting::Nothing,
         };
     }
@@ -58,13 +63,24 @@ pub fn finish_rule(t: TaskId, x: Task, parent: Task) -> Finished
         return Finished {
             task: done,
             parent: without,
+            entry: e,
             posting: Posting::Nothing,
         };
     }
-    let message = Message::Terminated(home, t);
+    if state::same_processor(along.processor, at) {
+        let held = parents::holding_child(e, t);
+        return Finished {
+            task: done,
+            parent: parent,
+            entry: held,
+            posting: Posting::Nothing,
+        };
+    }
+    let message = Message::Terminated(along, t);
     Finished {
         task: done,
         parent: parent,
+        entry: e,
         posting: Posting::Single(message),
     }
 }
@@ -93,16 +109,39 @@ pub fn add_rule(mut x: Task, i: Instruction) -> Task
     change::advanced(next)
 }
 
-// The parent's record, after an ended letter at d for child t.
-pub fn terminated_rule(parent: Task, d: ProcessorId, t: TaskId) -> Task
+// An ended letter for child t that came along h: the parent's record, and what the letter's desk keeps for it. Where the parent
+// is not, the letter is forwarded or the child is held.
+pub fn terminated_rule(parent: Task, e: ParentEntry, h: Hint, t: TaskId) -> Ended
     requires { ⌜ (1 ≤ t .0) × (t .0 ≤ 64) ⌝ }
-    ensures { λ r. ⌜ r ≡ terminatedRule parent d t ⌝ }
+    ensures { λ r. ⌜ r ≡ terminatedRule parent e h t ⌝ }
 {
-    let here = state::is_at(parent, d);
-    let lives = children::has_child(parent, t);
-    if base::both(here, lives) {
-        children::without_child(parent, t)
-    } else {
-        parent
+    if !children::has_child(parent, t) {
+        return Ended {
+            parent: parent,
+            entry: e,
+            posting: Posting::Nothing,
+        };
+    }
+    if state::is_at(parent, h.processor) {
+        let without = children::without_child(parent, t);
+        return Ended {
+            parent: without,
+            entry: e,
+            posting: Posting::Nothing,
+        };
+    }
+    let own = e.hint;
+    if cell_rules::order::points_on(own, h) {
+        return Ended {
+            parent: parent,
+            entry: e,
+            posting: Posting::Single(Message::Terminated(own, t)),
+        };
+    }
+    let held = parents::holding_child(e, t);
+    Ended {
+        parent: parent,
+        entry: held,
+        posting: Posting::Nothing,
     }
 }

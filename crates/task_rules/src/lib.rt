@@ -6,6 +6,8 @@ pub mod change;
 pub mod children;
 // Create, sync, finish, set and add; what an ended letter does to a parent.
 pub mod instructions;
+// What a desk keeps for a parent.
+pub mod parents;
 // Sets of tasks in the bits of a number.
 mod set;
 // Its state and desk.

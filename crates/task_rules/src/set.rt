@@ -1,7 +1,8 @@
 // A set of numbers 1 to 64 in the bits of one number.
 ghost use mathlib.Core.Path.{_≡_};
 ghost use Prim.Native.Nat.{_-_, _^_, _≤_};
-ghost use Rattle.base.specs.Sets.{member, inserted, removed};
+ghost use Rattle.base.specs.Choice.{pick};
+ghost use Rattle.base.specs.Sets.{member, inserted, removed, removedAll};
 
 // The set of t alone.
 fn single(t: u8) -> u64
@@ -43,4 +44,29 @@ pub fn remove(s: u64, t: u8) -> u64
     } else {
         s
     }
+}
+
+// The set without t, where t is in the set h.
+fn remove_where(h: u64, s: u64, t: u8) -> u64
+    requires { ⌜ (1 ≤ t) × (t ≤ 64) ⌝ }
+    ensures { λ r. ⌜ r ≡ pick (member t h) (removed t s) s ⌝ }
+{
+    if contains(h, t) { remove(s, t) } else { s }
+}
+
+// The set s without all that are in the set h. Most often h is empty.
+pub fn remove_all(h: u64, s: u64) -> u64
+    ensures { λ r. ⌜ r ≡ removedAll 64 h s ⌝ }
+{
+    if h == 0 {
+        return s;
+    }
+    let mut rest = s;
+    let mut t: u8 = 0;
+    while t < 64 {
+        let fewer = remove_where(h, rest, t + 1);
+        rest = fewer;
+        t = t + 1;
+    }
+    rest
 }

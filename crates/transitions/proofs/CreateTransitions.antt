@@ -34,9 +34,9 @@ use Rattle.rules.specs.declared.system.System.{System}
 use Rattle.rules.specs.Tasks.{isIn, born, withChild}
 use Rattle.rules.specs.Cells.{hint}
 use Rattle.rules.specs.Places.{nextIn, lastIn, isOn}
-use Rattle.rules.specs.Systems.{taskAt, withTask, meaning}
+use Rattle.rules.specs.Systems.{taskAt, withTask, meaning, parentAt}
 use Rattle.rules.specs.Effects.{completed, receivesOn, sendsOn}
-use Rattle.rules.specs.Starts.{located, birth}
+use Rattle.rules.specs.Starts.{located, birth, pointing}
 use Rattle.rules.specs.Local.{createRule}
 use Rattle.rules.specs.Runs.{ranCreate, executed, nextOf, ran, runAnswer}
 use Rattle.rules.specs.Sound.{taskOk, systemOk}
@@ -48,7 +48,7 @@ use Rattle.channel.specs.Updates.{atNumber}
 use Rattle.channel.specs.Messages.{ChannelMessage}
 use Rattle.channel.specs.Views.{Sender, Receiver}
 use Rattle.channel.specs.Events.{placeGuard, placed}
-use Rattle.transitions.specs.Readings.{Reading, reading, withTaskRead, forChannelsRead}
+use Rattle.transitions.specs.Readings.{Reading, reading, withTaskRead, forChannelsRead, parentEntryOf, withParentRead}
 use Rattle.transitions.specs.Progress.{programOf, completedBy, useNumber}
 use Rattle.transitions.specs.Views.{Histories, senderView, receiverView, viewOf}
 use Rattle.transitions.specs.Transitions.{Unseen, Runs, Placing, none, sender-birth, receiver-birth, sentTo, CreateTransition}
@@ -57,36 +57,39 @@ use Rattle.transitions.proofs.Updates.{at-task, at-other}
 use Rattle.transitions.proofs.Parents.{task-number}
 use Rattle.transitions.proofs.Tasks.{blocked-in, IsUnborn, unborn-is, unborn-apart}
 use Rattle.transitions.proofs.Unseen.{SeenAlike, alike-then, alike-on, alike-at, unseen-of}
-use Rattle.transitions.proofs.Frames.{read-task}
+use Rattle.transitions.proofs.Frames.{read-task, parent-there}
 use Rattle.transitions.proofs.Rigs.{plan-accepted, processors-few, is-task}
 use Rattle.transitions.proofs.Runs.{completed-changed, run-is-task, run-settled, run-instruction, runs-of}
 use Rattle.transitions.proofs.Outcomes.{tables-hint, tables-same}
 use Rattle.transitions.proofs.PlaceViews.{sender-elsewhere, receiver-elsewhere, viewBy, placedRead, place-cases, forChannels-none, read-receiving}
+use Rattle.rules.specs.declared.channel.Hint.{Hint}
+use Rattle.rules.specs.Hints.{hint}
+use Rattle.rules_laws.proofs.ParentAt.{withTask-parentAt}
 
 -- an unborn task x with program g is born at desk d: what a channel of n desks sees at each end
 module _ (n : ℕ) (l : List ChannelMessage) (g : Program) (c : ChannelId) (x : Task) (unborn : isIn Unborn x ≡ true) (is : IsUnborn x)
-    (d : ProcessorId) (low : 1 ≤ d .0) (high : d .0 ≤ n) (entries : ℕ → Entry) (k : Channel) where
+    (d : ProcessorId) (own : Hint) (low : 1 ≤ d .0) (high : d .0 ≤ n) (entries : ℕ → Entry) (k : Channel) where
   abbrev here : Cell
   here = record { entry = entries (d .0); channel = k }
 
   born-receiver : (s : Sender) (history : ℕ → ℕ)
       → Placing (viewBy n l s (receiverView g c history x) entries k)
-      (viewBy n l s (receiverView g c (atNumber history 1 (d .0)) (born d))
+      (viewBy n l s (receiverView g c (atNumber history 1 (d .0)) (born d own))
       (atNumber entries (d .0) (located d 1 here .entry)) (located d 1 here .channel))
   unfolding placeGuard placed receiverView
   born-receiver s history =
       let f = blocked-in x Unborn unborn in
-      let u = receiver-elsewhere g c x (born d) f refl (sym (is .place)) history (atNumber history 1 (d .0)) in
+      let u = receiver-elsewhere g c x (born d own) f refl (sym (is .place)) history (atNumber history 1 (d .0)) in
       rw (u, tables-hint entries (d .0) (hint d 1))
       (receiver-birth (d .0) (record { nowhere = is .nowhere; first = is .unmoved; processor = low; last = high }))
 
   born-sender : (u : Receiver)
       → Placing (viewBy n l (senderView g c x) u entries k)
-      (viewBy n l (senderView g c (born d)) u (atNumber entries (d .0) (here .entry)) (here .channel))
+      (viewBy n l (senderView g c (born d own)) u (atNumber entries (d .0) (here .entry)) (here .channel))
   unfolding placeGuard placed senderView completedBy useNumber fold
   born-sender u =
       let f = blocked-in x Unborn unborn in
-      rw (sender-elsewhere g c x (born d) f refl (sym (is .place)), tables-same entries (d .0))
+      rw (sender-elsewhere g c x (born d own) f refl (sym (is .place)), tables-same entries (d .0))
       (sender-birth (d .0) (record { nowhere = is .nowhere; first = rw (f, is .place) refl; processor = low; last = high }))
 
 -- no channel sees that a task creates another
@@ -104,12 +107,16 @@ createdRead t u x = withTaskRead x t (createRule (x .tasks t) u)
 abbrev bornRead : Programs → TaskId → TaskId → Reading → Reading
 bornRead m t u x =
     let d = x .tasks t .processor in
-    placedRead m u (born d) (located d 1) (λ y. y) (d .0) (x .messages) (createdRead t u x)
+    placedRead m u (born d (hint d (x .tasks t .moves))) (pointing (x .parents u (d .0)) (hint d 1)) (located d 1) (λ y. y) (d .0) (x .messages)
+    (createdRead t u x)
 
 module _ (m : Programs) (plan : planAnswer m ≡ PlanAccepted) (h : Histories) (x : Reading) (t u : TaskId) {i : Instruction} (runs : Runs m x t i)
     (creates : isUse opCreate (u .0) i ≡ true) (unborn : isIn Unborn (x .tasks u) ≡ true) where
   abbrev processor : ProcessorId
   processor = x .tasks t .processor
+
+  abbrev own : Hint
+  own = hint processor (x .tasks t .moves)
 
   child-apart : u .0 ≢ t .0
   child-apart = unborn-apart (x .tasks) t u (runs .ready) unborn
@@ -134,11 +141,11 @@ module _ (m : Programs) (plan : planAnswer m ≡ PlanAccepted) (h : Histories) (
         let is = unborn-is n (length m) (programOf m u) y fine unborn in
         rw (← created-unseen .views c cl ch)
         (place-cases m plan h (sentTo h u 1 processor) (createdRead t u x) u (within-low 1 (length m) (u .0) number)
-        (λ v ne. at-other h u v _ ne) (born processor) (located processor 1) (λ y. y) (processor .0) (x .messages) c cl ch refl Placing
+        (λ v ne. at-other h u v _ ne) (born processor own) (pointing (x .parents u (processor .0)) (hint processor 1)) (located processor 1) (λ y. y) (processor .0) (x .messages) c cl ch refl Placing
         (λ s.
         rw (child-stays, at-task h u (atNumber (h u) 1 (processor .0)))
-        (born-receiver n _ _ c y unborn is processor low high (x .entries c) (x .channels c) s (h u)))
-        (λ v. rw child-stays (born-sender n _ _ c y unborn is processor low high (x .entries c) (x .channels c) v))
+        (born-receiver n _ _ c y unborn is processor own low high (x .entries c) (x .channels c) s (h u)))
+        (λ v. rw child-stays (born-sender n _ _ c y unborn is processor own low high (x .entries c) (x .channels c) v))
         (λ v. none))
 
     create-read : CreateTransition m h (sentTo h u 1 processor) x (bornRead m t u x)
@@ -152,6 +159,7 @@ module _ (m : Programs) (plan : planAnswer m ≡ PlanAccepted) (h : Histories) (
           unborn = unborn;
           history = refl;
           tasks = refl;
+          parents = refl;
           messages = refl;
           processors = refl;
           views = views-born;
@@ -185,11 +193,16 @@ module _ (r : System) (shaped : Shaped r) (ok : systemOk r ≡ true) where
         let q = withTask r t x' in
         let few : d .0 ≤ 6 = omega (arith, b .processor-few, processors-few r shaped ok) in
         let same : meaning q ≡ meaning r = ap programs (withTask-plan r t x') in
+        let own = hint d (task .moves) in
+        let is = is-task r shaped ok child child-number in
         let e = read-task r shaped t x' (run-is-task r shaped ok t accepted) in
-        let y = withTaskRead (withTaskRead (reading r) t x') child (born d) in
-        rw (eq-eqb (nextOf r t .opcode) opCreate create, completed-changed (birth q child d))
-        (read-receiving q (withTask-shaped r t x' shaped) child (is-task r shaped ok child child-number) (born d) d (b .processor) few (located d 1)
-        ∙ (λ i. forChannelsRead (receivesOn (same i) child) (located d 1) (d .0) (withTaskRead (e i) child (born d)))
+        let kept : parentAt (withTask q child (born d own)) d child ≡ parentEntryOf r child (d .0) =
+        withTask-parentAt q child (born d own) d child ∙ withTask-parentAt r t x' d child ∙ sym (parent-there r child (d .0) is (b .processor)) in
+        let entry = pointing (parentEntryOf r child (d .0)) (hint d 1) in
+        let y = withParentRead (withTaskRead (withTaskRead (reading r) t x') child (born d own)) child (d .0) entry in
+        rw (eq-eqb (nextOf r t .opcode) opCreate create, completed-changed (birth q child d own), kept)
+        (read-receiving q (withTask-shaped r t x' shaped) child is (born d own) entry d (b .processor) few (located d 1)
+        ∙ (λ i. forChannelsRead (receivesOn (same i) child) (located d 1) (d .0) (withParentRead (withTaskRead (e i) child (born d own)) child (d .0) entry))
         ∙ sym (forChannels-none (sendsOn (meaning r) child) (d .0) (forChannelsRead (receivesOn (meaning r) child) (located d 1) (d .0) y)))
 
   module _ (h : Histories) {s : Net} {w : ChannelId → List Word} (run : Running (meaning r) h s (reading r) w) where

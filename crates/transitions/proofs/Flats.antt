@@ -14,6 +14,7 @@ use Rattle.rules.specs.declared.message.Message.the-variants.{Terminated, Migra
 use Rattle.channel.specs.Bags.{one, without, total}
 use Rattle.channel.specs.Messages.{words, isWord, ChannelMessage, offer, advert, call, word}
 use Rattle.transitions.specs.Messages.{flat, wordIn, wordsIn, endedTo, moverTo}
+use Rattle.rules.specs.declared.channel.Hint.{Hint}
 
 -- behind a list, places are counted from its end
 behind-at : {A : Type 0} (xs ys : List A) (k : ℕ) → getElem? (xs ++ ys) (length xs + k) ≡ getElem? ys k
@@ -68,20 +69,26 @@ module _ {A : Type 0} {B : Type 0} (f : A → List B) where
       }
 
 -- Ended and mover letters: each is one of its own task, of no other, and not of the other kind.
-module _ (t : TaskId) (d : ProcessorId) where
-  pub own-ended : endedTo t (Terminated d t) ≡ one (d .0)
+module _ (t : TaskId) (h : Hint) where
+  pub own-ended : endedTo t (Terminated h t) ≡ one h
   unfolding endedTo
   own-ended = rw (eq-eqb (t .0) (t .0) refl) refl
 
+  module _ (u : TaskId) where
+    pub other-ended : u .0 ≢ t .0 → endedTo t (Terminated h u) ≡ []
+    unfolding endedTo
+    other-ended ne = rw (ne-eqb (u .0) (t .0) ne) refl
+
+    pub no-mover : moverTo t (Terminated h u) ≡ []
+    unfolding moverTo
+    no-mover = refl
+
+module _ (t : TaskId) (d : ProcessorId) where
   pub own-mover : moverTo t (Migration d t) ≡ one (d .0)
   unfolding moverTo
   own-mover = rw (eq-eqb (t .0) (t .0) refl) refl
 
   module _ (u : TaskId) where
-    pub other-ended : u .0 ≢ t .0 → endedTo t (Terminated d u) ≡ []
-    unfolding endedTo
-    other-ended ne = rw (ne-eqb (u .0) (t .0) ne) refl
-
     pub other-mover : u .0 ≢ t .0 → moverTo t (Migration d u) ≡ []
     unfolding moverTo
     other-mover ne = rw (ne-eqb (u .0) (t .0) ne) refl
@@ -89,10 +96,6 @@ module _ (t : TaskId) (d : ProcessorId) where
     pub no-ended : endedTo t (Migration d u) ≡ []
     unfolding endedTo
     no-ended = refl
-
-    pub no-mover : moverTo t (Terminated d u) ≡ []
-    unfolding moverTo
-    no-mover = refl
 
 -- The words among the letters of a channel.
 

@@ -27,9 +27,9 @@ use Rattle.rules.specs.declared.message.Message.the-variants.{Empty}
 use Rattle.rules.specs.declared.message.Network.{Network}
 use Rattle.rules.specs.declared.rule.Outcome.{Outcome}
 use Rattle.rules.specs.declared.system.System.{System}
-use Rattle.rules.specs.Numbers.{channelNumberOk}
+use Rattle.rules.specs.Numbers.{channelNumberOk, taskNumberOk}
 use Rattle.rules.specs.Networks.{messages, messageAt, enqueuedAll, dequeued, messagesOf}
-use Rattle.rules.specs.Systems.{withNetwork, taskAt, withTask, entryAt, channelAt, cellAt, withCell}
+use Rattle.rules.specs.Systems.{withNetwork, taskAt, withTask, entryAt, channelAt, cellAt, withCell, parentAt, withParent}
 use Rattle.rules.specs.Effects.{Effect, completed, withOutcome, forChannels}
 use Rattle.rules.specs.Tasks.{noTask}
 use Rattle.rules_laws.specs.Shapes.{Shaped}
@@ -37,15 +37,17 @@ use Rattle.rules_laws.proofs.TaskAt.{withTask-processors, withTask-network, wit
 use Rattle.rules_laws.proofs.TaskAt.{taskAt-same, taskAt-other, taskAt-none}
 use Rattle.rules_laws.proofs.CellAt.{withCell-processors, withCell-network, withCell-taskAt, withCell-shaped, entryAt-same, channelAt-same}
 use Rattle.rules_laws.proofs.CellAt.{entryAt-other-processor, entryAt-other-channel, channelAt-other}
-use Rattle.rules_laws.proofs.ForChannels.{forChannels-processors, forChannels-network, forChannels-taskAt, forChannels-elsewhere, forChannels-cellAt}
+use Rattle.rules_laws.proofs.ForChannels.{forChannels-processors, forChannels-network, forChannels-taskAt, forChannels-elsewhere, forChannels-cellAt, forChannels-parentAt}
 use Rattle.rules_laws.proofs.Messages.{length-messages, messages-enqueuedAll, messageAt-messages, messages-dequeued}
-use Rattle.net.specs.States.{atChannel}
+use Rattle.net.specs.States.{atChannel, atTask}
 use Rattle.channel.specs.Updates.{atNumber}
 use Rattle.channel.specs.Bags.{without}
 use Rattle.channel.proofs.Updates.{at-elim as at-number-elim}
-use Rattle.transitions.specs.Readings.{Reading, reading, entryOf, channelOf, noEntry, noChannel, cellOf, withTaskRead, withMessagesRead}
+use Rattle.transitions.specs.Readings.{Reading, reading, entryOf, channelOf, noEntry, noChannel, cellOf, withTaskRead, withMessagesRead, parentEntryOf, noParentEntry, withParentRead}
 use Rattle.transitions.specs.Readings.{withOutcomeRead, forChannelsRead}
 use Rattle.transitions.proofs.Updates.{at-elim, at-channel-elim}
+use Rattle.rules.specs.declared.system.ParentEntry.{ParentEntry}
+use Rattle.rules_laws.proofs.ParentAt.{withTask-parentAt, withCell-parentAt, withParent-processors, withParent-taskAt, withParent-entryAt, withParent-channelAt, withParent-network, parentAt-same, parentAt-other-processor, parentAt-other-task}
 
 -- a task that exists
 pub record IsTask (t : TaskId) : Type 0 where
@@ -60,23 +62,24 @@ pub record IsCell (d : ProcessorId) (c : ChannelId) : Type 0 where
   pub high : c .0 ≤ 128
 
 -- readings with the same parts
-abbrev made : ℕ → (TaskId → Task) → (ChannelId → ℕ → Entry) → (ChannelId → Channel) → List Message → Reading
-made n t e k l = record { processors = n; tasks = t; entries = e; channels = k; messages = l }
+abbrev made : ℕ → (TaskId → Task) → (ChannelId → ℕ → Entry) → (ChannelId → Channel) → (TaskId → ℕ → ParentEntry) → List Message → Reading
+made n t e k a l = record { processors = n; tasks = t; entries = e; channels = k; parents = a; messages = l }
 
-made-same : {n m : ℕ} {t u : TaskId → Task} {e f : ChannelId → ℕ → Entry} {j k : ChannelId → Channel} {l i : List Message}
-    → n ≡ m → t ≡ u → e ≡ f → j ≡ k → l ≡ i → made n t e j l ≡ made m u f k i
-made-same p q r s z = cc
+made-same : {n m : ℕ} {t u : TaskId → Task} {e f : ChannelId → ℕ → Entry} {j k : ChannelId → Channel} {a b : TaskId → ℕ → ParentEntry} {l i : List Message}
+    → n ≡ m → t ≡ u → e ≡ f → j ≡ k → a ≡ b → l ≡ i → made n t e j a l ≡ made m u f k b i
+made-same p q r s o z = cc
 
 readings-same : (x y : Reading) → x .processors ≡ y .processors → ((t : TaskId) → x .tasks t ≡ y .tasks t)
-    → ((c : ChannelId) (d : ℕ) → x .entries c d ≡ y .entries c d) → ((c : ChannelId) → x .channels c ≡ y .channels c) → x .messages ≡ y .messages
+    → ((c : ChannelId) (d : ℕ) → x .entries c d ≡ y .entries c d) → ((c : ChannelId) → x .channels c ≡ y .channels c)
+    → ((t : TaskId) (d : ℕ) → x .parents t d ≡ y .parents t d) → x .messages ≡ y .messages
     → x ≡ y
-readings-same x y p t e k l = made-same p (fun-ext t) (fun-ext λ c. fun-ext (e c)) (fun-ext k) l
+readings-same x y p t e k a l = made-same p (fun-ext t) (fun-ext λ c. fun-ext (e c)) (fun-ext k) (fun-ext λ u. fun-ext (a u)) l
 
 -- a cell that is written
 abbrev withCellRead : Reading → ChannelId → ℕ → Cell → Reading
 withCellRead x c d y =
     let es = atChannel (x .entries) c (atNumber (x .entries c) d (y .entry)) in
-    made (x .processors) (x .tasks) es (atChannel (x .channels) c (y .channel)) (x .messages)
+    made (x .processors) (x .tasks) es (atChannel (x .channels) c (y .channel)) (x .parents) (x .messages)
 
 -- where there is a channel and a desk
 module _ (r : System) (c : ChannelId) where
@@ -90,6 +93,11 @@ module _ (r : System) (c : ChannelId) where
 
   cell-there : (d : ProcessorId) → IsCell d c → cellAt r d c ≡ record { entry = entryOf r c (d .0); channel = channelOf r c }
   cell-there d is = rw (entry-there (d .0) (is .low) (is .high) (is .processor), channel-there (is .low) (is .high)) refl
+
+-- where there is a task and a desk
+pub parent-there : (r : System) (t : TaskId) (d : ℕ) → IsTask t → 1 ≤ d → parentEntryOf r t d ≡ parentAt r (processorId d) t
+unfolding parentEntryOf
+parent-there r t d is dl = rw (within-both 1 64 (t .0) (is .low) (is .high), ne-eqb d 0 (λ e. omega arith)) refl
 
 -- entries and channels are read alike in two rigs where they are alike wherever there is a desk and a channel
 module _ (q r : System) where
@@ -112,6 +120,18 @@ module _ (q r : System) where
       go false low high = refl
       go true low high = same (low refl) (high refl)
 
+  -- and so is what is kept for parents
+  parents-same : (t : TaskId) (d : ℕ) → (IsTask t → 1 ≤ d → parentAt q (processorId d) t ≡ parentAt r (processorId d) t)
+      → parentEntryOf q t d ≡ parentEntryOf r t d
+  unfolding parentEntryOf
+  parents-same t d same = go (taskNumberOk 64 t) (eqb d 0) (λ h. within-low 1 64 (t .0) h) (λ h. within-high 1 64 (t .0) h) (eqb-false d 0)
+    where
+      go : (b z : Bool) → (b ≡ true → 1 ≤ t .0) → (b ≡ true → t .0 ≤ 64) → (z ≡ false → d ≢ 0)
+          → pick (b && not z) (parentAt q (processorId d) t) noParentEntry ≡ pick (b && not z) (parentAt r (processorId d) t) noParentEntry
+      go false z low high here = refl
+      go true true low high here = refl
+      go true false low high here = let ne = here refl in same (record { low = low refl; high = high refl }) (omega arith)
+
 -- lists: without one element, and one element
 without-split : {A : Type 0} (xs : List A) (k : ℕ) → without xs k ≡ take k xs ++ drop (suc k) xs
 unfolding without
@@ -132,7 +152,7 @@ nobody r = taskAt-none r
 
 -- another mail
 read-network : (r : System) (k : Network) → reading (withNetwork r k) ≡ withMessagesRead (reading r) (messages k)
-unfolding reading entryOf entryAt channelOf channelAt
+unfolding reading entryOf entryAt channelOf channelAt parentEntryOf parentAt
 read-network r k = refl
 
 -- letters join the mail
@@ -163,6 +183,7 @@ module _ (r : System) (shaped : Shaped r) where
         (at-elim (λ u z. taskAt (withTask r t y) u ≡ z) (taskAt r) t y task-written (λ u ne. taskAt-other r t y u (λ e. ne (sym e))))
         (λ c d. entries-same (withTask r t y) r c d (λ cl ch dl. withTask-entryAt r t y (processorId d) c))
         (λ c. channels-same (withTask r t y) r c (λ cl ch. withTask-channelAt r t y c))
+        (λ u d. parents-same (withTask r t y) r u d (λ is l. withTask-parentAt r t y (processorId d) u))
         (ap messages (withTask-network r t y))
 
   -- a cell that is written
@@ -200,7 +221,37 @@ module _ (r : System) (shaped : Shaped r) where
         (withCell-taskAt r d c x)
         written-entries
         written-channels
+        (λ u e. parents-same (withCell r d c x) r u e (λ is l. withCell-parentAt r d c x (processorId e) u))
         (ap messages (withCell-network r d c x))
+
+  -- what a desk keeps for a parent, written
+  module _ (d : ProcessorId) (t : TaskId) (e : ParentEntry) (is : IsTask t) (low : 1 ≤ d .0) (high : d .0 ≤ 6) where
+    written-parent : (f : ℕ) → parentEntryOf (withParent r d t e) t f ≡ atNumber (parentEntryOf r t) (d .0) e f
+    written-parent =
+        at-number-elim (λ f z. parentEntryOf (withParent r d t e) t f ≡ z) (parentEntryOf r t) (d .0) e
+        (parent-there (withParent r d t e) t (d .0) is low ∙ parentAt-same r d t e shaped high (is .high))
+        (λ f ne.
+        parents-same (withParent r d t e) r t f
+        (λ u l. parentAt-other-processor r d t e (processorId f) t low l (is .high) (is .high) (λ h. ne (sym h))))
+
+    written-parents : (u : TaskId) (f : ℕ) → parentEntryOf (withParent r d t e) u f ≡ atTask (parentEntryOf r) t (atNumber (parentEntryOf r t) (d .0) e) u f
+    written-parents u f =
+        at-elim (λ v g. parentEntryOf (withParent r d t e) v f ≡ g f) (parentEntryOf r) t (atNumber (parentEntryOf r t) (d .0) e) (written-parent f)
+        (λ v ne.
+        parents-same (withParent r d t e) r v f
+        (λ w l. parentAt-other-task r d t e (processorId f) v (is .low) (is .high) (w .low) (w .high) (λ h. ne (sym h))))
+        u
+
+    pub read-parent : reading (withParent r d t e) ≡ withParentRead (reading r) t (d .0) e
+    unfolding reading
+    read-parent =
+        readings-same (reading (withParent r d t e)) (withParentRead (reading r) t (d .0) e)
+        (withParent-processors r d t e)
+        (withParent-taskAt r d t e)
+        (λ c f. entries-same (withParent r d t e) r c f (λ cl ch fl. withParent-entryAt r d t e (processorId f) c))
+        (λ c. channels-same (withParent r d t e) r c (λ cl ch. withParent-channelAt r d t e c))
+        written-parents
+        (ap messages (withParent-network r d t e))
 
 -- a rule for each channel of which a test holds
 module _ (r : System) (shaped : Shaped r) (test : ChannelId → Bool) (rule : Cell → Cell) (d : ProcessorId) (l : 1 ≤ d .0) (u : d .0 ≤ 6) where
@@ -254,6 +305,7 @@ module _ (r : System) (shaped : Shaped r) (test : ChannelId → Bool) (rule : Ce
       (λ (h : e ≡ d .0). rw h (entry-here c (channelNumberOk c) refl (test c) refl))
       (λ ne. entry-elsewhere c e ne))
       (λ c. channel-here c (channelNumberOk c) refl (test c) refl)
+      (λ t e. parents-same then r t e (λ is l. forChannels-parentAt test rule d 128 r (processorId e) t))
       (ap messages (forChannels-network test rule d 128 r))
 
 module _ (r : System) (shaped : Shaped r) where

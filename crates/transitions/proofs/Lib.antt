@@ -13,6 +13,7 @@ pub mod Frames
 pub mod Rigs
 pub mod Runs
 -- steps that no channel sees
+pub mod Ways
 pub mod OwnTransitions
 pub mod FinishTransitions
 pub mod EndedTransitions

@@ -1,12 +1,12 @@
 -- An accepted move is a move of the rig that is read.
-use mathlib.Core.Path.{_≡_, refl, _∙_}
+use mathlib.Core.Path.{_≡_, refl, _∙_, sym}
 use mathlib.Core.Bool.{true}
 use mathlib.Core.List.{List, _++_}
 use Prim.Native.Nat.{ℕ, suc, _+_, _≤_}
 use native.Mathlib.Numerals.{add-one}
 use native.Mathlib.Omega.{arith}
 use lib.ListN.{length}
-use borrow.Author.Tests.{leb-true}
+use borrow.Author.Tests.{leb-true, eqb-false}
 use Rattle.base.specs.Choice.{within}
 use Rattle.base.proofs.Tests.{within-low, within-high}
 use Rattle.plan.specs.declared.TaskId.{TaskId}
@@ -26,11 +26,11 @@ use Rattle.rules.specs.declared.message.Message.the-variants.{Migration}
 use Rattle.rules.specs.declared.rule.Received.the-variants.{Nothing}
 use Rattle.rules.specs.declared.step.StepAnswer.the-variants.{Accepted}
 use Rattle.rules.specs.declared.system.System.{System}
-use Rattle.rules.specs.Tasks.{isIn, isChildless, departed}
+use Rattle.rules.specs.Tasks.{isIn, departed}
 use Rattle.rules.specs.Networks.{messagesOf}
-use Rattle.rules.specs.Systems.{taskAt, meaning}
+use Rattle.rules.specs.Systems.{taskAt, meaning, parentAt, withTask}
 use Rattle.rules.specs.Effects.{completed}
-use Rattle.rules.specs.Starts.{located}
+use Rattle.rules.specs.Starts.{located, pointing}
 use Rattle.rules.specs.Runs.{fits}
 use Rattle.rules.specs.Moves.{departureSending, moved, moveAnswer}
 use Rattle.rules.specs.Sound.{taskOk, systemOk}
@@ -45,7 +45,7 @@ use Rattle.channel.specs.Updates.{atNumber}
 use Rattle.channel.specs.Messages.{ChannelMessage}
 use Rattle.channel.specs.Views.{Sender, Receiver}
 use Rattle.channel.specs.Events.{placeGuard, placed}
-use Rattle.transitions.specs.Readings.{Reading, reading, withMessagesRead}
+use Rattle.transitions.specs.Readings.{Reading, reading, withMessagesRead, parentEntryOf}
 use Rattle.transitions.specs.Progress.{programOf}
 use Rattle.transitions.specs.Messages.{messageOn}
 use Rattle.transitions.specs.Views.{Histories, senderView, receiverView, tablesView, stateView, viewOf}
@@ -55,10 +55,13 @@ use Rattle.transitions.proofs.Updates.{at-task, at-other}
 use Rattle.transitions.proofs.Flats.{flat-post-nothing}
 use Rattle.transitions.proofs.Tasks.{blocked-in}
 use Rattle.transitions.proofs.EndSteps.{sender-ready, receiver-ready}
-use Rattle.transitions.proofs.Frames.{read-completed}
+use Rattle.transitions.proofs.Frames.{read-completed, parent-there}
 use Rattle.transitions.proofs.Rigs.{plan-accepted, is-task}
 use Rattle.transitions.proofs.Outcomes.{tables-hint, tables-same}
 use Rattle.transitions.proofs.PlaceViews.{sender-elsewhere, receiver-elsewhere, viewBy, placedRead, place-cases, read-placed, placed-network}
+use Rattle.rules.specs.Hints.{hint}
+use mathlib.Core.Logic.{_≢_}
+use Rattle.rules_laws.proofs.ParentAt.{withTask-parentAt}
 
 -- a ready task x with program g departs: what a channel of n desks sees at each end
 module _ (n : ℕ) (l : List ChannelMessage) (g : Program) (c : ChannelId) (x : Task) (ready : isIn Ready x ≡ true) (stands : 1 ≤ x .processor .0)
@@ -91,7 +94,9 @@ module _ (n : ℕ) (l : List ChannelMessage) (g : Program) (c : ChannelId) (x : 
 abbrev movedRead : Programs → TaskId → ProcessorId → Reading → Reading
 movedRead m t e x =
     let y = x .tasks t in
-    placedRead m t (departed y) (located e (y .moves + 1)) departureSending (y .processor .0) (x .messages ++ one (Migration e t)) x
+    let d = y .processor .0 in
+    placedRead m t (departed y) (pointing (x .parents t d) (hint e (y .moves + 1))) (located e (y .moves + 1)) departureSending d
+    (x .messages ++ one (Migration e t)) x
 
 module _ (m : Programs) (plan : planAnswer m ≡ PlanAccepted) (h : Histories) (x : Reading) (t : TaskId) (e : ProcessorId) where
   abbrev task : Task
@@ -111,7 +116,7 @@ module _ (m : Programs) (plan : planAnswer m ≡ PlanAccepted) (h : Histories) (
         let some = within-low 1 n (e .0) processor in
         let few = within-high 1 n (e .0) processor in
         place-cases m plan h then x t (within-low 1 (length m) (t .0) number) (λ u ne. at-other h t u _ ne)
-        (departed task) (located e (task .moves + 1)) departureSending (task .processor .0) (x .messages ++ one (Migration e t)) c low high
+        (departed task) (pointing (x .parents t (task .processor .0)) (hint e (task .moves + 1))) (located e (task .moves + 1)) departureSending (task .processor .0) (x .messages ++ one (Migration e t)) c low high
         (flat-post-nothing (messageOn c) (x .messages) (Migration e t) refl) Departing
         (λ s.
         rw (at-task h t (atNumber (h t) (suc (task .moves)) (e .0)))
@@ -119,17 +124,18 @@ module _ (m : Programs) (plan : planAnswer m ≡ PlanAccepted) (h : Histories) (
         (λ u. departs-sender n _ _ c task ready (b .processor) (x .entries c) (x .channels c) u)
         (λ v. none)
 
-    move-read : isChildless task ≡ true → MoveTransition m h then x (movedRead m t e x)
-    move-read alone =
+    move-read : task .processor .0 ≢ e .0 → MoveTransition m h then x (movedRead m t e x)
+    move-read other =
         record {
           task = t;
           to = e;
           number = number;
           ready = ready;
-          childless = alone;
           processor = processor;
+          elsewhere = other;
           history = refl;
           tasks = refl;
+          parents = refl;
           messages = refl;
           processors = refl;
           views = views-moved;
@@ -156,8 +162,15 @@ module _ (r : System) (shaped : Shaped r) (ok : systemOk r ≡ true) (h : Histor
       let b = settled (r .processors) (length (meaning r)) (programOf (meaning r) t) now Ready refl (p .ready) (run .tasks t number) in
       let few : now .processor .0 ≤ 6 = omega (arith, b .processor-few, run .few) in
       let pointer = located e (now .moves + 1) in
-      let network = placed-network r t (departed now) (now .processor) pointer departureSending in
-      let q = read-placed r shaped t (is-task r shaped ok t (p .task)) (departed now) (now .processor) (b .processor) few pointer departureSending in
+      let is = is-task r shaped ok t (p .task) in
+      let d = now .processor in
+      let kept : parentAt (withTask r t (departed now)) d t ≡ parentEntryOf r t (d .0) =
+      withTask-parentAt r t (departed now) d t ∙ sym (parent-there r t (d .0) is (b .processor)) in
+      let entry = pointing (parentAt (withTask r t (departed now)) d t) (hint e (now .moves + 1)) in
+      let then = pointing (parentEntryOf r t (d .0)) (hint e (now .moves + 1)) in
+      let network = placed-network r t (departed now) entry d pointer departureSending in
+      let q : reading (moved r t e .system) ≡ placedRead (meaning r) t (departed now) then pointer departureSending (d .0) ((reading r) .messages) (reading r) =
+      rw kept (read-placed r shaped t is (departed now) then d (b .processor) few pointer departureSending) in
       read-completed (moved r t e) (moved-keeps Shaped shaped-kept r t e shaped) (rw network (leb-true _ _ (p .fitting)))
       ∙ (λ i. withMessagesRead (q i) (q i .messages ++ one (Migration e t)))
 
@@ -167,5 +180,6 @@ module _ (r : System) (shaped : Shaped r) (ok : systemOk r ≡ true) (h : Histor
   move-transition =
       let p = move-passed r t e accepted in
       let plan = plan-accepted r shaped ok in
-      let transition = move-read (meaning r) plan h (reading r) t e number (p .ready) (p .processor) (run .tasks t number) (p .childless) in
+      let transition = move-read (meaning r) plan h (reading r) t e number (p .ready) (p .processor) (run .tasks t number)
+      (eqb-false (now .processor .0) (e .0) (p .elsewhere)) in
       (sentTo h t (suc (now .moves)) e, rw read-moved transition)

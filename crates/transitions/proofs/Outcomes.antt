@@ -306,6 +306,7 @@ module _ (m : Programs) (a : planAnswer m ≡ Accepted) (h : Histories) (x : Rea
         receiver-end-step = ends .receiver;
         passing = passing;
         ran = ran (y .tasks) (sender-then m a x c o ends) (receiver-then m a x c o ends);
+        parents = refl;
         processors = refl;
         other-messages = network .others;
         ended = network .ended;

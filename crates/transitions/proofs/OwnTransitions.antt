@@ -133,6 +133,7 @@ module _ (r : System) (shaped : Shaped r) (ok : systemOk r ≡ true) (h : Histor
         then = then;
         own = own;
         tasks = refl;
+        parents = refl;
         messages = refl;
         unseen = unseen-of (meaning r) h (reading r) (withTaskRead (reading r) t then) refl refl refl (λ c. refl) alike;
       })

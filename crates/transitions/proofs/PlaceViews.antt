@@ -27,7 +27,7 @@ use Rattle.rules.specs.declared.message.Message.{Message}
 use Rattle.rules.specs.Numbers.{channelNumberOk}
 use Rattle.rules.specs.Places.{isOn}
 use Rattle.rules.specs.declared.system.System.{System}
-use Rattle.rules.specs.Systems.{withTask, meaning}
+use Rattle.rules.specs.Systems.{withTask, meaning, withParent}
 use Rattle.rules.specs.Effects.{receivesOn, sendsOn, forReceiving, forSending}
 use Rattle.rules_laws.specs.Shapes.{Shaped}
 use Rattle.rules_laws.proofs.TaskAt.{withTask-plan, withTask-network, withTask-shaped}
@@ -37,13 +37,15 @@ use Rattle.channel.specs.Updates.{atNumber}
 use Rattle.channel.specs.Messages.{ChannelMessage}
 use Rattle.channel.specs.Views.{Sender, Receiver, View}
 use Rattle.channel.proofs.Updates.{at-self}
-use Rattle.transitions.specs.Readings.{Reading, reading, cellOf, withTaskRead, withMessagesRead, forChannelsRead}
+use Rattle.transitions.specs.Readings.{Reading, reading, cellOf, withTaskRead, withMessagesRead, forChannelsRead, withParentRead}
 use Rattle.transitions.specs.Progress.{programOf, isBlocked}
 use Rattle.transitions.specs.Messages.{messagesOn}
 use Rattle.transitions.specs.Views.{Histories, senderView, receiverView, tablesView, stateView, viewOf}
 use Rattle.transitions.proofs.Updates.{at-task, at-other}
 use Rattle.transitions.proofs.Tasks.{not-receiving, completed-free, off-in, not-sending}
-use Rattle.transitions.proofs.Frames.{IsTask, read-task, read-forChannels}
+use Rattle.transitions.proofs.Frames.{IsTask, read-task, read-forChannels, read-parent}
+use Rattle.rules.specs.declared.system.ParentEntry.{ParentEntry}
+use Rattle.rules_laws.proofs.ParentAt.{withParent-plan, withParent-network, withParent-shaped}
 
 -- a task that has completed all that it has executed neither sends nor receives
 free-on : (g : Program) (c : ChannelId) (x : Task) → isBlocked x ≡ false → (isOn Sending g c x ≡ false) × (isOn Receiving g c x ≡ false)
@@ -71,23 +73,24 @@ module _ (g : Program) (c : ChannelId) (x x' : Task) (f : isBlocked x ≡ false)
 abbrev pub viewBy : ℕ → List ChannelMessage → Sender → Receiver → (ℕ → Entry) → Channel → View
 viewBy n l s u entries k = record { processors = n; sender = s; receiver = u; tables = tablesView entries; state = stateView k; messages = l }
 
--- task t becomes x', and its receiving and its sending channels follow the two rules at desk d; the letters ms are in the mail
-abbrev pub placedRead : Programs → TaskId → Task → (Cell → Cell) → (Cell → Cell) → ℕ → List Message → Reading → Reading
-placedRead m t x' receiving sending d ms x =
-    forChannelsRead (sendsOn m t) sending d (forChannelsRead (receivesOn m t) receiving d (withTaskRead (withMessagesRead x ms) t x'))
+-- task t becomes x', desk d keeps e for it, and its receiving and its sending channels follow the two rules there; the letters ms are in the mail
+abbrev pub placedRead : Programs → TaskId → Task → ParentEntry → (Cell → Cell) → (Cell → Cell) → ℕ → List Message → Reading → Reading
+placedRead m t x' e receiving sending d ms x =
+    forChannelsRead (sendsOn m t) sending d
+    (forChannelsRead (receivesOn m t) receiving d (withParentRead (withTaskRead (withMessagesRead x ms) t x') t d e))
 
 pub same-parts : (n : ℕ) {l l' : List ChannelMessage} {s s' : Sender} {u u' : Receiver} {e e' : ℕ → Entry} {k k' : Channel}
     → l ≡ l' → s ≡ s' → u ≡ u' → e ≡ e' → k ≡ k' → viewBy n l s u e k ≡ viewBy n l' s' u' e' k'
 same-parts n l s u e k = λ i. viewBy n (l i) (s i) (u i) (e i) (k i)
 
 module _ (m : Programs) (plan : planAnswer m ≡ Accepted) (h h' : Histories) (x : Reading) (t : TaskId) (some : 1 ≤ t .0)
-    (kept : (u : TaskId) → u .0 ≢ t .0 → h' u ≡ h u) (x' : Task) (receiving sending : Cell → Cell) (d : ℕ) (ms : List Message)
+    (kept : (u : TaskId) → u .0 ≢ t .0 → h' u ≡ h u) (x' : Task) (entry : ParentEntry) (receiving sending : Cell → Cell) (d : ℕ) (ms : List Message)
     (c : ChannelId) (low : 1 ≤ c .0) (high : c .0 ≤ 128) (network : messagesOn c ms ≡ messagesOn c (x .messages)) where
   abbrev here : Cell
   here = cellOf x c d
 
   abbrev then : Reading
-  then = placedRead m t x' receiving sending d ms x
+  then = placedRead m t x' entry receiving sending d ms x
 
   abbrev parts : Sender → Receiver → (ℕ → Entry) → Channel → View
   parts = viewBy (x .processors) (messagesOn c (x .messages))
@@ -161,33 +164,47 @@ forChannels-none test d x =
       tasks = x .tasks;
       entries = fun-ext (λ (c : ChannelId). pick-either (λ f. f ≡ x .entries c) (channelNumberOk c && test c) _ _ (at-self (x .entries c) d) refl) i;
       channels = fun-ext (λ (c : ChannelId). pick-either (λ k. k ≡ x .channels c) (channelNumberOk c && test c) _ _ refl refl) i;
+      parents = x .parents;
       messages = x .messages;
     }
 
 -- what is read of a rig of which a task and its channels are so changed
-module _ (r : System) (shaped : Shaped r) (t : TaskId) (is : IsTask t) (x' : Task) (d : ProcessorId) (some : 1 ≤ d .0) (few : d .0 ≤ 6) where
+module _ (r : System) (shaped : Shaped r) (t : TaskId) (is : IsTask t) (x' : Task) (entry : ParentEntry) (d : ProcessorId) (some : 1 ≤ d .0) (few : d .0 ≤ 6) where
+  abbrev q : System
+  q = withParent (withTask r t x') d t entry
+
+  q-shaped : Shaped q
+  q-shaped = withParent-shaped (withTask r t x') d t entry (withTask-shaped r t x' shaped)
+
+  q-plan : q .plan ≡ r .plan
+  q-plan = withParent-plan (withTask r t x') d t entry ∙ withTask-plan r t x'
+
+  q-read : reading q ≡ withParentRead (withTaskRead (reading r) t x') t (d .0) entry
+  q-read =
+      read-parent (withTask r t x') (withTask-shaped r t x' shaped) d t entry is some few
+      ∙ ap (λ (y : Reading). withParentRead y t (d .0) entry) (read-task r shaped t x' is)
+
   pub read-receiving : (receiving : Cell → Cell)
-      → reading (forReceiving (withTask r t x') t d receiving)
-      ≡ forChannelsRead (receivesOn (meaning r) t) receiving (d .0) (withTaskRead (reading r) t x')
+      → reading (forReceiving q t d receiving)
+      ≡ forChannelsRead (receivesOn (meaning r) t) receiving (d .0) (withParentRead (withTaskRead (reading r) t x') t (d .0) entry)
   read-receiving receiving =
-      let q = withTask r t x' in
-      let same : meaning q ≡ meaning r = ap programs (withTask-plan r t x') in
-      read-forChannels q (withTask-shaped r t x' shaped) (receivesOn (meaning q) t) receiving d some few
-      ∙ (λ i. forChannelsRead (receivesOn (same i) t) receiving (d .0) (read-task r shaped t x' is i))
+      let same : meaning q ≡ meaning r = ap programs q-plan in
+      read-forChannels q q-shaped (receivesOn (meaning q) t) receiving d some few
+      ∙ (λ i. forChannelsRead (receivesOn (same i) t) receiving (d .0) (q-read i))
 
   pub read-placed : (receiving sending : Cell → Cell)
-      → reading (forSending (forReceiving (withTask r t x') t d receiving) t d sending)
-      ≡ placedRead (meaning r) t x' receiving sending (d .0) ((reading r) .messages) (reading r)
+      → reading (forSending (forReceiving q t d receiving) t d sending)
+      ≡ placedRead (meaning r) t x' entry receiving sending (d .0) ((reading r) .messages) (reading r)
   read-placed receiving sending =
-      let q = withTask r t x' in
       let y = forReceiving q t d receiving in
       let test = receivesOn (meaning q) t in
-      let same : meaning y ≡ meaning r = ap programs (forChannels-plan test receiving d 128 q ∙ withTask-plan r t x') in
-      read-forChannels y (forChannels-shaped test receiving d 128 q (withTask-shaped r t x' shaped)) (sendsOn (meaning y) t) sending d some few
+      let same : meaning y ≡ meaning r = ap programs (forChannels-plan test receiving d 128 q ∙ q-plan) in
+      read-forChannels y (forChannels-shaped test receiving d 128 q q-shaped) (sendsOn (meaning y) t) sending d some few
       ∙ (λ i. forChannelsRead (sendsOn (same i) t) sending (d .0) (read-receiving receiving i))
 
 -- .. and of its mail nothing has changed
-pub placed-network : (r : System) (t : TaskId) (x' : Task) (d : ProcessorId) (receiving sending : Cell → Cell)
-    → forSending (forReceiving (withTask r t x') t d receiving) t d sending .network ≡ r .network
-placed-network r t x' d receiving sending =
-    forChannels-network _ sending d 128 _ ∙ (forChannels-network _ receiving d 128 _ ∙ withTask-network r t x')
+pub placed-network : (r : System) (t : TaskId) (x' : Task) (entry : ParentEntry) (d : ProcessorId) (receiving sending : Cell → Cell)
+    → forSending (forReceiving (withParent (withTask r t x') d t entry) t d receiving) t d sending .network ≡ r .network
+placed-network r t x' entry d receiving sending =
+    forChannels-network _ sending d 128 _
+    ∙ (forChannels-network _ receiving d 128 _ ∙ (withParent-network (withTask r t x') d t entry ∙ withTask-network r t x'))

@@ -130,7 +130,7 @@ unborn-is n m g x h e =
     record {
       nowhere = eqb-true (x .processor .0) 0 (and-left (isNone (x .processor)) _ all);
       place = eqb-true (x .pc) 1 (and-left (eqb (x .pc) 1) _ rest);
-      unmoved = eqb-true (x .moves) 0 (and-right (isNone (x .home)) _ end);
+      unmoved = eqb-true (x .moves) 0 end;
     }
 
 -- a ready task and an unborn one are two
@@ -228,7 +228,7 @@ waits-in m x none tasks side t high e =
 -- What no transfer changes.
 pub record Steady (x z : Task) : Type 0 where
   pub processor : z .processor ≡ x .processor
-  pub home : z .home ≡ x .home
+  pub origin : z .origin ≡ x .origin
   pub moves : z .moves ≡ x .moves
   pub children : z .children ≡ x .children
   pub unborn : isIn Unborn z ≡ isIn Unborn x
@@ -236,7 +236,7 @@ pub record Steady (x z : Task) : Type 0 where
   pub done : isIn Done z ≡ isIn Done x
 
 pub unchanged : (x : Task) → Steady x x
-unchanged x = record { processor = refl; home = refl; moves = refl; children = refl; unborn = refl; moving = refl; done = refl }
+unchanged x = record { processor = refl; origin = refl; moves = refl; children = refl; unborn = refl; moving = refl; done = refl }
 
 -- a state that is neither unborn, moving nor done
 pub record Stands (s : TaskState) : Type 0 where
@@ -260,7 +260,7 @@ pub steady-change : {s z : TaskState} → Stands s → Stands z → (x : Task) �
 steady-change {s} {z} p q x e n w =
     record {
       processor = refl;
-      home = refl;
+      origin = refl;
       moves = refl;
       children = refl;
       unborn = q .unborn ∙ sym (state-is s Unborn x e ∙ p .unborn);

@@ -56,7 +56,7 @@ module _ (g : Program) where
   no-use : (k : ℕ) (c : ChannelId) (n : ℕ) → eqb (instructionAt g n .opcode) k ≡ false → useNumber k g c (suc n) ≡ useNumber k g c n
   no-use k c n e = rw (use-more k g c n, e) (omega arith)
 
-  alike-same : (x : Task) → SeenAlike g x x
+  pub alike-same : (x : Task) → SeenAlike g x x
   alike-same x = record { sender = λ c. refl; receiver = λ c history. refl }
 
   pub alike-then : (x y z : Task) → SeenAlike g x y → SeenAlike g y z → SeenAlike g x z

@@ -60,8 +60,9 @@ pub record Running (m : Programs) (h : Histories) (s : Net) (x : Reading) (recei
   pub few : x .processors ≤ 6
   pub tasks : TasksOk m x
   pub views : (c : ChannelId) → 1 ≤ c .0 → c .0 ≤ 128 → Invariant (viewOf m h x c)
-  pub places : (t : TaskId) → within 1 (length m) (t .0) ≡ true → Placed (x .processors) (h t) (x .tasks t) (moversOf t (x .messages))
-  pub children : (u : TaskId) → within 2 (length m) (u .0) ≡ true → Child u (x .tasks (parentOf m u)) (x .tasks u) (endedOf u (x .messages))
+  pub places : (t : TaskId) → within 1 (length m) (t .0) ≡ true → Placed (x .processors) (h t) (x .tasks t) (x .parents t) (moversOf t (x .messages))
+  pub children : (u : TaskId) → within 2 (length m) (u .0) ≡ true
+      → Child u (h (parentOf m u)) (x .tasks (parentOf m u)) (x .tasks u) (x .parents (parentOf m u)) (endedOf u (x .messages))
   pub kin : Kin m (x .tasks)
   -- task 1 has no parent, so that no ended letter names it
   pub root : endedOf (taskId 1) (x .messages) ≡ []

@@ -10,6 +10,7 @@ use Rattle.rules.specs.declared.message.Message.{Message}
 use Rattle.rules.specs.declared.message.Message.the-variants.{Empty, Offered, Advert, ReadyToReceive, Data, Terminated, Migration}
 use Rattle.channel.specs.Bags.{one}
 use Rattle.channel.specs.Messages.{ChannelMessage, offer, advert, call, word}
+use Rattle.rules.specs.declared.channel.Hint.{Hint}
 
 -- each element gives a list; these, in order
 unfoldable pub flat : {A B : Type 0} → (A → List B) → List A → List B
@@ -22,7 +23,7 @@ messageOn c (Offered e o h) = pick (sameChannel e c) (one (offer (h .processor .
 messageOn c (Advert e d from) = pick (sameChannel e c) (one (advert (d .0) (from .0))) []
 messageOn c (ReadyToReceive e d h) = pick (sameChannel e c) (one (call (d .0) (h .processor .0) (h .moves))) []
 messageOn c (Data e d w) = pick (sameChannel e c) (one (word (d .0) w)) []
-messageOn c (Terminated d t) = []
+messageOn c (Terminated h t) = []
 messageOn c (Migration d t) = []
 
 abbrev pub messagesOn : ChannelId → List Message → List ChannelMessage
@@ -37,14 +38,14 @@ wordIn (word to x) = one x
 abbrev pub wordsIn : List ChannelMessage → List Word
 wordsIn ls = flat wordIn ls
 
--- where the ended letters of task t go to, and its mover letters
-unfoldable pub endedTo : TaskId → Message → List ℕ
+-- the pointers along which the ended letters of task t go, and where its mover letters go to
+unfoldable pub endedTo : TaskId → Message → List Hint
 endedTo t Empty = []
 endedTo t (Offered c o h) = []
 endedTo t (Advert c d from) = []
 endedTo t (ReadyToReceive c d h) = []
 endedTo t (Data c d w) = []
-endedTo t (Terminated d u) = pick (sameTask u t) (one (d .0)) []
+endedTo t (Terminated h u) = pick (sameTask u t) (one h) []
 endedTo t (Migration d u) = []
 
 unfoldable pub moverTo : TaskId → Message → List ℕ
@@ -53,10 +54,10 @@ moverTo t (Offered c o h) = []
 moverTo t (Advert c d from) = []
 moverTo t (ReadyToReceive c d h) = []
 moverTo t (Data c d w) = []
-moverTo t (Terminated d u) = []
+moverTo t (Terminated h u) = []
 moverTo t (Migration d u) = pick (sameTask u t) (one (d .0)) []
 
-abbrev pub endedOf : TaskId → List Message → List ℕ
+abbrev pub endedOf : TaskId → List Message → List Hint
 endedOf t ms = flat (endedTo t) ms
 
 abbrev pub moversOf : TaskId → List Message → List ℕ

@@ -5,7 +5,7 @@ use mathlib.Core.Logic.{_≢_}
 use mathlib.Core.Bool.{true, false}
 use mathlib.Core.List.{List, [], _++_}
 use mathlib.Core.Option.{some}
-use Prim.Native.Nat.{ℕ, suc, _+_, _≤_}
+use Prim.Native.Nat.{ℕ, suc, _+_, _≤_, _<_}
 use lib.ListN.{length, getElem?}
 use Rattle.base.specs.Choice.{within}
 use Rattle.base.specs.Sets.{member}
@@ -23,9 +23,9 @@ use Rattle.rules.specs.declared.task.Task.{Task}
 use Rattle.rules.specs.declared.message.Message.the-variants.{Terminated, Migration}
 use Rattle.rules.specs.declared.rule.Received.{Received}
 use Rattle.rules.specs.declared.rule.Received.the-variants.{Nothing, Word as GotWord}
-use Rattle.rules.specs.Tasks.{isIn, isAt, isChildless, withState, withWord, withOverflow, advanced, born, departed, arrived, withoutChild}
+use Rattle.rules.specs.Tasks.{isIn, isChildless, withState, withWord, withOverflow, advanced, born, departed, arrived, withoutChild, withoutChildren}
 use Rattle.rules.specs.Places.{nextIn}
-use Rattle.rules.specs.Local.{createRule}
+use Rattle.rules.specs.Local.{createRule, holdingChild}
 use Rattle.net.specs.States.{atTask}
 use Rattle.net.specs.Labels.{isCreate, isJoin, isTransfer}
 use Rattle.net.specs.Effects.{wordAfter, overflowAfter}
@@ -34,11 +34,16 @@ use Rattle.channel.specs.Bags.{one, without}
 use Rattle.channel.specs.Views.{View}
 use Rattle.channel.specs.Events.{Event, Transfer, Delivery, transfer, delivery, guard, after, sender-born, sender-arrives, receiver-born}
 use Rattle.channel.specs.Events.{receiver-arrives, sender-departs, receiver-departs, placeGuard, placed}
-use Rattle.transitions.specs.Readings.{Reading}
+use Rattle.transitions.specs.Readings.{Reading, keptFor}
 use Rattle.transitions.specs.Progress.{programOf}
 use Rattle.transitions.specs.Messages.{messagesOn, wordsIn, endedOf, moversOf}
 use Rattle.transitions.specs.Views.{Histories, viewOf}
 use Rattle.transitions.specs.EndSteps.{EndStep}
+use Rattle.rules.specs.declared.channel.Hint.{Hint}
+use Rattle.rules.specs.Hints.{hint}
+use Rattle.rules.specs.Starts.{pointing}
+use Rattle.rules.specs.Arrivals.{arrivalParent}
+use Rattle.channel.specs.Hints.{Way, Coming}
 
 -- How a word passes a channel c: the sender's word, the words under way before, how many instructions the sender and the receiver complete, the
 -- receiver's word then, the words under way after, and what is reported as received
@@ -79,6 +84,7 @@ pub record ChannelTransition (m : Programs) (h : Histories) (x y : Reading) (e :
   pub passing : Passing channel (x .tasks (senderOf m channel) .word) (wordsIn (messagesOn channel (x .messages))) sent got value
       (wordsIn (messagesOn channel (y .messages))) received
   pub ran : Ran m (senderOf m channel) (receiverOf m channel) (x .tasks) (y .tasks) e
+  pub parents : y .parents ≡ x .parents
   -- the mail: other letters stay
   pub processors : y .processors ≡ x .processors
   pub other-messages : (d : ChannelId) → d .0 ≢ channel .0 → messagesOn d (y .messages) ≡ messagesOn d (x .messages)
@@ -117,6 +123,7 @@ pub record OwnTransition (m : Programs) (h : Histories) (x y : Reading) : Type 0
   pub then : Task
   pub own : Own instruction (x .tasks task) then
   pub tasks : y .tasks ≡ atTask (x .tasks) task then
+  pub parents : y .parents ≡ x .parents
   pub messages : y .messages ≡ x .messages
   pub unseen : Unseen m h x y
 
@@ -134,7 +141,7 @@ pub data Departing (v : View) : View → Type 0 where
   sender-departure : placeGuard sender-departs v → Departing v (placed sender-departs v)
   receiver-departure : (e : ℕ) → placeGuard (receiver-departs e) v → Departing v (placed (receiver-departs e) v)
 
--- create: the history of the child begins
+-- create: the history of the child begins, and the desk's pointer to it is set
 abbrev pub sentTo : Histories → TaskId → ℕ → ProcessorId → Histories
 sentTo h t k d = atTask h t (atNumber (h t) k (d .0))
 
@@ -146,7 +153,11 @@ pub record CreateTransition (m : Programs) (h h' : Histories) (x y : Reading) : 
   pub creates : isUse opCreate (child .0) instruction ≡ true
   pub unborn : isIn Unborn (x .tasks child) ≡ true
   pub history : h' ≡ sentTo h child 1 (x .tasks task .processor)
-  pub tasks : y .tasks ≡ atTask (atTask (x .tasks) task (createRule (x .tasks task) child)) child (born (x .tasks task .processor))
+  pub tasks : y .tasks
+      ≡ atTask (atTask (x .tasks) task (createRule (x .tasks task) child)) child
+      (born (x .tasks task .processor) (hint (x .tasks task .processor) (x .tasks task .moves)))
+  pub parents : y .parents
+      ≡ keptFor x child (x .tasks task .processor .0) (pointing (x .parents child (x .tasks task .processor .0)) (hint (x .tasks task .processor) 1))
   pub messages : y .messages ≡ x .messages
   pub processors : y .processors ≡ x .processors
   pub views : (c : ChannelId) → 1 ≤ c .0 → c .0 ≤ 128 → Placing (viewOf m h x c) (viewOf m h' y c)
@@ -154,14 +165,14 @@ pub record CreateTransition (m : Programs) (h h' : Histories) (x y : Reading) : 
 abbrev pub finished : Task → Task
 finished x = advanced (withState x Done)
 
--- what a finish of task t does: task 1 has no parent, a parent at the same desk loses the child, one elsewhere gets a letter
-pub data Finishing (m : Programs) (x y : Reading) (t : TaskId) : Type 0 where
-  alone : t ≡ taskId 1 → y .tasks ≡ atTask (x .tasks) t (finished (x .tasks t)) → y .messages ≡ x .messages → Finishing m x y t
-  near : t .0 ≢ 1 → isAt (x .tasks t .processor) (x .tasks (parentOf m t)) ≡ true
-      → y .tasks ≡ atTask (atTask (x .tasks) (parentOf m t) (withoutChild (x .tasks (parentOf m t)) t)) t (finished (x .tasks t))
-      → y .messages ≡ x .messages → Finishing m x y t
-  away : t .0 ≢ 1 → isAt (x .tasks t .processor) (x .tasks (parentOf m t)) ≡ false → y .tasks ≡ atTask (x .tasks) t (finished (x .tasks t))
-      → y .messages ≡ x .messages ++ one (Terminated (x .tasks t .home) t) → Finishing m x y t
+-- what a finish of task t does: task 1 has no parent, a parent at the same desk loses the child, one elsewhere gets a letter along a pointer that
+-- says where it was sent. No child is held at its own finish
+pub data Finishing (m : Programs) (h : Histories) (x y : Reading) (t : TaskId) : Type 0 where
+  alone : t ≡ taskId 1 → y .tasks ≡ atTask (x .tasks) t (finished (x .tasks t)) → y .messages ≡ x .messages → Finishing m h x y t
+  near : t .0 ≢ 1 → y .tasks ≡ atTask (atTask (x .tasks) (parentOf m t) (withoutChild (x .tasks (parentOf m t)) t)) t (finished (x .tasks t))
+      → y .messages ≡ x .messages → Finishing m h x y t
+  away : (along : Hint) → t .0 ≢ 1 → Way (h (parentOf m t)) (x .tasks (parentOf m t) .moves) (along .processor .0) (along .moves)
+      → y .tasks ≡ atTask (x .tasks) t (finished (x .tasks t)) → y .messages ≡ x .messages ++ one (Terminated along t) → Finishing m h x y t
 
 pub record FinishTransition (m : Programs) (h : Histories) (x y : Reading) : Type 0 where
   pub task : TaskId
@@ -169,23 +180,36 @@ pub record FinishTransition (m : Programs) (h : Histories) (x y : Reading) : Typ
   pub runs : Runs m x task instruction
   pub finishes : isFinish instruction ≡ true
   pub childless : isChildless (x .tasks task) ≡ true
-  pub finishing : Finishing m x y task
+  pub finishing : Finishing m h x y task
+  pub parents : y .parents ≡ x .parents
   pub unseen : Unseen m h x y
 
--- an ended letter for child t at desk d, at place p of the mail, from 0; its parent is there, with that child living
+-- what an ended letter for child t does, which came along a pointer and stood at place p of the mail: the parent is there and loses the child;
+-- the desk's pointer has a larger count and the letter follows it; the child is held where its parent is about to arrive
+pub data Ending (m : Programs) (h : Histories) (x y : Reading) (p : ℕ) (along : Hint) (t : TaskId) : Type 0 where
+  taken : y .tasks ≡ atTask (x .tasks) (parentOf m t) (withoutChild (x .tasks (parentOf m t)) t) → y .messages ≡ without (x .messages) p
+      → y .parents ≡ x .parents → Ending m h x y p along t
+  onward : along .moves < x .parents (parentOf m t) (along .processor .0) .hint .moves → y .tasks ≡ x .tasks
+      → y .messages ≡ without (x .messages) p ++ one (Terminated (x .parents (parentOf m t) (along .processor .0) .hint) t)
+      → y .parents ≡ x .parents → Ending m h x y p along t
+  holds : Coming (x .tasks (parentOf m t) .processor .0) (x .tasks (parentOf m t) .moves) (along .processor .0)
+      (h (parentOf m t) (x .tasks (parentOf m t) .moves))
+      → y .tasks ≡ x .tasks → y .messages ≡ without (x .messages) p
+      → y .parents ≡ keptFor x (parentOf m t) (along .processor .0) (holdingChild (x .parents (parentOf m t) (along .processor .0)) t)
+      → Ending m h x y p along t
+
+-- an ended letter, at place p of the mail, from 0; its child is in the parent's set
 pub record EndedTransition (m : Programs) (h : Histories) (x y : Reading) : Type 0 where
   pub p : ℕ
-  pub at : ProcessorId
+  pub along : Hint
   pub task : TaskId
-  pub message : getElem? (x .messages) p ≡ some (Terminated at task)
+  pub message : getElem? (x .messages) p ≡ some (Terminated along task)
   pub number : within 2 (length m) (task .0) ≡ true
-  pub here : isAt at (x .tasks (parentOf m task)) ≡ true
   pub living : member (task .0) (x .tasks (parentOf m task) .children) ≡ true
-  pub tasks : y .tasks ≡ atTask (x .tasks) (parentOf m task) (withoutChild (x .tasks (parentOf m task)) task)
-  pub messages : y .messages ≡ without (x .messages) p
+  pub ending : Ending m h x y p along task
   pub unseen : Unseen m h x y
 
--- a mover letter for task t at desk d; the task is moving, and was sent here
+-- a mover letter for task t at desk d; the task is moving, and was sent here; it loses the children that are held here
 pub record ArrivalTransition (m : Programs) (h : Histories) (x y : Reading) : Type 0 where
   pub p : ℕ
   pub at : ProcessorId
@@ -194,21 +218,25 @@ pub record ArrivalTransition (m : Programs) (h : Histories) (x y : Reading) : Ty
   pub number : within 1 (length m) (task .0) ≡ true
   pub moving : isIn Moving (x .tasks task) ≡ true
   pub sent : at .0 ≡ h task (x .tasks task .moves)
-  pub tasks : y .tasks ≡ atTask (x .tasks) task (arrived (x .tasks task) at)
+  pub tasks : y .tasks ≡ atTask (x .tasks) task (withoutChildren (arrived (x .tasks task) at) (x .parents task (at .0) .held))
+  pub parents : y .parents ≡ keptFor x task (at .0) (arrivalParent at (x .tasks task .moves))
   pub messages : y .messages ≡ without (x .messages) p
   pub processors : y .processors ≡ x .processors
   pub views : (c : ChannelId) → 1 ≤ c .0 → c .0 ≤ 128 → Placing (viewOf m h x c) (viewOf m h y c)
 
--- a move of task t to desk `to`: its history goes on
+-- a move of task t to another desk `to`: its history goes on, and the pointer of the desk that it leaves is set
 pub record MoveTransition (m : Programs) (h h' : Histories) (x y : Reading) : Type 0 where
   pub task : TaskId
   pub to : ProcessorId
   pub number : within 1 (length m) (task .0) ≡ true
   pub ready : isIn Ready (x .tasks task) ≡ true
-  pub childless : isChildless (x .tasks task) ≡ true
   pub processor : within 1 (x .processors) (to .0) ≡ true
+  pub elsewhere : x .tasks task .processor .0 ≢ to .0
   pub history : h' ≡ sentTo h task (suc (x .tasks task .moves)) to
   pub tasks : y .tasks ≡ atTask (x .tasks) task (departed (x .tasks task))
+  pub parents : y .parents
+      ≡ keptFor x task (x .tasks task .processor .0)
+      (pointing (x .parents task (x .tasks task .processor .0)) (hint to (x .tasks task .moves + 1)))
   pub messages : y .messages ≡ x .messages ++ one (Migration to task)
   pub processors : y .processors ≡ x .processors
   pub views : (c : ChannelId) → 1 ≤ c .0 → c .0 ≤ 128 → Departing (viewOf m h x c) (viewOf m h' y c)

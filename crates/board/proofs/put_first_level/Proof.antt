@@ -4,7 +4,7 @@ use native.Mathlib.Omega.{arith}
 use lib.ListN.{length-set}
 use borrow.Author.Needs.{needs}
 use borrow.Author.Tests.{ne-eqb}
-use Rattle.board.proofs.Stores.{NarrowTask, word-read, first-number, task-written, channels-kept}
+use Rattle.board.proofs.Stores.{NarrowTask, word-read, first-number, task-written, channels-kept, parents-kept}
 use Rattle.board.proofs.put_first_level.Statement.{statement}
 use Rattle.plan.specs.declared.Word.{Word}
 use Rattle.rules.specs.Systems.{taskStored}
@@ -60,7 +60,9 @@ element-write-board-3 : tie.Need-element-write-board-3
 element-write-board-3 c = search needs
 
 small : (s : tie.Start) → NarrowTask (s .args .x)
-small s = search needs
+small s =
+    let g = s .good .1 .1 in
+    (omega (arith, g), omega (arith, g), omega (arith, g), omega (arith, g), omega (arith, g), (omega (arith, g), omega (arith, g), omega (arith, g), omega (arith, g)))
 
 returns : tie.Need-returns
 unfolding taskStored
@@ -75,7 +77,7 @@ returns c =
     let w = c .before .task-word .ensures in
     let same = subst (λ (u : Word). SameAbove u (x .word)) (word-read board t m (omega arith) (omega arith)) (s .pre .3) in
     let v = c .with-first-level .ensures ∙ first-number _ (x .word) same in
-    (simp (length-set, long), rw (ne-eqb (t .0) 0 (λ q. omega arith)) (task-written board (t .0) x m (omega arith) (omega arith) long w v (small s)), channels-kept board (t .0) x m (omega arith) (omega arith) long w v (small s))
+    (simp (length-set, long), rw (ne-eqb (t .0) 0 (λ q. omega arith)) (task-written board (t .0) x m (omega arith) (omega arith) long w v (small s)), channels-kept board (t .0) x m (omega arith) (omega arith) long w v (small s), parents-kept board (t .0) x m (omega arith) (omega arith) long w v (small s))
 
 pub put-first-level-spec : {M : Type 1} → statement M
 put-first-level-spec =

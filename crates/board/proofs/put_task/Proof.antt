@@ -4,7 +4,7 @@ use native.Mathlib.Omega.{arith}
 use lib.ListN.{length-set}
 use borrow.Author.Needs.{needs}
 use borrow.Author.Tests.{ne-eqb}
-use Rattle.board.proofs.Stores.{task-written, channels-kept}
+use Rattle.board.proofs.Stores.{NarrowTask, task-written, channels-kept, parents-kept}
 use Rattle.board.proofs.put_task.Statement.{statement}
 use Rattle.rules.specs.Systems.{taskStored}
 use Rattle.board.proofs.put_task.Tie as tie
@@ -59,13 +59,15 @@ returns c =
     let long = s .pre .1 in
     let w = c .before .task-word .ensures in
     let v = c .word-number .ensures in
-    (simp (length-set, long), rw (ne-eqb n 0 (λ q. omega arith)) (task-written board n x m (omega arith) (omega arith) long w v (search needs)), channels-kept board n x m (omega arith) (omega arith) long w v (search needs))
+    let g = s .good .1 .1 in
+    let small : NarrowTask x = (omega (arith, g), omega (arith, g), omega (arith, g), omega (arith, g), omega (arith, g), (omega (arith, g), omega (arith, g), omega (arith, g), omega (arith, g))) in
+    (simp (length-set, long), rw (ne-eqb n 0 (λ q. omega arith)) (task-written board n x m (omega arith) (omega arith) long w v small), channels-kept board n x m (omega arith) (omega arith) long w v small, parents-kept board n x m (omega arith) (omega arith) long w v small)
 
 returns-2 : tie.Need-returns-2
 unfolding taskStored
 returns-2 c =
     let e : c .before .before .args .t .0 ≡ 0 = omega arith in
-    (c .before .before .pre .1, rw e refl, refl)
+    (c .before .before .pre .1, rw e refl, refl, refl)
 
 pub put-task-spec : {M : Type 1} → statement M
 put-task-spec =

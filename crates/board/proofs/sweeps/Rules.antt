@@ -11,7 +11,8 @@ use Rattle.rules.specs.declared.channel.Cell.{Cell}
 use Rattle.rules.specs.declared.channel.Channel.{Channel}
 use Rattle.rules.specs.declared.channel.Hint.{Hint}
 use Rattle.rules.specs.declared.channel.Offer.{Offer}
-use Rattle.rules.specs.Cells.{hint, newer, larger, noOffer, unknown, withHint, withHeld, withCarried, withTravelling}
+use Rattle.rules.specs.Hints.{newer}
+use Rattle.rules.specs.Cells.{hint, larger, noOffer, unknown, withHint, withHeld, withCarried, withTravelling}
 use Rattle.rules.specs.Systems.{entryIndex, readChannel, cellIn, cellStored}
 use Rattle.rules.specs.Starts.{located}
 use Rattle.rules.specs.Arrivals.{takenOver, arrivalReceiving, arrivalSending}
@@ -69,7 +70,7 @@ module _ (hp hm op on notes board : List ℕ) (d : ProcessorId) (c : ChannelId) 
   held-kept = (sym (set-getD op (entryIndex d c) 0), sym (set-getD on (entryIndex d c) 0))
 
   channel-kept : Whole board → ChannelPut (c .0 - 1) (cell .channel) board board
-  channel-kept w = (w, simp set-getD, refl)
+  channel-kept w = (w, simp set-getD, refl, refl)
 
   -- the rule makes x of the cell, and x is stored
   ruled : (rule : CellRule) (x : Cell) → ruleOf rule cell ≡ x → x .entry .noted ≡ noteIn notes d c → {hp' hm' op' on' board' : List ℕ}
@@ -88,6 +89,7 @@ module _ (hp hm op on notes board : List ℕ) (d : ProcessorId) (c : ChannelId) 
             (ap (λ (z : ProcessorId). set notes (entryIndex d c) (z .0)) n ∙ set-getD notes (entryIndex d c) 0)
             (sym (w .1))
             ∙ ap (cellStored (storeOf before) d c) (sym e);
+        parents = w .3;
       }
 
   -- a task that is born or leaves is located

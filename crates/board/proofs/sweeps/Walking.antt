@@ -21,12 +21,17 @@ use Rattle.board.specs.Acted.{StoredBy}
 
 -- nothing was done to what is lent
 pub stored-none : {f : Store → Store} (l : Lent) → Whole (l .board) → ((s : Store) → f s ≡ s) → StoredBy f l l
-stored-none l w none = record { whole = w; tasks = refl; store = sym (none (storeOf l)) }
+stored-none l w none = record { whole = w; tasks = refl; store = sym (none (storeOf l)); parents = refl }
 
 -- one was done, and then the other
 pub stored-next : {f g one : Store → Store} {l m n : Lent} → ((s : Store) → g s ≡ one (f s)) → StoredBy f l m → StoredBy one m n → StoredBy g l n
 stored-next {one = one} {l = l} more before here =
-    record { whole = here .whole; tasks = here .tasks ∙ before .tasks; store = here .store ∙ ap one (before .store) ∙ sym (more (storeOf l)) }
+    record {
+      whole = here .whole;
+      tasks = here .tasks ∙ before .tasks;
+      store = here .store ∙ ap one (before .store) ∙ sym (more (storeOf l));
+      parents = here .parents ∙ before .parents;
+    }
 
 -- the rule applied to the task's channels before channel c
 abbrev pub doneTo : List ℕ → TaskId → ProcessorId → CellRule → ℕ → Store → Store

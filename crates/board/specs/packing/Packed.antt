@@ -35,10 +35,17 @@ mark6 v = eqb (v / 281474976710656 % 2) 1
 abbrev pub bit : Bool → ℕ
 bit b = pick b 1 0
 
+-- a pointer, in the lowest 24 bits
+abbrev pub hintOf : ℕ → Hint
+hintOf v = hint (processorId (byte2 v)) (low16 v)
+
+abbrev pub hintWord : Hint → ℕ
+hintWord h = 65536 * (h .processor .0) + h .moves
+
 -- a channel's own entry
 unfoldable pub channelOf : ℕ → Channel
 channelOf v =
-    record { granted = byte5 v; awaiting = mark6 v; carried = offer (processorId (byte3 v)) (byte4 v); travelling = hint (processorId (byte2 v)) (low16 v) }
+    record { granted = byte5 v; awaiting = mark6 v; carried = offer (processorId (byte3 v)) (byte4 v); travelling = hintOf v }
 
 abbrev pub channelWord : Channel → ℕ
 channelWord y =
@@ -46,7 +53,7 @@ channelWord y =
 
 -- the same with another travelling pointer, from its number
 abbrev pub travellingWord : ℕ → Hint → ℕ
-travellingWord v h = 16777216 * (v / 16777216) + (65536 * (h .processor .0) + h .moves)
+travellingWord v h = 16777216 * (v / 16777216) + hintWord h
 
 -- a task's state
 abbrev pub stateOf : ℕ → TaskState
@@ -85,7 +92,7 @@ taskOf v children word =
       state = stateOf (v % 128);
       processor = processorId (v / 256 % 256);
       pc = byte2 v;
-      home = processorId (byte3 v);
+      origin = hint (processorId (byte3 v)) (v / 4294967296 % 65536);
       word = wordOf word;
       overflow = eqb (v / 128 % 2) 1;
       moves = v / 281474976710656 % 65536;
@@ -94,4 +101,4 @@ taskOf v children word =
 
 abbrev pub taskWord : Task → ℕ
 taskWord x =
-    stateNumber (x .state) + 128 * bit (x .overflow) + 256 * (x .processor .0) + 65536 * (x .pc) + 16777216 * (x .home .0) + 281474976710656 * (x .moves)
+    stateNumber (x .state) + 128 * bit (x .overflow) + 256 * (x .processor .0) + 65536 * (x .pc) + 16777216 * (x .origin .processor .0) + 4294967296 * (x .origin .moves) + 281474976710656 * (x .moves)

@@ -44,7 +44,7 @@ module _ {A : Type 0} (k : ℕ) (f : Message → A) (a : A) where
     pub advert : Unless k 2 ((c : ChannelId) (d from : ProcessorId) → a ≡ f (Advert c d from))
     pub ready : Unless k 3 ((c : ChannelId) (d : ProcessorId) (h : Hint) → a ≡ f (ReadyToReceive c d h))
     pub word : Unless k 4 ((c : ChannelId) (d : ProcessorId) (w : Word) → a ≡ f (Data c d w))
-    pub terminated : Unless k 5 ((d : ProcessorId) (t : TaskId) → a ≡ f (Terminated d t))
+    pub terminated : Unless k 5 ((h : Hint) (t : TaskId) → a ≡ f (Terminated h t))
     pub migration : Unless k 6 ((d : ProcessorId) (t : TaskId) → a ≡ f (Migration d t))
 
   apart : (m : Message) → tagOf the-type m ≢ k → Elsewhere → a ≡ f m
@@ -53,7 +53,7 @@ module _ {A : Type 0} (k : ℕ) (f : Message → A) (a : A) where
   apart (Advert c d from) ne e = asked k 2 ne (e .advert) c d from
   apart (ReadyToReceive c d h) ne e = asked k 3 ne (e .ready) c d h
   apart (Data c d w) ne e = asked k 4 ne (e .word) c d w
-  apart (Terminated d t) ne e = asked k 5 ne (e .terminated) d t
+  apart (Terminated h t) ne e = asked k 5 ne (e .terminated) h t
   apart (Migration d t) ne e = asked k 6 ne (e .migration) d t
 
   pub other : (m : Message) → T (not (hasKey (but k) k)) → OneOf (but k) (tagOf the-type m) → Elsewhere → a ≡ f m

@@ -13,7 +13,7 @@ onOffer x (Offered c o h) = offerRule x c o h
 onOffer x (Advert c d from) = untouched x
 onOffer x (ReadyToReceive c d h) = untouched x
 onOffer x (Data c d w) = untouched x
-onOffer x (Terminated d t) = untouched x
+onOffer x (Terminated h t) = untouched x
 onOffer x (Migration d t) = untouched x
 
 -- an advert
@@ -23,5 +23,5 @@ onAdvert x (Offered c o h) = untouched x
 onAdvert x (Advert c d from) = advertRule x c d from
 onAdvert x (ReadyToReceive c d h) = untouched x
 onAdvert x (Data c d w) = untouched x
-onAdvert x (Terminated d t) = untouched x
+onAdvert x (Terminated h t) = untouched x
 onAdvert x (Migration d t) = untouched x

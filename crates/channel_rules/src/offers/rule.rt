@@ -5,7 +5,7 @@ ghost use Prim.Native.Nat.{_<_};
 ghost use Rattle.rules.specs.Tasks.{isAt};
 ghost use Rattle.rules.specs.Cells.{granting, noneCalled};
 ghost use Rattle.rules.specs.Receive.{callTo};
-ghost use Rattle.rules.specs.Offers.{kept, pointsOn, offerRule, advertRule};
+ghost use Rattle.rules.specs.Offers.{kept, offerRule, advertRule};
 use plan::ChannelId;
 use plan::ProcessorId;
 use rules::channel::Hint;
@@ -32,14 +32,6 @@ fn is_first_at(x: Site, d: ProcessorId) -> bool
     base::both(here, waits)
 }
 
-// The desk's own pointer is newer than the one that the letter came along, and names another desk than the letter's.
-fn points_on(own: Hint, along: Hint) -> bool
-    ensures { λ r. ⌜ r ≡ pointsOn own along (along .processor) ⌝ }
-{
-    let stays = task_rules::state::same_processor(own.processor, along.processor);
-    base::both(!stays, along.moves < own.moves)
-}
-
 // An offer or an advert is answered by a call.
 fn answered(x: Site, c: ChannelId, from: ProcessorId) -> Outcome
     requires { ⌜ x .cell .channel .granted < 255 ⌝ }
@@ -56,7 +48,7 @@ fn offer_away(x: Site, c: ChannelId, o: Offer, h: Hint) -> Outcome
     ensures { λ r. ⌜ r ≡ offerRule x c o h ⌝ }
 {
     let own = x.cell.entry.hint;
-    if points_on(own, h) {
+    if cell_rules::order::points_on(own, h) {
         return crate::outcomes::kept(x, x.cell, Posting::Single(Message::Offered(c, o, own)));
     }
     let held = cell_rules::change::holding(x.cell, o);

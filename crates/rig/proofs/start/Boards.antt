@@ -10,28 +10,30 @@ use lib.Seq.{getD-set-same, getD-set-other}
 use Rattle.base.proofs.Tables.{all-same}
 use Rattle.board.specs.packing.Packed.{low16, byte2, byte3, byte4, byte5, mark6, taskOf, wordOf}
 use Rattle.rules.specs.Tasks.{unborn}
-use Rattle.rules.specs.Starts.{noChannels}
-use Rattle.board.specs.Lent.{channelColumn, channelsOn, taskOn, tasksOn}
+use Rattle.rules.specs.Starts.{noChannels, noParents}
+use Rattle.board.specs.Lent.{channelColumn, channelsOn, taskOn, tasksOn, parentColumn, parentsOn}
 
 -- nothing is on the board but the places of the first n tasks
 pub record Unborn (n : ℕ) (board : List ℕ) : Type 0 where
-  pub whole : length board ≡ 320
+  pub whole : length board ≡ 1088
   pub channel : (k : ℕ) → k < 128 → getD board k 0 ≡ 0
   pub place : (k : ℕ) → k < n → getD board (128 + 2 * k) 0 ≡ 65536
   pub children : (k : ℕ) → k < 64 → getD board (129 + 2 * k) 0 ≡ 0
   pub word : (k : ℕ) → k < 64 → getD board (256 + k) 0 ≡ 0
+  pub parent : (k : ℕ) → k < 768 → getD board (320 + k) 0 ≡ 0
 
 abbrev pub zeros : List ℕ
-zeros = replicate 320 0
+zeros = replicate 1088 0
 
 pub unborn-none : Unborn 0 zeros
 unborn-none =
     record {
-      whole = length-replicate {A = ℕ} 320 0;
-      channel = λ k h. getD-replicate 320 k 0 0 (omega arith);
+      whole = length-replicate {A = ℕ} 1088 0;
+      channel = λ k h. getD-replicate 1088 k 0 0 (omega arith);
       place = λ k h. absurd (omega arith);
-      children = λ k h. getD-replicate 320 (129 + 2 * k) 0 0 (omega arith);
-      word = λ k h. getD-replicate 320 (256 + k) 0 0 (omega arith);
+      children = λ k h. getD-replicate 1088 (129 + 2 * k) 0 0 (omega arith);
+      word = λ k h. getD-replicate 1088 (256 + k) 0 0 (omega arith);
+      parent = λ k h. getD-replicate 1088 (320 + k) 0 0 (omega arith);
     }
 
 pub unborn-more : (n : ℕ) (board : List ℕ) → n < 64 → Unborn n board → Unborn (n + 1) (set board (128 + 2 * n) 65536)
@@ -47,6 +49,7 @@ unborn-more n board h u =
           (λ e. getD-set-other board (128 + 2 * n) (128 + 2 * k) 65536 0 (omega arith) ∙ u .place k (omega arith));
       children = λ k l. getD-set-other board (128 + 2 * n) (129 + 2 * k) 65536 0 (omega arith) ∙ u .children k l;
       word = λ k l. getD-set-other board (128 + 2 * n) (256 + k) 65536 0 (omega arith) ∙ u .word k l;
+      parent = λ k l. getD-set-other board (128 + 2 * n) (320 + k) 65536 0 (omega arith) ∙ u .parent k l;
     }
 
 module _ (n : ℕ) (board : List ℕ) (u : Unborn n board) where
@@ -57,6 +60,21 @@ module _ (n : ℕ) (board : List ℕ) (u : Unborn n board) where
   pub unborn-channels : channelsOn board ≡ noChannels
   unfolding channelsOn
   unborn-channels = rw (column byte5, column mark6, column byte3, column byte4, column byte2, column low16) refl
+
+-- what desks keep for parents
+module _ (n : ℕ) (board : List ℕ) (u : Unborn n board) where
+  kept-none : (f : ℕ → ℕ) (i : ℕ) → i < 2 → f 0 ≡ 0 → parentColumn f (320 + i) board ≡ replicate 384 0
+  unfolding parentColumn
+  kept-none f i few z =
+      sym
+      (all-same 384 (λ k. f (getD board (320 + i + 2 * k) 0)) 0
+      (λ k h.
+      let e : 320 + i + 2 * k ≡ 320 + (i + 2 * k) = omega arith in
+      rw (e, u .parent (i + 2 * k) (omega arith)) z))
+
+  pub unborn-parents : parentsOn board ≡ noParents
+  unfolding parentsOn
+  unborn-parents = rw (kept-none byte2 0 (omega arith) refl, kept-none low16 0 (omega arith) refl, kept-none (λ v. v) 1 (omega arith) refl) refl
 
 pub unborn-tasks : (board : List ℕ) → Unborn 64 board → tasksOn board ≡ replicate 64 unborn
 unfolding tasksOn taskOf wordOf

@@ -7,23 +7,25 @@ use Rattle.plan.specs.declared.Plan.{Plan}
 use Rattle.rules.specs.declared.system.System.{System}
 use Rattle.rules.specs.declared.system.Store.{Store}
 use Rattle.rules.specs.Numbers.{taskId, processorId}
+use Rattle.rules.specs.Hints.{unknown}
 use Rattle.rules.specs.Tasks.{born}
-use Rattle.rules.specs.Systems.{withTasks, withTask, taskStored, store, storeIn}
+use Rattle.rules.specs.Systems.{withTasks, withTask, taskStored, store}
 use Rattle.rules.specs.Starts.{birth, blank, started, noMessages, noChannels}
 use Rattle.plan_index.specs.ends.Derived.{endsOf}
+use Rattle.rig_parts.specs.Facts.{keptIn}
 use Rattle.rig_parts.specs.Sweeps.{forEnds}
 use Rattle.rig_parts.proofs.Sweeps.{sweptIn, birth-swept}
 use Rattle.rig_parts.specs.declared.sweep.Sweep.the-variants.{Birth}
 use Rattle.rig_parts.specs.declared.sweep.CellRule.the-variants.{Locate}
 use Rattle.board.specs.Lent.{lent}
 use Rattle.board.specs.Acted.{StoredBy}
-use Rattle.rig.specs.start.Parts.{startTasks, startStore}
+use Rattle.rig.specs.start.Parts.{startTasks, startParents, startStore}
 use Rattle.rig.proofs.start.Boards.{zeros, unborn-none, unborn-channels}
 
 -- task 1 is stored, and then the pointers for the channels that it receives on
-first-birth : (r : System) → birth r (taskId 1) (processorId 1) ≡ sweptIn (withTasks r (set (r .tasks) 0 (born (processorId 1)))) (Birth (taskId 1) (processorId 1))
+first-birth : (r : System) → birth r (taskId 1) (processorId 1) unknown ≡ sweptIn (withTasks r (set (r .tasks) 0 (born (processorId 1) unknown))) (Birth (taskId 1) (processorId 1))
 unfolding birth withTask taskStored
-first-birth r = birth-swept (withTasks r (set (r .tasks) 0 (born (processorId 1)))) (taskId 1) (processorId 1)
+first-birth r = birth-swept (withTasks r (set (r .tasks) 0 (born (processorId 1) unknown))) (taskId 1) (processorId 1)
 
 -- an empty table
 abbrev pub none : List ℕ
@@ -32,7 +34,7 @@ none = replicate 768 0
 module _ (n : ℕ) (p : Plan) where
   -- the rig with this for the channels
   abbrev made : Store → System
-  made s = record { processors = n; plan = p; tasks = startTasks; tables = s .tables; channels = s .channels; network = noMessages }
+  made s = record { processors = n; plan = p; tasks = startTasks; tables = s .tables; channels = s .channels; parents = startParents; network = noMessages }
 
   started-is : made (startStore (endsOf p .receivers)) ≡ started n p
   unfolding started blank
@@ -44,8 +46,8 @@ module _ (n : ℕ) (p : Plan) where
   pub started-network : started n p .network ≡ noMessages
   started-network = ap (λ (r : System). r .network) (sym started-is)
 
-  pub started-store : storeIn (started n p) ≡ startStore (endsOf p .receivers)
-  started-store = ap storeIn (sym started-is)
+  pub started-kept : keptIn (started n p) ≡ record { store = startStore (endsOf p .receivers); parents = startParents }
+  started-kept = ap keptIn (sym started-is)
 
   -- the pointers are set in empty tables
   pub started-located : (hintprocessors hintmoves : List ℕ)

@@ -17,11 +17,11 @@ use Rattle.rules.specs.declared.system.System.{System}
 use Rattle.rules.specs.Numbers.{taskId}
 use Rattle.rules.specs.Tasks.{noTask}
 use Rattle.rules.specs.Systems.{taskAt, taskProgram, meaning}
-use Rattle.rules.specs.Sound.{taskOk}
+use Rattle.rules.specs.Sound.{taskOk, originOk}
 use Rattle.rules_laws.proofs.TaskAt.{taskAt-some}
 use Rattle.rig_check.specs.tasks.Tests.{taskWith}
 use Rattle.rig_check.proofs.tasks.Tests.{task-with}
-use Rattle.rig_check.specs.system.Tasks.{lastKind, tasksOk}
+use Rattle.rig_check.specs.system.Tasks.{lastKind, tasksOk, originsOk}
 use Rattle.rig_check.proofs.system.Programs.{last-kind}
 
 -- task k + 1 passes
@@ -32,6 +32,18 @@ pub tasks-places : (r : System) → tasksOk r ≡ below (r .plan .tasks) (record
 tasks-places r =
     fold-same _&&_ true (r .plan .tasks) (λ k. taskOk (r .processors) (r .plan .tasks) (taskProgram r (taskId (suc k))) (taskAt r (taskId (suc k)))) (recordOk r)
     (λ k h. let e : suc k - 1 ≡ k = omega arith in rw (taskAt-some r (taskId (suc k)) (omega arith), e, program-of (r .plan) k h) refl)
+
+-- the own pointer of task k + 1 passes
+abbrev pub pointerOk : System → ℕ → Bool
+pointerOk r k = originOk (r .processors) (k + 1) (getD (r .tasks) k noTask)
+
+pub origins-places : (r : System) → originsOk r ≡ below (r .plan .tasks) (pointerOk r)
+origins-places r =
+    fold-same _&&_ true (r .plan .tasks) (λ k. originOk (r .processors) (suc k) (taskAt r (taskId (suc k)))) (pointerOk r)
+    (λ k h.
+    let e : suc k - 1 ≡ k = omega arith in
+    let f : suc k ≡ k + 1 = omega arith in
+    rw (taskAt-some r (taskId (suc k)) (omega arith), e) (rw f refl))
 
 -- the sizes that the test relies on: an accepted plan has them
 pub sizes-passed : (m : Programs) → isAccepted (planAnswer m) ≡ true → sizesOk m ≡ true

@@ -6,7 +6,6 @@ use Rattle.base.specs.Choice.{pick}
 use Rattle.plan.specs.Kinds.{opSend, opReceive}
 use Rattle.rules.specs.declared.task.Task.{Task}
 use Rattle.rules.specs.declared.task.TaskState.the-variants.{Unborn, Sending, Receiving}
-use Rattle.rules.specs.Numbers.{processorOk}
 use Rattle.rules.specs.Tasks.{isIn}
 use Rattle.rules.specs.Sound.{movesOk, unbornOk, whereOk, placeOk}
 
@@ -16,7 +15,7 @@ lastWith kind x = (not (isIn Sending x) || eqb kind opSend) && (not (isIn Receiv
 
 -- `bornOk`
 abbrev pub bornWith : ℕ → ℕ → ℕ → Task → Bool
-bornWith n size kind x = processorOk n (x .home) && (movesOk (x .moves) && (whereOk n x && (placeOk size x && lastWith kind x)))
+bornWith n size kind x = movesOk (x .moves) && (whereOk n x && (placeOk size x && lastWith kind x))
 
 -- `taskOk`
 abbrev pub taskWith : ℕ → ℕ → ℕ → ℕ → Task → Bool

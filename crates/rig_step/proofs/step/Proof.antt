@@ -17,7 +17,8 @@ shaped c =
     let f = c .good .0 .1 .1 in
     let tables = f .1 .1 .1 .0 .1 .1 in
     let channels = f .1 .1 .1 .1 .0 .1 .1 in
-    let network = f .1 .1 .1 .1 .1 .0 .1 .1 in
+    let parents = f .1 .1 .1 .1 .1 .0 .1 .1 in
+    let network = f .1 .1 .1 .1 .1 .1 .0 .1 .1 in
     record {
       tasks = simp length-map at (f .1 .1 .0 .1 .0 .1);
       hintprocessors = simp length-map at (tables .0 .1 .0 .1);
@@ -31,6 +32,9 @@ shaped c =
       carriednumbers = simp length-map at (channels .1 .1 .1 .0 .1 .0 .1);
       travellingprocessors = simp length-map at (channels .1 .1 .1 .1 .0 .1 .0 .1);
       travellingmoves = simp length-map at (channels .1 .1 .1 .1 .1 .0 .1 .0 .1);
+      parentprocessors = simp length-map at (parents .0 .1 .0 .1);
+      parentmoves = simp length-map at (parents .1 .0 .1 .0 .1);
+      parentheld = simp length-map at (parents .1 .1 .0 .1 .0 .1);
       slots = simp length-map at (network .0 .1 .0 .1);
     }
 
@@ -58,15 +62,15 @@ derive-requires c κs =
 
 turn-requires : tie.Need-turn-requires
 turn-requires c κs =
-    let d = c .before .before .before .before .before .before .before .before .before .before .before .before .before .before in
+    let d = c .before .before .before .before .before .before .before .before .before .before .before .before .before .before .before in
     let w = d .before .before in
     let b = w .before .before in
     taken-apart (b .args .r) (shaped b) (passed w) (d .derive .result) (d .derive .ensures)
 
 returns-2 : tie.Need-returns-2
 returns-2 c =
-    let t = c .before .before .before .before .before .before in
-    let d = t .before .before .before .before .before .before .before .before .before .before .before .before .before .before .before in
+    let t = c .before .before .before .before .before .before .before .before in
+    let d = t .before .before .before .before .before .before .before .before .before .before .before .before .before .before .before .before in
     let w = d .before .before in
     let b = w .before .before in
     put-back (b .args .r) (shaped b) (passed w) (d .derive .result) (d .derive .ensures) (b .args .s) (t .turn .result) (t .turn .ensures)

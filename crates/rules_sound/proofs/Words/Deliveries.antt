@@ -1,6 +1,6 @@
 -- A delivery leaves good words of good ones, and receives none but such.
-use mathlib.Core.Path.{_≡_}
-use mathlib.Core.Bool.{Bool, true, _&&_}
+use mathlib.Core.Path.{_≡_, refl}
+use mathlib.Core.Bool.{Bool, true, not}
 use Prim.Native.Nat.{ℕ}
 use Rattle.base.specs.Choice.{within}
 use Rattle.base.specs.Sets.{member}
@@ -12,36 +12,53 @@ use Rattle.plan.specs.Users.{parentOf}
 use Rattle.plan.specs.declared.Word.{Word as WordOf}
 use Rattle.rules.specs.declared.task.Task.{Task}
 use Rattle.rules.specs.declared.task.TaskState.the-variants.{Moving}
+use Rattle.rules.specs.declared.channel.Hint.{Hint}
 use Rattle.rules.specs.declared.message.Message.{Message}
 use Rattle.rules.specs.declared.message.Message.the-variants.{Empty, Offered, Advert, ReadyToReceive, Data, Terminated, Migration}
+use Rattle.rules.specs.declared.rule.Ended.{Ended}
+use Rattle.rules.specs.declared.system.ParentEntry.{ParentEntry}
 use Rattle.rules.specs.declared.system.System.{System}
-use Rattle.rules.specs.Tasks.{isIn, isAt, arrived}
+use Rattle.rules.specs.Hints.{pointsOn}
+use Rattle.rules.specs.Tasks.{isIn, isAt}
 use Rattle.rules.specs.Networks.{messageAt}
-use Rattle.rules.specs.Systems.{taskAt, meaning}
+use Rattle.rules.specs.Systems.{taskAt, parentAt, meaning}
 use Rattle.rules.specs.Effects.{siteAt}
 use Rattle.rules.specs.Sound.{messageOk}
 use Rattle.rules.specs.Arrivals.{terminatedRule, arrival}
 use Rattle.rules.specs.Deliver.{gotTerminated, gotMigration, opened, delivered}
-use Rattle.rules_sound.specs.Words.{taskGood, messageGood, GoodSystem, GoodEffect}
+use Rattle.rules_sound.specs.Words.{taskGood, messageGood, receivedGood, GoodPosting, GoodSystem, GoodEffect}
+use Rattle.rules_sound.proofs.Words.Postings.{none-good, message-good}
 use Rattle.rules_sound.proofs.Words.Rules.{offer-good, advert-good, call-good, data-good}
-use Rattle.rules_sound.proofs.Words.Systems.{task-good, message-there, put-task, put-cells, outcome-good, left-good}
+use Rattle.rules_sound.proofs.Words.Systems.{task-good, message-there, put-task, put-parent, put-cells, outcome-good, left-good}
 use Rattle.rules_sound.proofs.Words.Runs.{changed-good, woken-good}
 
-ended-good : (good : WordOf → Bool) (x : Task) (d : ProcessorId) (t : TaskId) → taskGood good x ≡ true → taskGood good (terminatedRule x d t) ≡ true
-unfolding terminatedRule
-ended-good good x d t h = pick-either (λ y. taskGood good y ≡ true) (isAt d x && member (t .0) (x .children)) _ x (woken-good good _ h) h
+-- an ended letter
+record GoodEnded (good : WordOf → Bool) (o : Ended) : Type 0 where
+  parent : taskGood good (o .parent) ≡ true
+  posting : GoodPosting good (o .posting)
+
+ended-good : (good : WordOf → Bool) (x : Task) (e : ParentEntry) (p : Hint) (t : TaskId) → taskGood good x ≡ true → GoodEnded good (terminatedRule x e p t)
+unfolding terminatedRule messageGood
+ended-good good x e p t h =
+    pick-either (GoodEnded good) (not (member (t .0) (x .children))) _ _ (record { parent = h; posting = none-good })
+    (pick-either (GoodEnded good) (isAt (p .processor) x) _ _ (record { parent = woken-good good _ h; posting = none-good })
+    (pick-either (GoodEnded good) (pointsOn (e .hint) p (p .processor)) _ _ (record { parent = h; posting = message-good (Terminated (e .hint) t) refl })
+    (record { parent = h; posting = none-good })))
 
 module _ {good : WordOf → Bool} where
   module _ (r : System) (h : GoodSystem good r) where
-    terminated-good : (d : ProcessorId) (t : TaskId) → GoodSystem good (gotTerminated r d t)
-    unfolding gotTerminated
-    terminated-good d t = let u = parentOf (meaning r) t in put-task r h u _ (ended-good good (taskAt r u) d t (task-good r h u))
+    terminated-good : (p : Hint) (t : TaskId) → GoodEffect good (gotTerminated r p t)
+    unfolding gotTerminated receivedGood
+    terminated-good p t =
+        let u = parentOf (meaning r) t in
+        let o = ended-good good (taskAt r u) (parentAt r (p .processor) u) p t (task-good r h u) in
+        record { system = put-parent _ (put-task r h u _ (o .parent)) _ u _; posting = o .posting; received = refl }
 
     migrated-good : (d : ProcessorId) (t : TaskId) → GoodSystem good (gotMigration r d t)
     unfolding gotMigration arrival
     migrated-good d t =
         pick-either (GoodSystem good) (isIn Moving (taskAt r t)) _ r
-        (put-cells 128 _ _ _ _ (put-cells 128 _ _ _ _ (put-task r h t (arrived (taskAt r t) d) (task-good r h t))))
+        (put-cells 128 _ _ _ _ (put-cells 128 _ _ _ _ (put-parent _ (put-task r h t _ (task-good r h t)) d t _)))
         h
 
     opened-good : (n m : ℕ) (a : Message) → messageOk n m a ≡ true → messageGood good a ≡ true → GoodEffect good (opened r a)
@@ -53,7 +70,7 @@ module _ {good : WordOf → Bool} where
     opened-good n m (Data c d v) k w =
         outcome-good r h _ _ c _ _
         (data-good c (siteAt r _ _ c _) (task-good r h _) (task-good r h _) d v (within-high 1 128 (c .0) (and-left (within 1 128 (c .0)) _ k)) w)
-    opened-good n m (Terminated d t) k w = changed-good _ (terminated-good d t)
+    opened-good n m (Terminated p t) k w = terminated-good p t
     opened-good n m (Migration d t) k w = changed-good _ (migrated-good d t)
 
   pub delivered-good : (r : System) → GoodSystem good r → (n m p : ℕ) → messageOk n m (messageAt (r .network) p) ≡ true → GoodEffect good (delivered r p)

@@ -19,8 +19,10 @@ use Rattle.rules.specs.declared.task.Task.{Task}
 use Rattle.rules.specs.declared.task.TaskState.the-variants.{Waiting}
 use Rattle.rules.specs.declared.message.Message.the-variants.{Terminated, Migration}
 use Rattle.rules.specs.declared.rule.Finished.{Finished}
+use Rattle.rules.specs.declared.system.ParentEntry.{ParentEntry}
 use Rattle.rules.specs.declared.system.System.{System}
-use Rattle.rules.specs.Numbers.{taskId, channelId, sameTask}
+use Rattle.rules.specs.Numbers.{taskId, channelId, sameTask, sameProcessor}
+use Rattle.rules.specs.Hints.{newer}
 use Rattle.rules.specs.Tasks.{isIn, isAt, isChildless, readied, woken, departed}
 use Rattle.rules.specs.Systems.{taskAt, withTask, meaning}
 use Rattle.rules.specs.Effects.{siteAt, changed}
@@ -30,7 +32,7 @@ use Rattle.rules.specs.Runs.{ranCreate, ranFinish, ranSend, ranReceive, execute
 use Rattle.rules_sound.specs.Words.{Keeps, taskGood, messageGood, receivedGood, GoodPosting, GoodSystem, GoodEffect}
 use Rattle.rules_sound.proofs.Words.Postings.{none-good, message-good}
 use Rattle.rules_sound.proofs.Words.Rules.{send-good, receive-good}
-use Rattle.rules_sound.proofs.Words.Systems.{task-good, put-task, put-cells, birth-good, outcome-good}
+use Rattle.rules_sound.proofs.Words.Systems.{task-good, put-task, put-parent, put-cells, birth-good, outcome-good}
 
 pub woken-good : (good : WordOf → Bool) (x : Task) → taskGood good x ≡ true → taskGood good (woken x) ≡ true
 unfolding woken
@@ -42,12 +44,14 @@ record GoodFinished (good : WordOf → Bool) (o : Finished) : Type 0 where
   parent : taskGood good (o .parent) ≡ true
   posting : GoodPosting good (o .posting)
 
-finished-good : (good : WordOf → Bool) (t : TaskId) (x y : Task) → taskGood good x ≡ true → taskGood good y ≡ true → GoodFinished good (finishRule t x y)
+finished-good : (good : WordOf → Bool) (t : TaskId) (x y : Task) (e : ParentEntry) → taskGood good x ≡ true → taskGood good y ≡ true → GoodFinished good (finishRule t x y e)
 unfolding finishRule messageGood
-finished-good good t x y h k =
+finished-good good t x y e h k =
+    let along = newer (e .hint) (x .origin) in
     pick-either (GoodFinished good) (sameTask t (taskId 1)) _ _ (record { task = h; parent = k; posting = none-good })
     (pick-either (GoodFinished good) (isAt (x .processor) y) _ _ (record { task = h; parent = woken-good good _ k; posting = none-good })
-    (record { task = h; parent = k; posting = message-good (Terminated (x .home) t) refl }))
+    (pick-either (GoodFinished good) (sameProcessor (along .processor) (x .processor)) _ _ (record { task = h; parent = k; posting = none-good })
+    (record { task = h; parent = k; posting = message-good (Terminated along t) refl })))
 
 module _ {good : WordOf → Bool} where
   -- the rig is changed, and no word passes
@@ -62,7 +66,7 @@ module _ {good : WordOf → Bool} where
 
     create-good : (u : TaskId) → GoodEffect good (ranCreate r t u)
     unfolding ranCreate
-    create-good u = changed-good _ (birth-good _ (put-task r h t (createRule (taskAt r t) u) (task-good r h t)) u _)
+    create-good u = changed-good _ (birth-good _ (put-task r h t (createRule (taskAt r t) u) (task-good r h t)) u _ _)
 
     sync-good : taskGood good (syncRule (taskAt r t)) ≡ true
     unfolding syncRule
@@ -72,8 +76,8 @@ module _ {good : WordOf → Bool} where
     unfolding ranFinish receivedGood
     finish-good =
         let u = parentOf (meaning r) t in
-        let o = finished-good good t (taskAt r t) (taskAt r u) (task-good r h t) (task-good r h u) in
-        record { system = put-task _ (put-task r h u _ (o .parent)) t _ (o .task); posting = o .posting; received = refl }
+        let o = finished-good good t (taskAt r t) (taskAt r u) _ (task-good r h t) (task-good r h u) in
+        record { system = put-parent _ (put-task _ (put-task r h u _ (o .parent)) t _ (o .task)) _ u _; posting = o .posting; received = refl }
 
     send-effect : (c : ChannelId) → c .0 ≤ 128 → GoodEffect good (ranSend r t c)
     unfolding ranSend siteAt
@@ -106,7 +110,7 @@ module _ {good : WordOf → Bool} where
     unfolding moved receivedGood messageGood
     moved-good e =
         record {
-          system = put-cells 128 _ _ _ _ (put-cells 128 _ _ _ _ (put-task r h t (departed (taskAt r t)) (task-good r h t)));
+          system = put-cells 128 _ _ _ _ (put-cells 128 _ _ _ _ (put-parent _ (put-task r h t (departed (taskAt r t)) (task-good r h t)) _ t _));
           posting = message-good (Migration e t) refl;
           received = refl;
         }

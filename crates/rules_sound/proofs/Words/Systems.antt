@@ -16,15 +16,18 @@ use Rattle.plan.specs.declared.ChannelId.{ChannelId}
 use Rattle.plan.specs.declared.Word.{Word as WordOf}
 use Rattle.plan.specs.Words.{zeroWord}
 use Rattle.rules.specs.declared.task.Task.{Task}
+use Rattle.rules.specs.declared.channel.Hint.{Hint}
 use Rattle.rules.specs.declared.channel.Cell.{Cell}
 use Rattle.rules.specs.declared.message.Message.{Message}
 use Rattle.rules.specs.declared.message.Network.{Network}
 use Rattle.rules.specs.declared.rule.Outcome.{Outcome}
+use Rattle.rules.specs.declared.system.ParentEntry.{ParentEntry}
 use Rattle.rules.specs.declared.system.System.{System}
 use Rattle.rules.specs.Numbers.{taskId, processorId, channelId}
+use Rattle.rules.specs.Hints.{unknown}
 use Rattle.rules.specs.Tasks.{noTask, born}
 use Rattle.rules.specs.Networks.{slot, noSlot, messageAt, enqueued, enqueuedAll, dequeued}
-use Rattle.rules.specs.Systems.{withNetwork, taskAt, withTask, withCell, taskIn, taskStored}
+use Rattle.rules.specs.Systems.{withNetwork, taskAt, withTask, withCell, withParent, taskIn, taskStored}
 use Rattle.rules.specs.Effects.{Effect, completed, withOutcome, forChannels}
 use Rattle.rules.specs.Starts.{birth, blank, started}
 use Rattle.rules_laws.proofs.ForChannels.{forChannels-all}
@@ -88,9 +91,14 @@ module _ {good : WordOf → Bool} where
       → GoodSystem good (forChannels n test rule d r)
   put-cells n test rule d r h = forChannels-all test rule d (GoodSystem good) n r (λ q i x l k. put-cell q k d (channelId (suc i)) x) h
 
-  pub birth-good : (r : System) → GoodSystem good r → (t : TaskId) (d : ProcessorId) → GoodSystem good (birth r t d)
+  -- desk d's entry for parent t
+  pub put-parent : (r : System) → GoodSystem good r → (d : ProcessorId) (t : TaskId) (e : ParentEntry) → GoodSystem good (withParent r d t e)
+  unfolding withParent
+  put-parent r h d t e = record { zero = h .zero; tasks = h .tasks; slots = h .slots }
+
+  pub birth-good : (r : System) → GoodSystem good r → (t : TaskId) (d : ProcessorId) (own : Hint) → GoodSystem good (birth r t d own)
   unfolding birth
-  birth-good r h t d = put-cells 128 _ _ d _ (put-task r h t (born d) (h .zero))
+  birth-good r h t d own = put-cells 128 _ _ d _ (put-parent _ (put-task r h t (born d own) (h .zero)) d t _)
 
   pub outcome-good : (r : System) → GoodSystem good r → (s u : TaskId) (c : ChannelId) (d : ProcessorId) (o : Outcome) → GoodOutcome good o
       → GoodEffect good (withOutcome r s u c d o)
@@ -114,4 +122,4 @@ module _ {good : WordOf → Bool} where
   pub started-good : good zeroWord ≡ true → (n : ℕ) (p : Plan) → GoodSystem good (started n p)
   unfolding started blank every messageGood
   started-good z n p =
-      birth-good (blank n p) (record { zero = z; tasks = rw z refl; slots = refl }) (taskId 1) (processorId 1)
+      birth-good (blank n p) (record { zero = z; tasks = rw z refl; slots = refl }) (taskId 1) (processorId 1) unknown

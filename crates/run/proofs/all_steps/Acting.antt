@@ -15,6 +15,8 @@ use Rattle.rules.specs.declared.message.Network.{Network}
 use Rattle.rules.specs.declared.step.Report.{Report}
 use Rattle.rules.specs.declared.step.Step.{Step}
 use Rattle.rules.specs.declared.system.Store.{Store}
+use Rattle.rules.specs.declared.system.Parents.{Parents}
+use Rattle.rig_parts.specs.declared.kept.Kept.{Kept}
 use Rattle.rules.specs.Numbers.{taskId, processorId}
 use Rattle.rules.specs.Networks.{enqueuedAll, messagesOf, messageAt, dequeued}
 use Rattle.rules.specs.Steps.{isRun, isDeliver, isMove, wellFormed}
@@ -31,7 +33,7 @@ use Rattle.rig_parts.proofs.Feasible.{change-room}
 use Rattle.network.specs.Positions.{positionOf}
 use Rattle.board.specs.declared.act.Act.{Act}
 use Rattle.board.specs.Verdicts.{stepVerdict}
-use Rattle.board.specs.Lent.{Lent, tasksOf, storeOf}
+use Rattle.board.specs.Lent.{Lent, tasksOf, keptOf}
 use Rattle.board.specs.Acted.{Acted, actOf}
 
 -- what a step says, without what it posts
@@ -39,19 +41,23 @@ abbrev pub reportOf : Act → Report
 reportOf r = record { answer = r .answer; received = r .received }
 
 -- what is said, the tasks, the mail and the store then
-turned-as : (n : ℕ) (k : Network) {r q : Act} {ts us : List Task} {s v : Store} → r ≡ q → ts ≡ us → s ≡ v
+turned-as : (n : ℕ) (k : Network) {r q : Act} {ts us : List Task} {s v : Kept} → r ≡ q → ts ≡ us → s ≡ v
     → turned (reportOf r) ts (enqueuedAll k (messagesOf n (r .posting))) s ≡ turned (reportOf q) us (enqueuedAll k (messagesOf n (q .posting))) v
 turned-as n k {r} {q} {ts} {us} {s} {v} e p d =
-    let g : Act → List Task → Store → Turn = λ z y w. turned (reportOf z) y (enqueuedAll k (messagesOf n (z .posting))) w in
-    ap (λ (z : Act). g z ts s) e ∙ ap (λ (z : List Task). g q z s) p ∙ ap (λ (z : Store). g q us z) d
+    let g : Act → List Task → Kept → Turn = λ z y w. turned (reportOf z) y (enqueuedAll k (messagesOf n (z .posting))) w in
+    ap (λ (z : Act). g z ts s) e ∙ ap (λ (z : List Task). g q z s) p ∙ ap (λ (z : Kept). g q us z) d
+
+-- what is kept for channels, and for parents
+pub both-kept : {s v : Store} {ps us : Parents} → s ≡ v → ps ≡ us → _≡_ {A = Kept} (record { store = s; parents = ps }) (record { store = v; parents = us })
+both-kept e p = rw (e, p) refl
 
 -- a verdict carried out, and its letters posted
 module _ (senders receivers : List ℕ) (n : ℕ) (k : Network) (before after : Lent) (r : Act) where
   pub acted-turn : (v : Verdict) → Acted senders receivers v before r after
-      → turned (reportOf r) (tasksOf after) (enqueuedAll k (messagesOf n (r .posting))) (storeOf after) ≡ settled senders receivers n v (tasksOf before) k (storeOf before)
+      → turned (reportOf r) (tasksOf after) (enqueuedAll k (messagesOf n (r .posting))) (keptOf after) ≡ settled senders receivers n v (tasksOf before) k (keptOf before)
   unfolding carriedOut enqueuedAll messagesOf
-  acted-turn (Refused q) a = turned-as n k (a .act) (a .tasks) (a .store)
-  acted-turn (Accepted x) a = turned-as n k (a .act) (a .tasks) (a .store)
+  acted-turn (Refused q) a = turned-as n k (a .act) (a .tasks) (both-kept (a .store) (a .parents))
+  acted-turn (Accepted x) a = turned-as n k (a .act) (a .tasks) (both-kept (a .store) (a .parents))
 
 -- by a test
 by-bool : {P : Type 0} (b : Bool) → (b ≡ true → P) → (b ≡ false → P) → P
@@ -59,7 +65,7 @@ by-bool true p q = p refl
 by-bool false p q = q refl
 
 -- a step that delivers no letter
-module _ (f : Facts) (n : ℕ) (ts : List Task) (k : Network) (s : Store) (x : Step) where
+module _ (f : Facts) (n : ℕ) (ts : List Task) (k : Network) (s : Kept) (x : Step) where
   pub other-turn : positionOf (k .used) x ≡ 0 → settled (f .senders) (f .receivers) n (stepVerdict f n ts s (k .used) x) ts k s ≡ turnOf f n ts k s x
   unfolding turnOf stepVerdict wellFormed deliveredTurn positionOf
   other-turn none =
@@ -106,7 +112,7 @@ room-of n used (Refused q) few ok = omega arith
 room-of n used (Accepted y) few ok = change-room n used y ok
 
 -- a step that delivers nothing has room for its letters
-pub step-room : {f : Facts} {n : ℕ} {ts : List Task} {s : Store} {used : ℕ} (p : PartsOf f n ts s used) (x : Step) {r : Act}
+pub step-room : {f : Facts} {n : ℕ} {ts : List Task} {s : Kept} {used : ℕ} (p : PartsOf f n ts s used) (x : Step) {r : Act}
     → r ≡ actOf (stepVerdict f n ts s used x) → used + length (messagesOf n (r .posting)) ≤ 256
 unfolding stepVerdict
 step-room {f} {n} {ts} {s} {used} p x e =

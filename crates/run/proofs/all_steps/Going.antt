@@ -10,7 +10,7 @@ use Rattle.base.proofs.Tables.{table-more, length-table}
 use Rattle.rules.specs.declared.task.Task.{Task}
 use Rattle.rules.specs.declared.message.Network.{Network}
 use Rattle.rules.specs.declared.step.Step.{Step}
-use Rattle.rules.specs.declared.system.Store.{Store}
+use Rattle.rig_parts.specs.declared.kept.Kept.{Kept}
 use Rattle.rules.specs.Trace.{stepLine, stepLines}
 use Rattle.rules.specs.StepFiles.{text}
 use Rattle.rig_parts.specs.Facts.{Facts}
@@ -23,7 +23,7 @@ use Rattle.run.specs.all_steps.Writes.{Turns, turnsOf, RanTo, WrittenBy,
 use Rattle.run.proofs.all_steps.Fits.{filled-written, written-room, written-length}
 use Rattle.run.proofs.all_steps.Turns.{turns-append, turns-reports}
 
-module _ (f : Facts) (n : ℕ) (ts : List Task) (k : Network) (s : Store) (at : ℕ → Step) where
+module _ (f : Facts) (n : ℕ) (ts : List Task) (k : Network) (s : Kept) (at : ℕ → Step) where
   -- what the first j steps leave
   abbrev pub firstTurns : ℕ → Turns
   firstTurns j = turnsOf f n ts k s (table j at)
@@ -33,50 +33,50 @@ module _ (f : Facts) (n : ℕ) (ts : List Task) (k : Network) (s : Store) (at : 
   firstLines j = stepLines 0 (firstTurns j .reports)
 
   -- the parts then are a rig's, and the lines of those steps are written into o
-  pub record Going (o : List ℕ) (j : ℕ) (all : List Task) (messages : Network) (kept : Store) (progress out : List ℕ) : Type 0 where
-    pub rig : Rig f n all messages kept
+  pub record Going (o : List ℕ) (j : ℕ) (all : List Task) (messages : Network) (store : Kept) (progress out : List ℕ) : Type 0 where
+    pub rig : Rig f n all messages store
     pub tasks : all ≡ firstTurns j .tasks
     pub network : messages ≡ firstTurns j .network
-    pub store : kept ≡ firstTurns j .store
+    pub kept : store ≡ firstTurns j .kept
     pub lines : WrittenBy (firstLines j) o progress out
     pub two : length progress ≡ 2
 
   pub going-start : (o progress : List ℕ) → progress ≡ 0 ∷ 0 ∷ [] → Rig f n ts k s → Going o 0 ts k s progress o
   unfolding table tableBefore turnsOf stepLines text
-  going-start o progress e g = rw e (record { rig = g; tasks = refl; network = refl; store = refl; lines = filled-written [] (filled-none o); two = refl })
+  going-start o progress e g = rw e (record { rig = g; tasks = refl; network = refl; kept = refl; lines = filled-written [] (filled-none o); two = refl })
 
-  module _ {o : List ℕ} {j : ℕ} {all : List Task} {messages : Network} {kept : Store} {progress out : List ℕ} (g : Going o j all messages kept progress out) where
+  module _ {o : List ℕ} {j : ℕ} {all : List Task} {messages : Network} {store : Kept} {progress out : List ℕ} (g : Going o j all messages store progress out) where
     pub going-room : filledBy progress ≤ length out
     going-room = written-room (g .lines)
 
     pub going-length : length out ≡ length o
     going-length = written-length (g .lines)
 
-    pub going-done : RanTo (firstTurns j) o all messages kept progress out
-    going-done = record { lines = g .lines; two = g .two; tasks = g .tasks; network = g .network; store = g .store }
+    pub going-done : RanTo (firstTurns j) o all messages store progress out
+    going-done = record { lines = g .lines; two = g .two; tasks = g .tasks; network = g .network; kept = g .kept }
 
     -- a step more
-    module _ {t : Turn} (q : t ≡ turnOf f n all messages kept (at j)) where
+    module _ {t : Turn} (q : t ≡ turnOf f n all messages store (at j)) where
       abbrev line : List ℕ
       line = stepLine (j + 1) (t .report)
 
       more-turns : firstTurns (j + 1)
-          ≡ record { reports = firstTurns j .reports ++ (t .report ∷ []); tasks = t .tasks; network = t .network; store = t .store }
+          ≡ record { reports = firstTurns j .reports ++ (t .report ∷ []); tasks = t .tasks; network = t .network; kept = t .kept }
       more-turns =
-          rw (table-more j at, turns-append f n ts k s (table j at) (at j ∷ []), ← g .tasks, ← g .network, ← g .store, q) (unfold turnsOf in refl)
+          rw (table-more j at, turns-append f n ts k s (table j at) (at j ∷ []), ← g .tasks, ← g .network, ← g .kept, q) (unfold turnsOf in refl)
 
       more-lines : firstLines (j + 1) ≡ firstLines j ++ (line ∷ [])
       more-lines =
           rw (more-turns, step-lines-more 0 (firstTurns j .reports) (t .report), turns-reports f n ts k s (table j at), length-table j at, zero-add j, add-one j)
           refl
 
-      pub going-more : {progress' out' : List ℕ} → LineNext line progress out progress' out' → Going o (j + 1) (t .tasks) (t .network) (t .store) progress' out'
+      pub going-more : {progress' out' : List ℕ} → LineNext line progress out progress' out' → Going o (j + 1) (t .tasks) (t .network) (t .kept) progress' out'
       going-more e =
           record {
             rig = rw q (rig-next (g .rig) (at j));
             tasks = rw more-turns refl;
             network = rw more-turns refl;
-            store = rw more-turns refl;
+            kept = rw more-turns refl;
             lines = rw more-lines (e .more (firstLines j) o (g .lines));
             two = e .long ∙ g .two;
           }

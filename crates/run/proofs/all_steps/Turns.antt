@@ -6,25 +6,25 @@ use lib.ListN.{length}
 use Rattle.rules.specs.declared.task.Task.{Task}
 use Rattle.rules.specs.declared.message.Network.{Network}
 use Rattle.rules.specs.declared.step.Step.{Step}
-use Rattle.rules.specs.declared.system.Store.{Store}
+use Rattle.rig_parts.specs.declared.kept.Kept.{Kept}
 use Rattle.rig_parts.specs.Facts.{Facts}
 use Rattle.rig_parts.specs.Turns.{turnOf}
 use Rattle.run.specs.all_steps.Writes.{Turns, turnsOf}
 
 -- what h and then g leave
 abbrev pub thenTurns : Turns → Turns → Turns
-thenTurns h g = record { reports = h .reports ++ g .reports; tasks = g .tasks; network = g .network; store = g .store }
+thenTurns h g = record { reports = h .reports ++ g .reports; tasks = g .tasks; network = g .network; kept = g .kept }
 
 module _ (f : Facts) (n : ℕ) where
-  pub turns-append : (ts : List Task) (k : Network) (s : Store) (xs ys : List Step)
-      → let h = turnsOf f n ts k s xs in turnsOf f n ts k s (xs ++ ys) ≡ thenTurns h (turnsOf f n (h .tasks) (h .network) (h .store) ys)
+  pub turns-append : (ts : List Task) (k : Network) (s : Kept) (xs ys : List Step)
+      → let h = turnsOf f n ts k s xs in turnsOf f n ts k s (xs ++ ys) ≡ thenTurns h (turnsOf f n (h .tasks) (h .network) (h .kept) ys)
   unfolding turnsOf
   turns-append ts k s [] ys = refl
   turns-append ts k s (x ∷ xs) ys =
       let t = turnOf f n ts k s x in
-      rw (turns-append (t .tasks) (t .network) (t .store) xs ys) refl
+      rw (turns-append (t .tasks) (t .network) (t .kept) xs ys) refl
 
-  pub turns-reports : (ts : List Task) (k : Network) (s : Store) (xs : List Step) → length (turnsOf f n ts k s xs .reports) ≡ length xs
+  pub turns-reports : (ts : List Task) (k : Network) (s : Kept) (xs : List Step) → length (turnsOf f n ts k s xs .reports) ≡ length xs
   unfolding turnsOf
   turns-reports ts k s [] = refl
-  turns-reports ts k s (x ∷ xs) = let t = turnOf f n ts k s x in ap suc (turns-reports (t .tasks) (t .network) (t .store) xs)
+  turns-reports ts k s (x ∷ xs) = let t = turnOf f n ts k s x in ap suc (turns-reports (t .tasks) (t .network) (t .kept) xs)

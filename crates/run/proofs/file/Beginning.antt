@@ -18,13 +18,14 @@ use Rattle.rig_parts.specs.Facts.{Facts, facts, factsOf}
 use Rattle.rig_parts.specs.Turns.{Rig}
 use Rattle.plan_index.specs.user_table.Users.{receiversOf}
 use Rattle.plan_index.specs.user_table.Built.{Few, Built}
-use Rattle.board.specs.Lent.{lent, tasksOn, storeOf}
+use Rattle.board.specs.Lent.{lent, tasksOn, keptOf}
 use Rattle.board.specs.Acted.{StoredBy}
 use Rattle.board.specs.Rigs.{factsIn}
 use Rattle.rig.specs.start.Parts.{startStore, StartsOn}
-use Rattle.rig.proofs.start.Starting.{started-tasks, started-network, started-store}
+use Rattle.rig.proofs.start.Starting.{started-tasks, started-network, started-kept}
 use Rattle.rig.proofs.start.Tables.{few-ends}
 use Rattle.run.specs.file.Begins.{Begins}
+use Rattle.run.proofs.all_steps.Acting.{both-kept}
 
 -- who uses what of an accepted plan goes into the table
 pub few-users : {n : ℕ} {p : Plan} {f : Facts} → Begins n p f → Few (f .senders) (f .receivers) (f .parents)
@@ -44,7 +45,7 @@ module _ (count : ℕ) (codes numbers : List ℕ) {senders receivers parents use
       → StoredBy (forEnds (receiversOf users) (taskId 1) (processorId 1) (Locate (processorId 1) 1))
       (lent (z .hintprocessors) (z .hintmoves) (z .heldprocessors) (z .heldnumbers) (z .notes) board)
       (lent hp hm (z .heldprocessors) (z .heldnumbers) (z .notes) board)
-      → Rig (factsIn count codes numbers users) n (tasksOn board) k (storeOf (lent hp hm (z .heldprocessors) (z .heldnumbers) (z .notes) board))
+      → Rig (factsIn count codes numbers users) n (tasksOn board) k (keptOf (lent hp hm (z .heldprocessors) (z .heldnumbers) (z .notes) board))
   begun {n} {p} {k} {z} {hp} {hm} {board} b network empty on located =
       let e = facts-in ∙ b .derived in
       let sweep : List ℕ → Store → Store = λ receivers. forEnds receivers (taskId 1) (processorId 1) (Locate (processorId 1) 1) in
@@ -57,12 +58,14 @@ module _ (count : ℕ) (codes numbers : List ℕ) {senders receivers parents use
               facts-of = e ∙ ap factsOf (sym (started-plan n p));
               processors = sym (started-processors n p);
               tasks = on .tasks ∙ sym (started-tasks n p);
-              store =
-                  located .store
+              kept =
+                  both-kept
+                  (located .store
                   ∙ ap (λ (y : Channels). sweep (receiversOf users) (store z y)) (on .channels)
                   ∙ ap (λ (x : Tables). sweep (receiversOf users) (store x noChannels)) empty
-                  ∙ ap (λ (x : Facts). startStore (x .receivers)) e
-                  ∙ sym (started-store n p);
+                  ∙ ap (λ (x : Facts). startStore (x .receivers)) e)
+                  (on .parents)
+                  ∙ sym (started-kept n p);
               messages = ap (λ (q : Network). q .used) (network ∙ sym (started-network n p));
             };
         network = network ∙ sym (started-network n p);

@@ -10,12 +10,12 @@ use Rattle.rules.specs.declared.task.Task.{Task}
 use Rattle.rules.specs.declared.message.Network.{Network}
 use Rattle.rules.specs.declared.step.Step.{Step}
 use Rattle.rules.specs.declared.step.Report.{Report}
-use Rattle.rules.specs.declared.system.Store.{Store}
+use Rattle.rig_parts.specs.declared.kept.Kept.{Kept}
 use Rattle.rules.specs.Trace.{stepLines}
 use Rattle.rules.specs.StepFiles.{text, fitting, fileSteps}
 use Rattle.rig_parts.specs.Facts.{Facts}
 use Rattle.rig_parts.specs.Turns.{turnOf}
-use Rattle.board.specs.Lent.{Lent, tasksOf, storeOf}
+use Rattle.board.specs.Lent.{Lent, tasksOf, keptOf}
 
 -- as many whole lines as fit: how many bytes are filled, whether all fit, and the output then
 pub record Written (lines : List (List ℕ)) (before : List ℕ) (filled : ℕ) (whole : Bool) (after : List ℕ) : Type 0 where
@@ -28,14 +28,14 @@ pub record Turns : Type 0 where
   pub reports : List Report
   pub tasks : List Task
   pub network : Network
-  pub store : Store
+  pub kept : Kept
 
-unfoldable pub turnsOf : Facts → ℕ → List Task → Network → Store → List Step → Turns
-turnsOf f n ts k s [] = record { reports = []; tasks = ts; network = k; store = s }
+unfoldable pub turnsOf : Facts → ℕ → List Task → Network → Kept → List Step → Turns
+turnsOf f n ts k s [] = record { reports = []; tasks = ts; network = k; kept = s }
 turnsOf f n ts k s (x ∷ xs) =
     let t = turnOf f n ts k s x in
-    let h = turnsOf f n (t .tasks) (t .network) (t .store) xs in
-    record { reports = t .report ∷ h .reports; tasks = h .tasks; network = h .network; store = h .store }
+    let h = turnsOf f n (t .tasks) (t .network) (t .kept) xs in
+    record { reports = t .report ∷ h .reports; tasks = h .tasks; network = h .network; kept = h .kept }
 
 -- so many bytes are filled, and whether every line fitted, by a progress
 abbrev pub filledBy : List ℕ → ℕ
@@ -63,14 +63,14 @@ abbrev pub LineNext : List ℕ → List ℕ → List ℕ → List ℕ → List �
 LineNext line progress out progress' out' = LinesNext (line ∷ []) progress out progress' out'
 
 -- the steps are carried out, and their lines written as far as they fit
-pub record RanTo (h : Turns) (before : List ℕ) (ts : List Task) (k : Network) (s : Store) (progress after : List ℕ) : Type 0 where
+pub record RanTo (h : Turns) (before : List ℕ) (ts : List Task) (k : Network) (s : Kept) (progress after : List ℕ) : Type 0 where
   pub lines : WrittenBy (stepLines 0 (h .reports)) before progress after
   pub two : length progress ≡ 2
   pub tasks : ts ≡ h .tasks
   pub network : k ≡ h .network
-  pub store : s ≡ h .store
+  pub kept : s ≡ h .kept
 
 -- the same of the steps of a file, with what is lent before and after them
 abbrev pub RanOn : Facts → ℕ → Lent → Network → List ℕ → List ℕ → Lent → Network → List ℕ → List ℕ → Type 0
 RanOn f n l k steps before l' k' progress after =
-    RanTo (turnsOf f n (tasksOf l) k (storeOf l) (fileSteps steps)) before (tasksOf l') k' (storeOf l') progress after
+    RanTo (turnsOf f n (tasksOf l) k (keptOf l) (fileSteps steps)) before (tasksOf l') k' (keptOf l') progress after

@@ -16,7 +16,7 @@ use Rattle.rules.specs.declared.task.Task.{Task}
 use Rattle.rules.specs.Numbers.{taskId}
 use Rattle.rules.specs.Networks.{messagesOf}
 use Rattle.rules.specs.declared.rule.Posting.the-variants.{Nothing as NoPosting}
-use Rattle.rules.specs.declared.system.Store.{Store}
+use Rattle.rig_parts.specs.declared.kept.Kept.{Kept}
 use Rattle.rules.specs.Local.{syncRule, setRule, addRule}
 use Rattle.rules.specs.Systems.{taskIn}
 use Rattle.rig_parts.specs.Facts.{Facts}
@@ -31,7 +31,7 @@ none-fit : (n used : ℕ) → used ≤ 256 → leb (used + length (messagesOf n 
 unfolding messagesOf
 none-fit n used few = le-leb (used + 0) 256 (omega arith)
 
-module _ (f : Facts) (n : ℕ) (ts : List Task) (s : Store) (used : ℕ) (few : used ≤ 256) (t : TaskId) (x : Task) (is : x ≡ taskIn ts t) (i : Instruction) where
+module _ (f : Facts) (n : ℕ) (ts : List Task) (s : Kept) (used : ℕ) (few : used ≤ 256) (t : TaskId) (x : Task) (is : x ≡ taskIn ts t) (i : Instruction) where
   -- a create, a sync, a finish, a set
   pub create-is : i .opcode ≡ opCreate → fittingIn n used (ranIn f ts s t i) ≡ createVerdict t x (taskId (i .operand))
   unfolding ranIn runScope runChange siteIn cellOf
@@ -41,7 +41,7 @@ module _ (f : Facts) (n : ℕ) (ts : List Task) (s : Store) (used : ℕ) (few : 
   unfolding ranIn runScope runChange siteIn cellOf taskIn
   sync-is e = rw (is, e, none-fit n used few) refl
 
-  pub finish-is : i .opcode ≡ opFinish → fittingIn n used (ranIn f ts s t i) ≡ finishVerdict (f .parents) n used ts t x
+  pub finish-is : i .opcode ≡ opFinish → fittingIn n used (ranIn f ts s t i) ≡ finishVerdict (f .parents) n used ts (s .parents) t x
   unfolding ranIn runScope runChange siteIn cellOf
   finish-is e = rw (is, e) refl
 

@@ -10,7 +10,7 @@ use Rattle.base.proofs.Tests.{within-low, within-high}
 use Rattle.plan.specs.declared.TaskId.{TaskId}
 use Rattle.rules.specs.declared.task.Task.{Task}
 use Rattle.rules.specs.declared.task.TaskState.the-variants.{Ready}
-use Rattle.rules.specs.declared.system.Store.{Store}
+use Rattle.rig_parts.specs.declared.kept.Kept.{Kept}
 use Rattle.rules.specs.Numbers.{channelId}
 use Rattle.rules.specs.Tasks.{isIn}
 use Rattle.rules.specs.Systems.{readChannel, taskIn}
@@ -25,7 +25,7 @@ use Rattle.board.specs.Lent.{AtCell}
 use Rattle.steps.specs.instruction.Sends.{CanSend, sendVerdict}
 use Rattle.steps.specs.instruction.Receives.{CanReceive, receiveScope, receiveVerdict}
 
-module _ {f : Facts} {n : ℕ} {ts : List Task} {s : Store} {used : ℕ} (p : PartsOf f n ts s used) (t : TaskId)
+module _ {f : Facts} {n : ℕ} {ts : List Task} {s : Kept} {used : ℕ} (p : PartsOf f n ts s used) (t : TaskId)
     (w : within 1 (f .tasks) (t .0) ≡ true) (ready : isIn Ready (taskIn ts t) ≡ true) where
   -- the argument of the next instruction
   abbrev c : ℕ
@@ -48,7 +48,7 @@ module _ {f : Facts} {n : ℕ} {ts : List Task} {s : Store} {used : ℕ} (p : Pa
 
   module _ (send : nextAt f ts t .opcode ≡ 4) where
     -- the verdict on a send
-    pub send-judged : judgedRun f n ts s used t ≡ sendVerdict (f .codes) (f .numbers) (f .receivers) n used ts s t (channelId c)
+    pub send-judged : judgedRun f n ts s used t ≡ sendVerdict (f .codes) (f .numbers) (f .receivers) n used ts (s .store) t (channelId c)
     unfolding judgedRun runRefusal ranIn runChange sendIn runScope siteIn
     send-judged = rw (w, ready, send) refl
 
@@ -72,7 +72,7 @@ module _ {f : Facts} {n : ℕ} {ts : List Task} {s : Store} {used : ℕ} (p : Pa
 
   module _ (receive : nextAt f ts t .opcode ≡ 5) where
     -- the verdict on a receive
-    pub receive-judged : judgedRun f n ts s used t ≡ receiveVerdict (f .codes) (f .numbers) (f .senders) n used ts s t (channelId c)
+    pub receive-judged : judgedRun f n ts s used t ≡ receiveVerdict (f .codes) (f .numbers) (f .senders) n used ts (s .store) t (channelId c)
     unfolding judgedRun runRefusal ranIn runChange sendIn runScope siteIn
     receive-judged = rw (w, ready, receive) refl
 
@@ -81,17 +81,17 @@ module _ {f : Facts} {n : ℕ} {ts : List Task} {s : Store} {used : ℕ} (p : Pa
     named = rw receive at (argument-ok p t w ready)
 
     -- the number called is small
-    called-few : readChannel (s .channels) (c - 1) .granted < 255
+    called-few : readChannel (s .store .channels) (c - 1) .granted < 255
     unfolding cellOf
     called-few =
         let high = within-high 1 (f .tasks) (t .0) w in
         let reached = scope-reached p (receiveScope (f .senders) ts t (channelId c)) (sender-few p c) high (within-high 1 128 c named) (processor-in p t w ready) in
         let low = within-low 1 128 c named in
-        let few : readChannel (s .channels) (c - 1) .granted ≤ 64 = rw (ne-eqb c 0 (λ z. omega arith)) at (reached .called) in
+        let few : readChannel (s .store .channels) (c - 1) .granted ≤ 64 = rw (ne-eqb c 0 (λ z. omega arith)) at (reached .called) in
         omega arith
 
     -- what a receive supposes
-    pub receive-can : CanReceive (f .senders) used ts (s .channels) t (channelId c)
+    pub receive-can : CanReceive (f .senders) used ts (s .store .channels) t (channelId c)
     receive-can =
         let u = namedIn (f .senders) c in
         record {

@@ -13,7 +13,7 @@ use Rattle.plan.specs.declared.TaskId.{TaskId}
 use Rattle.plan.specs.declared.Instruction.{Instruction}
 use Rattle.plan.specs.Kinds.{opCreate, opSync, opFinish, opSend, opReceive, opSet}
 use Rattle.rules.specs.declared.task.Task.{Task}
-use Rattle.rules.specs.declared.system.Store.{Store}
+use Rattle.rig_parts.specs.declared.kept.Kept.{Kept}
 use Rattle.rules.specs.Numbers.{taskId, channelId}
 use Rattle.rules.specs.Local.{syncRule, setRule, addRule}
 use Rattle.rules.specs.Systems.{taskIn}
@@ -30,7 +30,7 @@ use Rattle.steps.proofs.instruction.Nexts.{ReadyWith}
 use Rattle.steps.proofs.instruction.ByKind.{create-is, sync-is, finish-is, set-is, add-is, plain-is}
 use Rattle.steps.proofs.instruction.Judged.{send-judged, send-can, receive-judged, receive-can}
 
-module _ {f : Facts} {n : ℕ} {ts : List Task} {s : Store} {used : ℕ} {t : TaskId} {x : Task} {i : Instruction} (g : ReadyWith f n ts s used t x i) where
+module _ {f : Facts} {n : ℕ} {ts : List Task} {s : Kept} {used : ℕ} {t : TaskId} {x : Task} {i : Instruction} (g : ReadyWith f n ts s used t x i) where
   -- the number of the task, and its place
   task-low : 1 ≤ t .0
   task-low = within-low 1 (f .tasks) (t .0) (g .counted)
@@ -72,21 +72,30 @@ module _ {f : Facts} {n : ℕ} {ts : List Task} {s : Store} {used : ℕ} {t : Ta
   sync-judged e = g .judged ∙ sync-is f n ts s used (used-few (g .parts)) t x (g .task) i e
 
   pub finish-can : CanFinish (f .parents) t x
-  finish-can = record { task-low = task-low; task = task-few; parent = omega (arith, count-few (g .parts), parent-few (g .parts) (t .0)); place = place-few }
+  finish-can =
+      let processor = processor-in (g .parts) t (g .counted) (g .ready) in
+      record {
+        task-low = task-low;
+        task = task-few;
+        parent = omega (arith, count-few (g .parts), parent-few (g .parts) (t .0));
+        place = place-few;
+        processor-low = rw (g .task) (within-low 1 6 (taskIn ts t .processor .0) processor);
+        processor = rw (g .task) (within-high 1 6 (taskIn ts t .processor .0) processor);
+      }
 
-  pub finish-judged : i .opcode ≡ opFinish → judgedRun f n ts s used t ≡ finishVerdict (f .parents) n used ts t x
+  pub finish-judged : i .opcode ≡ opFinish → judgedRun f n ts s used t ≡ finishVerdict (f .parents) n used ts (s .parents) t x
   finish-judged e = g .judged ∙ finish-is f n ts s used (used-few (g .parts)) t x (g .task) i e
 
   pub sends-can : i .opcode ≡ opSend → CanSend (f .receivers) used ts t (channelId (i .operand))
   sends-can e = rw (g .next) (send-can (g .parts) t (g .counted) (g .ready) (rw (g .next) at e))
 
-  pub sends-judged : i .opcode ≡ opSend → judgedRun f n ts s used t ≡ sendVerdict (f .codes) (f .numbers) (f .receivers) n used ts s t (channelId (i .operand))
+  pub sends-judged : i .opcode ≡ opSend → judgedRun f n ts s used t ≡ sendVerdict (f .codes) (f .numbers) (f .receivers) n used ts (s .store) t (channelId (i .operand))
   sends-judged e = rw (g .next) (send-judged (g .parts) t (g .counted) (g .ready) (rw (g .next) at e))
 
-  pub receives-can : i .opcode ≡ opReceive → CanReceive (f .senders) used ts (s .channels) t (channelId (i .operand))
+  pub receives-can : i .opcode ≡ opReceive → CanReceive (f .senders) used ts (s .store .channels) t (channelId (i .operand))
   receives-can e = rw (g .next) (receive-can (g .parts) t (g .counted) (g .ready) (rw (g .next) at e))
 
-  pub receives-judged : i .opcode ≡ opReceive → judgedRun f n ts s used t ≡ receiveVerdict (f .codes) (f .numbers) (f .senders) n used ts s t (channelId (i .operand))
+  pub receives-judged : i .opcode ≡ opReceive → judgedRun f n ts s used t ≡ receiveVerdict (f .codes) (f .numbers) (f .senders) n used ts (s .store) t (channelId (i .operand))
   receives-judged e = rw (g .next) (receive-judged (g .parts) t (g .counted) (g .ready) (rw (g .next) at e))
 
   pub set-judged : i .opcode ≡ opSet → judgedRun f n ts s used t ≡ aloneVerdict t (x .processor) (setRule x i)

@@ -30,7 +30,7 @@ use Rattle.rig_parts.proofs.BoundsParts.{within-wider, rig-sound, count-few, pr
 use Rattle.rig_parts.proofs.BoundsScope.{Reached, scope-reached}
 use Rattle.plan_index.specs.user_table.Users.{sendersOf, receiversOf}
 use Rattle.board.specs.declared.act.Size.{Size}
-use Rattle.board.specs.Lent.{Lent, Whole, AtCell, tasksOn, channelsOn, tasksOf, storeOf}
+use Rattle.board.specs.Lent.{Lent, Whole, AtCell, tasksOn, channelsOn, tasksOf, keptOf}
 use Rattle.board.specs.Rigs.{RigOn, Opens}
 
 -- the ends of channel c
@@ -54,7 +54,7 @@ pub record Bounded (users board : List ℕ) (c : ChannelId) (d : ProcessorId) : 
 module _ {codes numbers users : List ℕ} {n : Size} {l : Lent} (g : RigOn codes numbers users n l) (c : ChannelId) (d : ProcessorId)
     (ck : channelNumberOk c ≡ true) (dk : processorOk (n .processors) d ≡ true) where
   -- what is reached from there
-  reached : Reached (tasksOf l) (storeOf l) (channelScope (sendersOf users) (receiversOf users) c d)
+  reached : Reached (tasksOf l) (keptOf l) (channelScope (sendersOf users) (receiversOf users) c d)
   reached =
       let p = g .parts in
       scope-reached p _ (sender-few p (c .0)) (receiver-few p (c .0)) (within-high 1 128 (c .0) ck) (within-wider (n .processors) 6 (processors-few p) (d .0) dk)

@@ -14,6 +14,7 @@ use Rattle.rules.specs.declared.channel.Cell.{Cell}
 use Rattle.rules.specs.declared.message.Message.{Message}
 use Rattle.rules.specs.declared.message.Message.the-variants.{Offered, Advert, ReadyToReceive, Data}
 use Rattle.rules.specs.declared.rule.Site.{Site}
+use Rattle.rules.specs.declared.system.ParentEntry.{ParentEntry}
 use Rattle.rules.specs.declared.rule.Outcome.{Outcome}
 use Rattle.rules.specs.Tasks.{isAt}
 use Rattle.rules.specs.Cells.{counts, noneCalled}
@@ -85,19 +86,19 @@ module _ (x : Site) (c : ChannelId) where
 -- the letter m goes to channel c at desk d, where this rule is asked, which sees so much of the site and leaves the rest
 pub record Kind (rule : Site → Message → Outcome) (sees : Site → Site) (leaves : Site → Outcome → Outcome) (m : Message) (c : ChannelId) (d : ProcessorId) : Type 0 where
   pub at : (senders receivers parents : List ℕ) → messageScope senders receivers parents m ≡ channelScope senders receivers c d
-  pub does : (k : Scope) (x : Site) → messageChange k m x ≡ change k (rule x m) Nothing
+  pub does : (k : Scope) (x : Site) (e : ParentEntry) → messageChange k m x e ≡ change k (rule x m) Nothing
   pub rest : (x : Site) → rule x m ≡ leaves x (rule (sees x) m)
 
 module _ (c : ChannelId) where
   -- the four kinds
   pub offer-kind : (o : Offer) (h : Hint) → Kind onOffer offerSees offerLeaves (Offered c o h) c (h .processor)
-  offer-kind o h = record { at = λ ss rs ps. refl; does = λ k x. refl; rest = λ x. offer-left x c o h }
+  offer-kind o h = record { at = λ ss rs ps. refl; does = λ k x e. refl; rest = λ x. offer-left x c o h }
 
   pub advert-kind : (d from : ProcessorId) → Kind onAdvert advertSees advertLeaves (Advert c d from) c d
-  advert-kind d from = record { at = λ ss rs ps. refl; does = λ k x. refl; rest = λ x. advert-left x c d from }
+  advert-kind d from = record { at = λ ss rs ps. refl; does = λ k x e. refl; rest = λ x. advert-left x c d from }
 
   pub call-kind : (d : ProcessorId) (h : Hint) → Kind onCall callSees callLeaves (ReadyToReceive c d h) c d
-  call-kind d h = record { at = λ ss rs ps. refl; does = λ k x. refl; rest = λ x. call-left x c d h }
+  call-kind d h = record { at = λ ss rs ps. refl; does = λ k x e. refl; rest = λ x. call-left x c d h }
 
   pub word-kind : (d : ProcessorId) (w : Word) → Kind onData wordSees wordLeaves (Data c d w) c d
-  word-kind d w = record { at = λ ss rs ps. refl; does = λ k x. refl; rest = λ x. word-left x c d w }
+  word-kind d w = record { at = λ ss rs ps. refl; does = λ k x e. refl; rest = λ x. word-left x c d w }

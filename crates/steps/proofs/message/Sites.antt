@@ -18,7 +18,7 @@ use Rattle.rig_parts.specs.RunVerdicts.{change}
 use Rattle.rig_parts.specs.Openings.{openedIn}
 use Rattle.plan_index.specs.user_table.Users.{sendersOf, receiversOf, parentsOf}
 use Rattle.board.specs.declared.act.Act.{Act}
-use Rattle.board.specs.Lent.{Lent, Whole, tasksOf, storeOf}
+use Rattle.board.specs.Lent.{Lent, Whole, tasksOf, storeOf, keptOf, parentsOn}
 use Rattle.board.specs.Acted.{acceptedAct}
 use Rattle.board.specs.Rigs.{factsIn, Opened, Opening}
 use Rattle.steps.specs.message.Seen.{Found}
@@ -43,12 +43,12 @@ module _ {rule : Site → Message → Outcome} {sees : Site → Site} {leaves : 
 
   -- what opening it does, by what the rule leaves of what it sees
   opens : {o : Outcome} → Found rule sees codes users x l o → (count : ℕ) (numbers : List ℕ)
-      → openedIn (factsIn count codes numbers users) (tasksOf l) (storeOf l) x
+      → openedIn (factsIn count codes numbers users) (tasksOf l) (keptOf l) x
       ≡ change (messageScope (sendersOf users) (receiversOf users) (parentsOf users) x) (leaves here o) Nothing
   unfolding openedIn
   opens f count numbers =
       let scope = messageScope (sendersOf users) (receiversOf users) (parentsOf users) x in
-      k .does scope here ∙ ap (λ (z : Outcome). change scope z Nothing) (k .rest here ∙ ap (leaves here) (sym f))
+      k .does scope here _ ∙ ap (λ (z : Outcome). change scope z Nothing) (k .rest here ∙ ap (leaves here) (sym f))
 
   -- it is decided
   pub opening : {o : Outcome} {r : Act} → Found rule sees codes users m l o → r ≡ acceptedAct (leaves here o) → Opening codes users m l r
@@ -71,9 +71,10 @@ module _ {rule : Site → Message → Outcome} {sees : Site → Site} {leaves : 
         → Whole (l' .board)
         → tasksOf l' ≡ taskStored (taskStored (tasksOf l) (senderIn users c) (q .sender)) (receiverIn users c) (q .receiver)
         → storeOf l' ≡ cellStored (storeOf l) d c (q .cell)
+        → parentsOn (l' .board) ≡ parentsOn (l .board)
         → Opened codes users m l r l'
     unfolding cellPut
-    opened l' f er w et es =
+    opened l' f er w et es ep =
         rw e
         (λ count numbers.
         rw (opens f count numbers, site-at, k .at (sendersOf users) (receiversOf users) (parentsOf users))
@@ -82,4 +83,5 @@ module _ {rule : Site → Message → Outcome} {sees : Site → Site} {leaves : 
           act = er;
           tasks = et;
           store = rw (ne-eqb (c .0) 0 (λ z. omega arith)) es;
+          parents = ep;
         }))

@@ -5,7 +5,7 @@ use Rattle.rules.specs.declared.step.StepAnswer.the-variants.{BadStep}
 use Rattle.rules.specs.Numbers.{taskId}
 use Rattle.rig_parts.specs.declared.change.Verdict.{Verdict}
 use Rattle.rig_parts.specs.Facts.{Facts}
-use Rattle.board.specs.Lent.{Lent, lent, tasksOf, storeOf}
+use Rattle.board.specs.Lent.{Lent, lent, tasksOf, keptOf}
 use Rattle.board.specs.Rigs.{factsIn}
 use Rattle.board.specs.Verdicts.{stepVerdict}
 use Rattle.steps.specs.Kinds.{kindRefusal}
@@ -23,7 +23,7 @@ abbrev here : tie.Start → Lent
 here s = let a = s .args in lent (a .hintprocessors .now) (a .hintmoves .now) (a .heldprocessors .now) (a .heldnumbers .now) (a .notes .now) (a .board .now)
 
 abbrev verdict : tie.Start → Verdict
-verdict s = let a = s .args in stepVerdict (given s) (a .n .processors) (tasksOf (here s)) (storeOf (here s)) (a .n .used) (a .s)
+verdict s = let a = s .args in stepVerdict (given s) (a .n .processors) (tasksOf (here s)) (keptOf (here s)) (a .n .used) (a .s)
 
 refused-requires : tie.Need-refused-requires
 refused-requires c κs = search needs
@@ -43,7 +43,7 @@ returns-2 c =
     let z = c .before .before .before .before .before .before .before in
     let k = z .before .before in
     let s = k .before .before in
-    same-acted (a-run (given s) (s .args .n .processors) (tasksOf (here s)) (storeOf (here s)) (s .args .n .used) (s .args .s) (k .if1 .taken) (omega (arith, z .if2 .left)))
+    same-acted (a-run (given s) (s .args .n .processors) (tasksOf (here s)) (keptOf (here s)) (s .args .n .used) (s .args .s) (k .if1 .taken) (omega (arith, z .if2 .left)))
     (c .run .ensures)
 
 move-task-requires : tie.Need-move-task-requires
@@ -55,7 +55,7 @@ returns-3 : tie.Need-returns-3
 returns-3 c =
     let k = c .before .before .before .before in
     let s = k .before .before .before .before in
-    same-acted (a-move (given s) (s .args .n .processors) (tasksOf (here s)) (storeOf (here s)) (s .args .n .used) (s .args .s) (k .if3 .taken))
+    same-acted (a-move (given s) (s .args .n .processors) (tasksOf (here s)) (keptOf (here s)) (s .args .n .used) (s .args .s) (k .if3 .taken))
     (c .move-task .ensures (s .args .heldprocessors .now) (s .args .heldnumbers .now) (s .args .notes .now))
 
 no-message-requires : tie.Need-no-message-requires

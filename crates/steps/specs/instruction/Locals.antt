@@ -9,13 +9,17 @@ use Rattle.rules.specs.declared.rule.Posting.{Posting}
 use Rattle.rules.specs.declared.rule.Posting.the-variants.{Nothing as NoPosting}
 use Rattle.rules.specs.declared.rule.Received.the-variants.{Nothing as NoWord}
 use Rattle.rules.specs.Numbers.{channelId}
+use Rattle.rules.specs.declared.rule.Finished.{Finished}
+use Rattle.rules.specs.declared.system.Parents.{Parents}
+use Rattle.rules.specs.Hints.{hint}
 use Rattle.rules.specs.Tasks.{noTask, born}
 use Rattle.rules.specs.Local.{createRule, finishRule}
 use Rattle.rules.specs.Systems.{taskIn}
-use Rattle.rig_parts.specs.declared.sweep.Sweep.the-variants.{Nothing, Birth}
+use Rattle.rig_parts.specs.declared.sweep.Sweep.the-variants.{Nothing, Birth, Ending}
 use Rattle.rig_parts.specs.declared.change.Change.{Change}
 use Rattle.rig_parts.specs.declared.change.Verdict.{Verdict}
 use Rattle.rig_parts.specs.declared.change.Verdict.the-variants.{Accepted}
+use Rattle.rig_parts.specs.Sweeps.{parentIn}
 use Rattle.rig_parts.specs.Fetches.{noCell}
 use Rattle.rig_parts.specs.Scopes.{scope, alone, namedIn}
 use Rattle.rig_parts.specs.RunVerdicts.{change, fittingIn}
@@ -28,7 +32,7 @@ twoTasks a b p = record { sender = a; receiver = b; cell = noCell; posting = p; 
 abbrev pub createVerdict : TaskId → Task → TaskId → Verdict
 createVerdict t x u =
     let d = x .processor in
-    Accepted (change (scope t u (channelId 0) d) (twoTasks (createRule x u) (born d) NoPosting) (Birth u d))
+    Accepted (change (scope t u (channelId 0) d) (twoTasks (createRule x u) (born d (hint d (x .moves))) NoPosting) (Birth u d))
 
 -- what it supposes
 pub record CanCreate (t : TaskId) (x : Task) (u : TaskId) : Type 0 where
@@ -39,16 +43,21 @@ pub record CanCreate (t : TaskId) (x : Task) (u : TaskId) : Type 0 where
   pub processor-low : 1 ≤ x .processor .0
   pub processor : x .processor .0 ≤ 6
 
--- a finish: its parent, and the task
-abbrev pub finishChange : List ℕ → List Task → TaskId → Task → Change
-finishChange parents ts t x =
+-- what a finish leaves of its parent, of the task and of what its desk keeps for the parent
+abbrev pub finishedIn : List ℕ → List Task → Parents → TaskId → Task → Finished
+finishedIn parents ts ps t x =
     let u = namedIn parents (t .0) in
-    let o = finishRule t x (taskIn ts u) in
-    change (scope u t (channelId 0) (x .processor)) (twoTasks (o .parent) (o .task) (o .posting)) Nothing
+    finishRule t x (taskIn ts u) (parentIn ps (x .processor) u)
+
+abbrev pub finishChange : List ℕ → List Task → Parents → TaskId → Task → Change
+finishChange parents ts ps t x =
+    let u = namedIn parents (t .0) in
+    let o = finishedIn parents ts ps t x in
+    change (scope u t (channelId 0) (x .processor)) (twoTasks (o .parent) (o .task) (o .posting)) (Ending u (x .processor) (o .entry))
 
 -- it is refused where its letter does not fit
-abbrev pub finishVerdict : List ℕ → ℕ → ℕ → List Task → TaskId → Task → Verdict
-finishVerdict parents n used ts t x = fittingIn n used (finishChange parents ts t x)
+abbrev pub finishVerdict : List ℕ → ℕ → ℕ → List Task → Parents → TaskId → Task → Verdict
+finishVerdict parents n used ts ps t x = fittingIn n used (finishChange parents ts ps t x)
 
 -- what it supposes
 pub record CanFinish (parents : List ℕ) (t : TaskId) (x : Task) : Type 0 where
@@ -56,6 +65,8 @@ pub record CanFinish (parents : List ℕ) (t : TaskId) (x : Task) : Type 0 where
   pub task : t .0 ≤ 64
   pub parent : namedIn parents (t .0) .0 ≤ 64
   pub place : x .pc < 255
+  pub processor-low : 1 ≤ x .processor .0
+  pub processor : x .processor .0 ≤ 6
 
 -- another instruction makes the task y, at desk d
 abbrev pub aloneVerdict : TaskId → ProcessorId → Task → Verdict

@@ -1,20 +1,22 @@
 -- The letters that are about a task: which one a letter is, and that it can be opened beside what is not lent for it.
 use mathlib.Core.Path.{_≡_}
 use mathlib.Core.List.{List}
-use Prim.Native.Nat.{ℕ}
+use Prim.Native.Nat.{ℕ, _≤_}
 use Rattle.plan.specs.declared.ProcessorId.{ProcessorId}
 use Rattle.plan.specs.declared.TaskId.{TaskId}
 use Rattle.rules.specs.declared.message.Message.{Message}
-use Rattle.rules.specs.declared.message.Message.the-variants.{Terminated, Migration}
+use Rattle.rules.specs.declared.message.Message.the-variants.{Migration}
+use Rattle.rules.specs.declared.channel.Hint.{Hint}
+use Rattle.rules.specs.declared.task.Task.{Task}
+use Rattle.rules.specs.declared.rule.Ended.{Ended}
+use Rattle.rules.specs.declared.system.Parents.{Parents}
+use Rattle.rules.specs.Systems.{taskIn}
+use Rattle.rules.specs.Arrivals.{terminatedRule}
+use Rattle.rig_parts.specs.Sweeps.{parentIn}
+use Rattle.rig_parts.specs.Scopes.{namedIn}
 use Rattle.board.specs.Lent.{lent}
 use Rattle.board.specs.Rigs.{Opens}
 use Rattle.steps.specs.message.Parts.{Some}
-
--- m is an ended letter
-pub record IsEnded (m : Message) : Type 0 where
-  pub processor : ProcessorId
-  pub child : TaskId
-  pub is : m ≡ Terminated processor child
 
 -- m is a mover letter
 pub record IsMover (m : Message) : Type 0 where
@@ -22,14 +24,21 @@ pub record IsMover (m : Message) : Type 0 where
   pub task : TaskId
   pub is : m ≡ Migration processor task
 
--- an ended letter can be opened beside some codes and tables
-abbrev pub EndedOpens : (users board : List ℕ) → Message → Type 0
-EndedOpens users board m =
-    (IsEnded m)
-    × (Some (λ codes. Some (λ hintprocessors. Some (λ hintmoves. Some (λ heldprocessors. Some (λ heldnumbers. Some (λ notes.
-    Opens codes users (lent hintprocessors hintmoves heldprocessors heldnumbers notes board) m)))))))
+-- what an ended letter for child t along h leaves: of the parent, of what the letter's desk keeps for it, and the letter
+abbrev pub endedIn : List ℕ → List Task → Parents → Hint → TaskId → Ended
+endedIn parents ts ps h t =
+    let u = namedIn parents (t .0) in
+    terminatedRule (taskIn ts u) (parentIn ps (h .processor) u) h t
 
--- a mover letter, beside some codes and notes
+-- what it supposes
+pub record CanEnd (parents : List ℕ) (h : Hint) (t : TaskId) : Type 0 where
+  pub child-low : 1 ≤ t .0
+  pub child : t .0 ≤ 64
+  pub parent : namedIn parents (t .0) .0 ≤ 64
+  pub processor-low : 1 ≤ h .processor .0
+  pub processor : h .processor .0 ≤ 6
+
+-- a mover letter can be opened beside some codes and notes
 abbrev pub MoverOpens : (users hintprocessors hintmoves heldprocessors heldnumbers board : List ℕ) → Message → Type 0
 MoverOpens users hintprocessors hintmoves heldprocessors heldnumbers board m =
     (IsMover m)

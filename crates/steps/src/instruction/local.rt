@@ -3,19 +3,19 @@ ghost use mathlib.Core.Path.{_≡_};
 ghost use mathlib.Core.List.{List};
 ghost use Prim.Native.Nat.{ℕ, _≤_};
 ghost use Rattle.plan.specs.declared.ProcessorId.{ProcessorId};
-ghost use Rattle.rules.specs.Local.{finishRule};
-ghost use Rattle.rules.specs.Systems.{taskIn};
-ghost use Rattle.rig_parts.specs.Scopes.{namedIn};
 ghost use Rattle.plan_index.specs.user_table.Users.{receiversOf, parentsOf, Indexed};
-ghost use Rattle.board.specs.Lent.{lent, Whole, tasksOn};
+ghost use Rattle.board.specs.Lent.{lent, Whole, tasksOn, parentsOn};
 ghost use Rattle.board.specs.Acted.{Acted, actOf};
-ghost use Rattle.steps.specs.instruction.Locals.{CanCreate, CanFinish, createVerdict, finishVerdict, aloneVerdict};
+ghost use Rattle.steps.specs.instruction.Locals.{CanCreate, CanFinish, createVerdict, finishedIn, finishVerdict, aloneVerdict};
 use board::Board;
 use board::act::Act;
 use board::act::Size;
 use board::act::fits;
 use board::act::posted;
 use board::act::refused;
+use board::parent_at;
+use board::point_parent;
+use board::put_parent;
 use board::put_task;
 use board::sweeps::locate;
 use board::task_at;
@@ -46,32 +46,39 @@ pub fn create<'a>(
 {
     let d = x.processor;
     let y = task_rules::instructions::create_rule(x, u);
-    let child = x.birth(d);
+    let own = Hint {
+        processor: d,
+        moves: x.moves,
+    };
+    let child = x.birth(d, own);
     put_task(board, t, y);
     put_task(board, u, child);
     let h = Hint {
         processor: d,
         moves: 1,
     };
+    point_parent(board, d, u, h);
     locate(users, hintprocessors, hintmoves, u, d, h);
     posted(Posting::Nothing)
 }
 
-// What a finish of task t, with record x, leaves of its parent and of the task, and its letter.
+// What a finish of task t, with record x, leaves of its parent, of the task and of what its desk keeps for the parent, and its
+// letter.
 fn finished<'a>(users: &'a [u8; 1024], board: &'a Board, t: TaskId, x: Task) -> Finished
     requires { ⌜ CanFinish (parentsOf (now users)) t x ⌝ }
-    ensures { λ r. ⌜ r ≡ finishRule t x (taskIn (tasksOn (now (board .entry))) (namedIn (parentsOf (now (users .entry))) (t .0))) ⌝ }
+    ensures { λ r. ⌜ r ≡ finishedIn (parentsOf (now (users .entry))) (tasksOn (now (board .entry))) (parentsOn (now (board .entry))) t x ⌝ }
 {
     let u = parent(users, t);
     let a = task_at(board, u);
-    task_rules::instructions::finish_rule(t, x, a)
+    let e = parent_at(board, x.processor, u);
+    task_rules::instructions::finish_rule(t, x, a, e)
 }
 
 // A finish of task t, with record x, unless its letter does not fit.
 pub fn finish<'a>(users: &'a [u8; 1024], board: &'a mut Board, n: Size, t: TaskId, x: Task) -> Act
     requires { ⌜ (Whole (now board)) × (n .used ≤ 256) × (CanFinish (parentsOf (now users)) t x) ⌝ }
     ensures { λ r. ⌜ ((senders receivers hintprocessors hintmoves heldprocessors heldnumbers notes : List ℕ)
-        → Acted senders receivers (finishVerdict (parentsOf (now (users .entry))) (n .processors) (n .used) (tasksOn (now (board .entry))) t x)
+        → Acted senders receivers (finishVerdict (parentsOf (now (users .entry))) (n .processors) (n .used) (tasksOn (now (board .entry))) (parentsOn (now (board .entry))) t x)
         (lent hintprocessors hintmoves heldprocessors heldnumbers notes (now (board .entry)))
         r
         (lent hintprocessors hintmoves heldprocessors heldnumbers notes (now (board .exit)))) ⌝ }
@@ -84,8 +91,10 @@ pub fn finish<'a>(users: &'a [u8; 1024], board: &'a mut Board, n: Size, t: TaskI
     let u = parent(users, t);
     let left = f.parent;
     let done = f.task;
+    let entry = f.entry;
     put_task(board, u, left);
     put_task(board, t, done);
+    put_parent(board, x.processor, u, entry);
     posted(posting)
 }
 
@@ -98,7 +107,7 @@ pub fn finish_decided<'a>(
     x: Task,
 ) -> Act
     requires { ⌜ (n .used ≤ 256) × (CanFinish (parentsOf (now users)) t x) ⌝ }
-    ensures { λ r. ⌜ r ≡ actOf (finishVerdict (parentsOf (now (users .entry))) (n .processors) (n .used) (tasksOn (now (board .entry))) t x) ⌝ }
+    ensures { λ r. ⌜ r ≡ actOf (finishVerdict (parentsOf (now (users .entry))) (n .processors) (n .used) (tasksOn (now (board .entry))) (parentsOn (now (board .entry))) t x) ⌝ }
 {
     let f = finished(users, board, t, x);
     let posting = f.posting;

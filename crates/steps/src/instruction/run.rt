@@ -2,7 +2,7 @@
 ghost use mathlib.Core.Path.{_≡_};
 ghost use Rattle.rig_parts.specs.RunVerdicts.{judgedRun};
 ghost use Rattle.plan_index.specs.user_table.Users.{sendersOf, receiversOf};
-ghost use Rattle.board.specs.Lent.{lent, tasksOf, storeOf};
+ghost use Rattle.board.specs.Lent.{lent, tasksOf, keptOf};
 ghost use Rattle.board.specs.Acted.{Acted, actOf};
 ghost use Rattle.board.specs.Rigs.{RigOn, factsIn};
 use crate::instruction::local::alone;
@@ -48,7 +48,7 @@ pub fn run<'a>(
         (lent (now hintprocessors) (now hintmoves) (now heldprocessors) (now heldnumbers) (now notes) (now board)) ⌝ }
     ensures { λ r. ⌜ (let l = lent (now (hintprocessors .entry)) (now (hintmoves .entry)) (now (heldprocessors .entry)) (now (heldnumbers .entry)) (now (notes .entry)) (now (board .entry)) in
         Acted (sendersOf (now (users .entry))) (receiversOf (now (users .entry)))
-        (judgedRun (factsIn (n .tasks) (now (codes .entry)) (now (numbers .entry)) (now (users .entry))) (n .processors) (tasksOf l) (storeOf l) (n .used) t)
+        (judgedRun (factsIn (n .tasks) (now (codes .entry)) (now (numbers .entry)) (now (users .entry))) (n .processors) (tasksOf l) (keptOf l) (n .used) t)
         l
         r
         (lent (now (hintprocessors .exit)) (now (hintmoves .exit)) (now (heldprocessors .exit)) (now (heldnumbers .exit)) (now (notes .exit)) (now (board .exit)))) ⌝ }
@@ -118,7 +118,7 @@ pub fn run_decided<'a>(
     requires { ⌜ RigOn (now codes) (now numbers) (now users) n
         (lent (now hintprocessors) (now hintmoves) (now heldprocessors) (now heldnumbers) (now notes) (now board)) ⌝ }
     ensures { λ r. ⌜ (let l = lent (now (hintprocessors .entry)) (now (hintmoves .entry)) (now (heldprocessors .entry)) (now (heldnumbers .entry)) (now (notes .entry)) (now (board .entry)) in
-        r ≡ actOf (judgedRun (factsIn (n .tasks) (now (codes .entry)) (now (numbers .entry)) (now (users .entry))) (n .processors) (tasksOf l) (storeOf l) (n .used) t)) ⌝ }
+        r ≡ actOf (judgedRun (factsIn (n .tasks) (now (codes .entry)) (now (numbers .entry)) (now (users .entry))) (n .processors) (tasksOf l) (keptOf l) (n .used) t)) ⌝ }
 {
     let found = next_of(codes, board, n.tasks, t);
     match found {

@@ -7,6 +7,8 @@ ghost use Rattle.steps.specs.message.TaskMessages.{MoverOpens};
 use board::Board;
 use board::act::Act;
 use board::act::posted;
+use board::parent_at;
+use board::put_parent;
 use board::put_task;
 use board::sweeps::arrive;
 use board::task_at;
@@ -15,7 +17,7 @@ use rules::message::Message;
 use rules::rule::Posting;
 use rules::task::TaskState;
 
-// A moving task arrives; another stays as it is.
+// A moving task arrives, and the children that are held there for it leave its set; another stays as it is.
 pub fn mover<'a>(
     users: &'a [u8; 1024],
     hintprocessors: &'a mut [u8; 768],
@@ -39,8 +41,12 @@ pub fn mover<'a>(
     if !task_rules::state::is_in(a, TaskState::Moving) {
         return posted(Posting::Nothing);
     }
-    let y = channel_rules::messages::migration(a, m);
+    let e = parent_at(board, d, t);
+    let here = a.arrival(d);
+    let y = task_rules::children::without_children(here, e.held);
     put_task(board, t, y);
+    let entry = task_rules::parents::arrival_parent(d, a.moves);
+    put_parent(board, d, t, entry);
     let h = Hint {
         processor: d,
         moves: a.moves,

@@ -4,8 +4,8 @@ use Rattle.board.specs.packing.Packed.{channelOf}
 use Rattle.board.proofs.packing.channel_of.Statement.{statement}
 use Rattle.board.proofs.packing.channel_of.Tie as tie
 
-travelling-of-requires : tie.Need-travelling-of-requires
-travelling-of-requires c κs = search needs
+hint-of-requires : tie.Need-hint-of-requires
+hint-of-requires c κs = search needs
 
 low8-requires : tie.Need-low8-requires
 low8-requires c κs = search needs
@@ -27,7 +27,7 @@ pub channel-of-spec : {M : Type 1} → statement M
 channel-of-spec =
     tie.close
     (tie.spec
-    travelling-of-requires
+    hint-of-requires
     low8-requires
     low8-requires-2
     low8-requires-3

@@ -1,7 +1,7 @@
 -- `newer` keeps the pointer of the larger count.
 use native.Mathlib.Omega.{arith}
 use borrow.Author.Tests.{lt-ltb, le-ltb}
-use Rattle.rules.specs.Cells.{newer}
+use Rattle.rules.specs.Hints.{newer}
 use Rattle.cell_rules.proofs.order.newer.Statement.{statement}
 use Rattle.cell_rules.proofs.order.newer.Tie as tie
 

@@ -24,18 +24,22 @@ start-tasks-requires c κs = search needs
 no-channels-requires : tie.Need-no-channels-requires
 no-channels-requires c κs = search needs
 
+start-parents-requires : tie.Need-start-parents-requires
+start-parents-requires c κs = search needs
+
 no-messages-requires : tie.Need-no-messages-requires
 no-messages-requires c κs = search needs
 
 returns : tie.Need-returns
 returns c =
-    let tasks = c .before .before in
+    let parents = c .before in
+    let tasks = parents .before .before in
     let located = tasks .before .before .before .before in
     let tables = located .before .before .before .before .before .before in
     let built = tables .before in
     let s = built .before .before .before .before .before .before .before .before in
     let q = located .locate .ensures none none none zeros (unborn-none .whole) in
-    rw (c .no-messages .ensures, c .before .no-channels .ensures, tasks .start-tasks .ensures, tables .no-tables .ensures)
+    rw (c .no-messages .ensures, parents .start-parents .ensures, parents .before .no-channels .ensures, tasks .start-tasks .ensures, tables .no-tables .ensures)
     (started-located (s .args .processors) (s .args .p) (located .locate .last .1 .0) (located .locate .last .1 .1 .0)
     (rw (tables .no-tables .ensures, built .build .ensures .receivers-of, s .pre .0) at q))
 
@@ -48,5 +52,6 @@ start-spec =
     locate-requires
     start-tasks-requires
     no-channels-requires
+    start-parents-requires
     no-messages-requires
     returns)

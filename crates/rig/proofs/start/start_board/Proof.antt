@@ -3,7 +3,7 @@ use mathlib.Core.Path.{_≡_, refl, _∙_}
 use Prim.Native.Nat.{_≤_, _-_}
 use native.Mathlib.Omega.{arith}
 use borrow.Author.Needs.{needs}
-use Rattle.rig.proofs.start.Boards.{Unborn, unborn-none, unborn-more, unborn-channels, unborn-tasks}
+use Rattle.rig.proofs.start.Boards.{Unborn, unborn-none, unborn-more, unborn-channels, unborn-parents, unborn-tasks}
 use Rattle.rig.proofs.start.start_board.Statement.{statement}
 use Rattle.rules.specs.Systems.{taskStored}
 use Rattle.rig.proofs.start.start_board.Tie as tie
@@ -46,18 +46,25 @@ first-task-requires c κs = search needs
 put-task-requires : tie.Need-put-task-requires Inv-loop μ-loop
 put-task-requires c κs = (omega arith, c .before .before .before .loop .inv .1 .whole)
 
+point-parent-requires : tie.Need-point-parent-requires Inv-loop μ-loop
+point-parent-requires c κs = (record { processor-low = omega arith; processor = omega arith; task = omega arith }, c .before .put-task .ensures .0)
+
 returns : tie.Need-returns Inv-loop μ-loop
 unfolding taskStored
 returns c =
-    let b = c .before .before in
+    let first = c .before .before in
+    let b = first .before .before in
     let l = b .before .before in
     let e : l .loop .k ≡ 64 = omega arith in
     let board = l .loop .board in
     let u = l .loop .inv .1 in
+    let one = first .put-task .ensures in
+    let two = c .point-parent .ensures in
     record {
-      whole = c .put-task .ensures .0;
-      tasks = c .put-task .ensures .1 ∙ rw (b .first-task .ensures, unborn-tasks board (rw e at u)) refl;
-      channels = c .put-task .ensures .2 ∙ unborn-channels (l .loop .k) board u;
+      whole = two .0;
+      tasks = two .2 ∙ one .1 ∙ rw (b .first-task .ensures, unborn-tasks board (rw e at u)) refl;
+      channels = two .3 ∙ one .2 ∙ unborn-channels (l .loop .k) board u;
+      parents = two .1 ∙ rw (one .3, unborn-parents (l .loop .k) board u) refl;
     }
 
 pub start-board-spec : {M : Type 1} → statement M
@@ -76,4 +83,5 @@ start-board-spec =
     loop-again
     first-task-requires
     put-task-requires
+    point-parent-requires
     returns)

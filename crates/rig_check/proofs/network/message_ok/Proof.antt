@@ -35,14 +35,14 @@ word-ok-requires c κs = search needs
 enum-known-x-5 : tie.Need-enum-known-x-5
 enum-known-x-5 c = search needs
 
-of-task-ok-requires : tie.Need-of-task-ok-requires
-of-task-ok-requires c κs = search needs
+ended-ok-requires : tie.Need-ended-ok-requires
+ended-ok-requires c κs = search needs
 
 enum-known-x-6 : tie.Need-enum-known-x-6
 enum-known-x-6 c = search needs
 
-of-task-ok-requires-2 : tie.Need-of-task-ok-requires-2
-of-task-ok-requires-2 c κs = search needs
+mover-ok-requires : tie.Need-mover-ok-requires
+mover-ok-requires c κs = search needs
 
 returns : tie.Need-returns
 unfolding messageOk
@@ -66,11 +66,11 @@ returns-5 c = rw (c .before .before .x4 .given .1) (c .word-ok .ensures)
 
 returns-6 : tie.Need-returns-6
 unfolding messageOk
-returns-6 c = rw (c .before .before .x5 .given .1) (c .of-task-ok .ensures)
+returns-6 c = rw (c .before .before .x5 .given .1) (c .ended-ok .ensures)
 
 returns-7 : tie.Need-returns-7
 unfolding messageOk
-returns-7 c = rw (c .before .before .x6 .given .1) (c .of-task-ok2 .ensures)
+returns-7 c = rw (c .before .before .x6 .given .1) (c .mover-ok .ensures)
 
 pub message-ok-spec : {M : Type 1} → statement M
 message-ok-spec =
@@ -86,9 +86,9 @@ message-ok-spec =
     enum-known-x-4
     word-ok-requires
     enum-known-x-5
-    of-task-ok-requires
+    ended-ok-requires
     enum-known-x-6
-    of-task-ok-requires-2
+    mover-ok-requires
     returns
     returns-2
     returns-3

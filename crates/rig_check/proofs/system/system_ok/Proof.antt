@@ -50,25 +50,16 @@ returns-3 c =
     )
     refl
 
-tables-ok-requires : tie.Need-tables-ok-requires
-tables-ok-requires c κs = search needs
-
-channel-entries-ok-requires : tie.Need-channel-entries-ok-requires
-channel-entries-ok-requires c κs = search needs
-
-both-requires : tie.Need-both-requires
-both-requires c κs = search needs
-
-network-ok-requires : tie.Need-network-ok-requires
-network-ok-requires c κs = search needs
-
-both-requires-2 : tie.Need-both-requires-2
-both-requires-2 c κs = search needs
+origins-ok-requires : tie.Need-origins-ok-requires
+origins-ok-requires c κs =
+    let e = c .before .before in
+    let d = e .before .before .before in
+    sizes-passed (programs (d .before .before .args .r .plan)) (sym (e .before .plan-ok .ensures) ∙ not-false (e .before .plan-ok .result) (e .if2 .left))
 
 returns-4 : tie.Need-returns-4
 unfolding systemOk
 returns-4 c =
-    let f = c .before .before .before .before .before .before .before .before in
+    let f = c .before .before in
     let e = f .before .before in
     let d = e .before .before .before in
     rw (
@@ -78,8 +69,59 @@ returns-4 c =
       not-false (e .before .plan-ok .result) (e .if2 .left),
       ← f .before .tasks-ok .ensures,
       not-false (f .before .tasks-ok .result) (f .if3 .left),
+      ← c .before .origins-ok .ensures,
+      not-true (c .before .origins-ok .result) (c .if4 .taken),
     )
-    (cc)
+    refl
+
+channel-entries-ok-requires : tie.Need-channel-entries-ok-requires
+channel-entries-ok-requires c κs = search needs
+
+parents-ok-requires : tie.Need-parents-ok-requires
+parents-ok-requires c κs = search needs
+
+network-ok-requires : tie.Need-network-ok-requires
+network-ok-requires c κs = search needs
+
+both-requires : tie.Need-both-requires
+both-requires c κs = search needs
+
+both-requires-2 : tie.Need-both-requires-2
+both-requires-2 c κs = search needs
+
+tables-ok-requires : tie.Need-tables-ok-requires
+tables-ok-requires c κs = search needs
+
+both-requires-3 : tie.Need-both-requires-3
+both-requires-3 c κs = search needs
+
+returns-5 : tie.Need-returns-5
+unfolding systemOk
+returns-5 c =
+    let o = c .before .before .before .before .before .before .before .before .before .before .before in
+    let f = o .before .before in
+    let e = f .before .before in
+    let d = e .before .before .before in
+    rw (
+      ← d .before .processors-ok .ensures,
+      not-false (d .before .processors-ok .result) (d .if1 .left),
+      ← e .before .plan-ok .ensures,
+      not-false (e .before .plan-ok .result) (e .if2 .left),
+      ← f .before .tasks-ok .ensures,
+      not-false (f .before .tasks-ok .result) (f .if3 .left),
+      ← o .before .origins-ok .ensures,
+      not-false (o .before .origins-ok .result) (o .if4 .left),
+    )
+    (c .both3 .ensures
+    ∙ rw (
+      c .before .tables-ok .ensures,
+      c .before .before .both2 .ensures,
+      c .before .before .before .both .ensures,
+      c .before .before .before .before .network-ok .ensures,
+      c .before .before .before .before .before .parents-ok .ensures,
+      c .before .before .before .before .before .before .channel-entries-ok .ensures,
+    )
+    refl)
 
 pub system-ok-spec : {M : Type 1} → statement M
 system-ok-spec =
@@ -91,9 +133,13 @@ system-ok-spec =
     returns-2
     tasks-ok-requires
     returns-3
+    origins-ok-requires
+    returns-4
     channel-entries-ok-requires
+    parents-ok-requires
     network-ok-requires
     both-requires
-    tables-ok-requires
     both-requires-2
-    returns-4)
+    tables-ok-requires
+    both-requires-3
+    returns-5)

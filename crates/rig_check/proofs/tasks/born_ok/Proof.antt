@@ -24,14 +24,8 @@ wide16-requires c κs = search needs
 is-within-requires : tie.Need-is-within-requires
 is-within-requires c κs = search needs
 
-processor-ok-requires : tie.Need-processor-ok-requires
-processor-ok-requires c κs = search needs
-
 both-requires-3 : tie.Need-both-requires-3
 both-requires-3 c κs = search needs
-
-both-requires-4 : tie.Need-both-requires-4
-both-requires-4 c κs = search needs
 
 returns : tie.Need-returns
 returns c = cc
@@ -47,7 +41,5 @@ born-ok-spec =
     both-requires-2
     wide16-requires
     is-within-requires
-    processor-ok-requires
     both-requires-3
-    both-requires-4
     returns)

@@ -4,11 +4,11 @@ use borrow.Author.Needs.{needs}
 use Rattle.rig_check.proofs.tasks.unborn_ok.Statement.{statement}
 use Rattle.rig_check.proofs.tasks.unborn_ok.Tie as tie
 
-both-requires : tie.Need-both-requires
-both-requires c κs = search needs
-
 is-zero-requires : tie.Need-is-zero-requires
 is-zero-requires c κs = search needs
+
+both-requires : tie.Need-both-requires
+both-requires c κs = search needs
 
 both-requires-2 : tie.Need-both-requires-2
 both-requires-2 c κs = search needs
@@ -19,13 +19,10 @@ both-requires-3 c κs = search needs
 both-requires-4 : tie.Need-both-requires-4
 both-requires-4 c κs = search needs
 
-both-requires-5 : tie.Need-both-requires-5
-both-requires-5 c κs = search needs
-
 returns : tie.Need-returns
 unfolding unbornOk
 returns c = cc
 
 pub unborn-ok-spec : {M : Type 1} → statement M
 unborn-ok-spec =
-    tie.close (tie.spec both-requires is-zero-requires both-requires-2 both-requires-3 both-requires-4 both-requires-5 returns)
+    tie.close (tie.spec is-zero-requires both-requires both-requires-2 both-requires-3 both-requires-4 returns)

@@ -6,7 +6,7 @@ use Rattle.rules.specs.Networks.{messageAt}
 use Rattle.rig_parts.proofs.BoundsParts.{used-few}
 use Rattle.rig_parts.proofs.Bounds.{message-ok}
 use Rattle.network.specs.Positions.{positionOf}
-use Rattle.board.specs.Lent.{lent, tasksOf, storeOf}
+use Rattle.board.specs.Lent.{lent, tasksOf, keptOf}
 use Rattle.board.specs.Acted.{actOf}
 use Rattle.board.specs.Verdicts.{stepVerdict}
 use Rattle.board.specs.Rigs.{factsIn}
@@ -55,7 +55,7 @@ returns c =
     let t = c .before .before in
     let a = start (t .before) .args in
     let l = lent (a .hintprocessors .now) (a .hintmoves .now) (a .heldprocessors .now) (a .heldnumbers .now) (a .notes .now) (a .board .now) in
-    message-says (factsIn (a .n .tasks) (a .codes .now) (a .numbers .now) (a .users .now)) (a .n .processors) (tasksOf l) (a .t11) (storeOf l) (a .s)
+    message-says (factsIn (a .n .tasks) (a .codes .now) (a .numbers .now) (a .users .now)) (a .n .processors) (tasksOf l) (a .t11) (keptOf l) (a .s)
     (t .before .position .result)
     (at (t .before))
     (t .if1 .taken)
@@ -70,9 +70,9 @@ returns-2 c =
     let a = start (t .before) .args in
     let l = lent (a .hintprocessors .now) (a .hintmoves .now) (a .heldprocessors .now) (a .heldnumbers .now) (a .notes .now) (a .board .now) in
     let f = factsIn (a .n .tasks) (a .codes .now) (a .numbers .now) (a .users .now) in
-    other-says f (a .n .processors) (tasksOf l) (a .t11) (storeOf l) (a .s)
+    other-says f (a .n .processors) (tasksOf l) (a .t11) (keptOf l) (a .s)
     (sym (at (t .before)) ∙ t .if1 .left)
-    (c .step-decided .ensures ∙ ap (λ (u : ℕ). actOf (stepVerdict f (a .n .processors) (tasksOf l) (storeOf l) u (a .s))) (start (t .before) .pre .messages))
+    (c .step-decided .ensures ∙ ap (λ (u : ℕ). actOf (stepVerdict f (a .n .processors) (tasksOf l) (keptOf l) u (a .s))) (start (t .before) .pre .messages))
 
 pub decided-spec : {M : Type 1} → statement M
 decided-spec =

@@ -25,7 +25,7 @@ use Rattle.network.specs.Rounds.{messageOf}
 use Rattle.network.specs.Positions.{positionOf}
 use Rattle.network.proofs.Gaps.{holding}
 use Rattle.network.proofs.Posted.{after, after-none, after-skipped, after-posted, few-rounds, posted-none}
-use Rattle.board.specs.Lent.{lent, tasksOf, storeOf}
+use Rattle.board.specs.Lent.{lent, tasksOf, keptOf}
 use Rattle.board.specs.Acted.{plainAct}
 use Rattle.board.specs.Verdicts.{stepVerdict}
 use Rattle.board.specs.Rigs.{RigOn}
@@ -301,10 +301,10 @@ loop-again c =
     let d = after-deliver .deliver .ensures (f .tasks) (f .numbers) in
     let last = after-deliver .deliver .last .1 .1 in
     let then = lent (last .0) (last .1 .0) (last .1 .1 .0) (last .1 .1 .1 .0) (last .1 .1 .1 .1 .0) (last .1 .1 .1 .1 .1 .0) in
-    let turn = ap (λ (k : Network). turned (reportOf r) (tasksOf then) k (storeOf then)) (network-is after-wide8)
-    ∙ acted-turn (f .senders) (f .receivers) n (dequeued (b .network) p) here then r (Accepted (openedIn f (tasksOf here) (storeOf here) (getD (b .network .slots) (p - 1) noSlot .message))) d
-    ∙ message-turn f n (tasksOf here) (b .network) (storeOf here) x p (after-position .position .ensures .0) (then1 .if1 .taken)
-    ∙ ap (turnOf f n (tasksOf here) (b .network) (storeOf here)) (after-step-at .step-at .ensures) in
+    let turn = ap (λ (k : Network). turned (reportOf r) (tasksOf then) k (keptOf then)) (network-is after-wide8)
+    ∙ acted-turn (f .senders) (f .receivers) n (dequeued (b .network) p) here then r (Accepted (openedIn f (tasksOf here) (keptOf here) (getD (b .network .slots) (p - 1) noSlot .message))) d
+    ∙ message-turn f n (tasksOf here) (b .network) (keptOf here) x p (after-position .position .ensures .0) (then1 .if1 .taken)
+    ∙ ap (turnOf f n (tasksOf here) (b .network) (keptOf here)) (after-step-at .step-at .ensures) in
     (omega (arith, in-loop .loop-test .taken), d .whole, going-more _ _ _ _ _ _ (b .inv .2) turn (after-emit-next .emit-next .ensures))
 
 loop-less-2 : tie.Need-loop-less-2 Inv-loop2 μ-loop2 Inv-loop3 μ-loop3 Inv-loop μ-loop
@@ -329,10 +329,10 @@ loop-again-2 c =
     let d = after-word-run .word-run .ensures .1 (then2 .if2 .taken) (f .numbers) (start .args .users .now) (b .hintprocessors) (b .hintmoves) (b .heldprocessors) (b .heldnumbers) (b .notes) in
     let then = with-board at-loop (after-word-run .word-run .last .1 .0) in
     let none : positionOf (b .network .used) x ≡ 0 = sym (after-position .position .ensures .0) ∙ else1 .if1 .left in
-    let turn = ap (λ (k : Network). turned (reportOf plainAct) (tasksOf then) k (storeOf then)) (sym (posted-none n (b .network) Nothing tt refl))
-    ∙ acted-turn (f .senders) (f .receivers) n (b .network) here then plainAct (stepVerdict f n (tasksOf here) (storeOf here) (b .network .used) x) d
-    ∙ other-turn f n (tasksOf here) (b .network) (storeOf here) x none
-    ∙ ap (turnOf f n (tasksOf here) (b .network) (storeOf here)) (after-step-at .step-at .ensures) in
+    let turn = ap (λ (k : Network). turned (reportOf plainAct) (tasksOf then) k (keptOf then)) (sym (posted-none n (b .network) Nothing tt refl))
+    ∙ acted-turn (f .senders) (f .receivers) n (b .network) here then plainAct (stepVerdict f n (tasksOf here) (keptOf here) (b .network .used) x) d
+    ∙ other-turn f n (tasksOf here) (b .network) (keptOf here) x none
+    ∙ ap (turnOf f n (tasksOf here) (b .network) (keptOf here)) (after-step-at .step-at .ensures) in
     (omega (arith, in-loop .loop-test .taken), d .whole, going-more _ _ _ _ _ _ (b .inv .2) turn (after-emit-next2 .emit-next2 .ensures))
 
 loop-less-3 : tie.Need-loop-less-3 Inv-loop2 μ-loop2 Inv-loop3 μ-loop3 Inv-loop μ-loop
@@ -358,10 +358,10 @@ loop-again-3 c =
     let d = other-acted after-other in
     let then = other-left after-other in
     let none : positionOf (b .network .used) x ≡ 0 = sym (after-position .position .ensures .0) ∙ else1 .if1 .left in
-    let turn = ap (λ (k : Network). turned (reportOf r) (tasksOf then) k (storeOf then)) (network-then joined3)
-    ∙ acted-turn (f .senders) (f .receivers) n (b .network) here then r (stepVerdict f n (tasksOf here) (storeOf here) (b .network .used) x) d
-    ∙ other-turn f n (tasksOf here) (b .network) (storeOf here) x none
-    ∙ ap (turnOf f n (tasksOf here) (b .network) (storeOf here)) (after-step-at .step-at .ensures) in
+    let turn = ap (λ (k : Network). turned (reportOf r) (tasksOf then) k (keptOf then)) (network-then joined3)
+    ∙ acted-turn (f .senders) (f .receivers) n (b .network) here then r (stepVerdict f n (tasksOf here) (keptOf here) (b .network .used) x) d
+    ∙ other-turn f n (tasksOf here) (b .network) (keptOf here) x none
+    ∙ ap (turnOf f n (tasksOf here) (b .network) (keptOf here)) (after-step-at .step-at .ensures) in
     (omega (arith, in-loop .loop-test .taken), d .whole, going-more _ _ _ _ _ _ (b .inv .2) turn (after-emit-next3 .emit-next3 .ensures))
 
 same-length : tie.Need-same-length Inv-loop2 μ-loop2 Inv-loop3 μ-loop3 Inv-loop μ-loop

@@ -1,6 +1,6 @@
 -- Each kind of letter is handed to its act, which is lent a part; what it says of any rest is said of the one that there is.
 use Rattle.steps.proofs.message.Lending.{but-notes, by-notes, by-hints, by-board}
-use Rattle.steps.proofs.message.TaskActs.{none-opened}
+use Rattle.steps.proofs.message.TaskActs.{can-end, none-opened}
 use borrow.Author.Needs.{needs}
 use Rattle.steps.proofs.message.deliver.Statement.{statement}
 use Rattle.steps.proofs.message.deliver.Tie as tie
@@ -47,24 +47,24 @@ word-requires c κs =
     let x = told .enum-told5 .given in
     (record { channel = x .0 .0; processor = x .0 .1 .0; word = x .0 .1 .1 .0; is = x .1 }, by-board (told .before .before .pre))
 
-enum-told-6 : tie.Need-enum-told-6
-enum-told-6 c = search needs
+enum-known-m : tie.Need-enum-known-m
+enum-known-m c = search needs
 
 ended-requires : tie.Need-ended-requires
 ended-requires c κs =
-    let told = c .before in
-    let s = told .before .before in
-    let x = told .enum-told6 .given in
-    (record { processor = x .0 .0; child = x .0 .1 .0; is = x .1 }, record { list = s .args .codes .now; holds = by-board (s .pre) })
+    let k = c .before .before in
+    let s = k .before .before in
+    let x = k .m .given in
+    (s .pre .rig .whole, can-end (s .pre) (x .0 .0) (x .0 .1 .0) (x .1))
 
-enum-told-7 : tie.Need-enum-told-7
-enum-told-7 c = search needs
+enum-told-6 : tie.Need-enum-told-6
+enum-told-6 c = search needs
 
 mover-requires : tie.Need-mover-requires
 mover-requires c κs =
     let told = c .before .before .before .before .before in
     let s = told .before .before in
-    let x = told .enum-told7 .given in
+    let x = told .enum-told6 .given in
     (record { processor = x .0 .0; task = x .0 .1 .0; is = x .1 }, record { list = s .args .codes .now; holds = but-notes (s .pre) })
 
 returns : tie.Need-returns
@@ -94,8 +94,9 @@ returns-5 c =
 
 returns-6 : tie.Need-returns-6
 returns-6 c =
-    let a = c .before .before .before .before .args in
-    c .ended .ensures (a .codes .now) (a .hintprocessors .now) (a .hintmoves .now) (a .heldprocessors .now) (a .heldnumbers .now) (a .notes .now)
+    let k = c .before .before .before in
+    let a = k .before .before .args in
+    rw (k .m .given .1) (c .ended .ensures (a .codes .now) (a .hintprocessors .now) (a .hintmoves .now) (a .heldprocessors .now) (a .heldnumbers .now) (a .notes .now))
 
 returns-7 : tie.Need-returns-7
 returns-7 c =
@@ -116,9 +117,9 @@ deliver-spec =
     call-requires
     enum-told-5
     word-requires
-    enum-told-6
+    enum-known-m
     ended-requires
-    enum-told-7
+    enum-told-6
     mover-requires
     returns
     returns-2

@@ -1,6 +1,7 @@
 -- `move_refusal`: each test in its order.
 use mathlib.Core.Path.{_≡_, refl, sym, ap, _∙_}
 use mathlib.Core.Bool.{true, false}
+use Prim.Native.Nat.{_<_}
 use native.Mathlib.Nat.{lt-of-le-of-lt}
 use native.Mathlib.Omega.{arith}
 use lib.Dec.{eqb}
@@ -11,7 +12,7 @@ use Rattle.base.proofs.Tests.{within-high}
 use Rattle.rules.specs.declared.task.Task.{Task}
 use Rattle.rules.specs.declared.task.TaskState.the-variants.{Ready}
 use Rattle.rules.specs.Numbers.{processorId}
-use Rattle.rules.specs.Tasks.{isIn, isAt, isChildless}
+use Rattle.rules.specs.Tasks.{isIn, isAt}
 use Rattle.rules.specs.Systems.{taskIn}
 use Rattle.rig_parts.specs.MoveVerdicts.{moveRefusal}
 use Rattle.board.specs.Lent.{tasksOn}
@@ -42,8 +43,9 @@ from4 c = from3 (c .before .before)
 abbrev from5 : tie.Else5 → tie.Start
 from5 c = from4 (c .before .before)
 
-abbrev from6 : tie.Else6 → tie.Start
-from6 c = from5 (c .before .before)
+-- a number of desks has 8 bits
+narrow : (s : tie.Start) → s .args .n .processors < 256
+narrow s = search needs
 
 -- the task that is asked for
 abbrev found : tie.Start → Task
@@ -62,11 +64,8 @@ readied c = c .is-in .ensures ∙ ap (isIn Ready) (c .before .task-at .ensures)
 there : (c : tie.After-is-at) → c .is-at .result ≡ isAt (processorId (from3 (c .before) .args .to)) (found (from3 (c .before)))
 there c = c .is-at .ensures ∙ ap (isAt (processorId (from3 (c .before) .args .to))) (c .before .before .before .task-at .ensures)
 
-freed : (c : tie.After-is-childless) → c .is-childless .result ≡ isChildless (found (from4 (c .before)))
-freed c = c .is-childless .ensures ∙ ap isChildless (c .before .before .before .before .before .task-at .ensures)
-
-moves-are : (c : tie.Else5) → c .before .before .before .before .before .before .task-at .result .moves ≡ found (from5 c) .moves
-moves-are c = ap (λ (x : Task). x .moves) (c .before .before .before .before .before .before .task-at .ensures)
+moves-are : (c : tie.Else4) → c .before .before .before .before .task-at .result .moves ≡ found (from4 c) .moves
+moves-are c = ap (λ (x : Task). x .moves) (c .before .before .before .before .task-at .ensures)
 
 -- what a test that is passed says
 in-count : (c : tie.Else1) → within 1 (first (c .before) .args .n .tasks) (first (c .before) .args .t .0) ≡ true
@@ -81,11 +80,8 @@ ready c = sym (readied (c .before)) ∙ not-false _ (c .if3 .left)
 elsewhere : (c : tie.Else4) → isAt (processorId (from4 c .args .to)) (found (from4 c)) ≡ false
 elsewhere c = sym (there (c .before)) ∙ c .if4 .left
 
-childless : (c : tie.Else5) → isChildless (found (from5 c)) ≡ true
-childless c = sym (freed (c .before)) ∙ not-false _ (c .if5 .left)
-
-unspent : (c : tie.Else6) → eqb (found (from6 c) .moves) 9999 ≡ false
-unspent c = ap (λ k. eqb k 9999) (sym (moves-are (c .before .before))) ∙ ne-eqb _ _ (c .if6 .left)
+unspent : (c : tie.Else5) → eqb (found (from5 c) .moves) 9999 ≡ false
+unspent c = ap (λ k. eqb k 9999) (sym (moves-are (c .before .before))) ∙ ne-eqb _ _ (c .if5 .left)
 
 wide8-requires : tie.Need-wide8-requires
 wide8-requires c κs = search needs
@@ -117,7 +113,7 @@ task-at-requires : tie.Need-task-at-requires
 task-at-requires c κs = omega (arith, from2 c .pre, within-high 1 (from2 c .args .n .tasks) (from2 c .args .t .0) (in-count (second (c .before))))
 
 cast-t11 : tie.Need-cast-t11
-cast-t11 c = record { fits = lt-of-le-of-lt (within-high 1 _ _ (to-processor (c .before))) (search needs) }
+cast-t11 c = record { fits = lt-of-le-of-lt (within-high 1 _ _ (to-processor (c .before))) (narrow (from2 (c .before))) }
 
 is-in-requires : tie.Need-is-in-requires
 is-in-requires c κs = search needs
@@ -138,45 +134,31 @@ returns-4 c =
     let s = fetched (r .before) in
     rw (in-count (second (s .before)), to-processor s, ready r, sym (there (c .before)) ∙ c .if4 .taken) refl
 
-is-childless-requires : tie.Need-is-childless-requires
-is-childless-requires c κs = search needs
-
 returns-5 : tie.Need-returns-5
 unfolding moveRefusal
 returns-5 c =
     let w = c .before .before in
     let r = w .before .before in
     let s = fetched (r .before) in
-    rw (in-count (second (s .before)), to-processor s, ready r, elsewhere w, sym (freed (c .before)) ∙ not-true _ (c .if5 .taken)) refl
+    rw (in-count (second (s .before)), to-processor s, ready r, elsewhere w, ap (λ k. eqb k 9999) (sym (moves-are w)) ∙ eq-eqb _ _ (c .if5 .taken)) refl
 
 returns-6 : tie.Need-returns-6
 unfolding moveRefusal
 returns-6 c =
-    let f = c .before .before in
-    let w = f .before .before in
+    let u = c .before .before in
+    let w = u .before .before in
     let r = w .before .before in
     let s = fetched (r .before) in
-    rw (in-count (second (s .before)), to-processor s, ready r, elsewhere w, childless f, ap (λ k. eqb k 9999) (sym (moves-are f)) ∙ eq-eqb _ _ (c .if6 .taken)) refl
+    rw (in-count (second (s .before)), to-processor s, ready r, elsewhere w, unspent u, one-over _ _ _ (c .if6 .taken)) refl
 
 returns-7 : tie.Need-returns-7
 unfolding moveRefusal
 returns-7 c =
     let u = c .before .before in
-    let f = u .before .before in
-    let w = f .before .before in
+    let w = u .before .before in
     let r = w .before .before in
     let s = fetched (r .before) in
-    rw (in-count (second (s .before)), to-processor s, ready r, elsewhere w, childless f, unspent u, one-over _ _ _ (c .if7 .taken)) refl
-
-returns-8 : tie.Need-returns-8
-unfolding moveRefusal
-returns-8 c =
-    let u = c .before .before in
-    let f = u .before .before in
-    let w = f .before .before in
-    let r = w .before .before in
-    let s = fetched (r .before) in
-    rw (in-count (second (s .before)), to-processor s, ready r, elsewhere w, childless f, unspent u, one-fits _ (from6 u .args .n .used) _ (omega (arith, c .if7 .left))) refl
+    rw (in-count (second (s .before)), to-processor s, ready r, elsewhere w, unspent u, one-fits _ (from5 u .args .n .used) _ (omega (arith, c .if6 .left))) refl
 
 pub move-refusal-spec : {M : Type 1} → statement M
 move-refusal-spec =
@@ -196,8 +178,6 @@ move-refusal-spec =
     returns-3
     is-at-requires
     returns-4
-    is-childless-requires
     returns-5
     returns-6
-    returns-7
-    returns-8)
+    returns-7)

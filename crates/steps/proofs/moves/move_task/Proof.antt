@@ -103,36 +103,43 @@ fetch c = c .before .before .before .before
 put-task-requires : tie.Need-put-task-requires
 put-task-requires c κs = let s = fetch c .before .before in (few s, from (s .before) .pre .whole)
 
+point-parent-requires : tie.Need-point-parent-requires
+point-parent-requires c κs =
+    let f = fetch (c .before .before) in
+    let w = fetched-processor f in
+    (record { processor-low = within-low 1 6 _ w; processor = within-high 1 6 _ w; task = few (f .before .before) }, c .before .put-task .ensures .0)
+
 locate-requires : tie.Need-locate-requires
 locate-requires c κs =
-    let f = fetch (c .before .before .before) in
+    let f = fetch (c .before .before .before .before .before) in
     let s = f .before .before in
     let w = fetched-processor f in
     (few s, within-low 1 6 _ w, within-high 1 6 _ w, from (s .before) .pre .indexed)
 
 depart-requires : tie.Need-depart-requires
 depart-requires c κs =
-    let p = c .before .before .before .before .before .before in
-    let f = fetch (p .before) in
+    let q = c .before .before .before .before .before .before in
+    let f = fetch (q .before .before .before) in
     let s = f .before .before in
     let w = fetched-processor f in
-    (few s, within-low 1 6 _ w, within-high 1 6 _ w, from (s .before) .pre .indexed, p .put-task .ensures .0)
+    (few s, within-low 1 6 _ w, within-high 1 6 _ w, from (s .before) .pre .indexed, q .point-parent .ensures .0)
 
 returns-2 : tie.Need-returns-2
 returns-2 c =
     let l = c .before .before .before .before in
-    let p = l .before .before .before in
+    let q = l .before .before .before in
+    let p = q .before .before in
     let f = fetch (p .before) in
     let s = f .before .before in
     let a = from (s .before) .args in
     let e = processorId (a .to) in
-    let gone = p .put-task .last .0 in
+    let gone = q .point-parent .last .0 in
     let v : judged (from (s .before)) ≡ Allowed (moveChange (a .t) (f .task-at .result) e) =
     move-accepted _ _ _ _ _ _ (accepted s) ∙ ap (λ (z : Task). Allowed (moveChange (a .t) z e)) (sym (f .task-at .ensures)) in
     λ op on notes.
-    move-acted (sendersOf (a .users .now)) (receiversOf (a .users .now)) (a .hintprocessors .now) (a .hintmoves .now) op on notes (a .board .now) gone (l .locate .last .1 .0) (l .locate .last .1 .1 .0) (c .depart .last .1 .1 .1 .0) (a .t) e
-    (f .task-at .result) (p .before .departure .result) (judged (from (s .before))) (p .before .departure .ensures) v (p .put-task .ensures .1) (p .put-task .ensures .2)
-    (l .locate .ensures op on notes gone (p .put-task .ensures .0)) (c .depart .ensures op on notes)
+    move-acted (sendersOf (a .users .now)) (receiversOf (a .users .now)) (a .hintprocessors .now) (a .hintmoves .now) op on notes (a .board .now) (p .put-task .last .0) gone (l .locate .last .1 .0) (l .locate .last .1 .1 .0) (c .depart .last .1 .1 .1 .0) (a .t) e
+    (f .task-at .result) (p .before .departure .result) (judged (from (s .before))) (p .before .departure .ensures) v (p .put-task .ensures .1) (p .put-task .ensures .2) (p .put-task .ensures .3)
+    (q .point-parent .ensures) (l .locate .ensures op on notes gone (q .point-parent .ensures .0)) (c .depart .ensures op on notes)
     (s .before .before .move-decided .ensures)
 
 pub move-task-spec : {M : Type 1} → statement M
@@ -147,6 +154,7 @@ move-task-spec =
     add-t19
     departure-requires
     put-task-requires
+    point-parent-requires
     locate-requires
     depart-requires
     returns-2)

@@ -23,7 +23,7 @@ returns : tie.Need-returns
 returns c =
     let e = c .put-first-level .ensures in
     let w = c .before .before in
-    (e .0, e .1 ∙ ap (taskStored (tasksOn _) _) (w .word-changed .ensures), e .2)
+    (e .0, e .1 ∙ ap (taskStored (tasksOn _) _) (w .word-changed .ensures), e .2, e .3)
 
 pub change-first-level-spec : {M : Type 1} → statement M
 change-first-level-spec =

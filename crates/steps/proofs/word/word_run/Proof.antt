@@ -20,7 +20,7 @@ use Rattle.rig_parts.specs.Fetches.{instructionIn}
 use Rattle.rig_parts.proofs.BoundsParts.{count-few, used-few}
 use Rattle.rig_parts.proofs.BoundsReady.{nextAt, place-some, place-last}
 use Rattle.plan_index.specs.user_table.Users.{sendersOf, receiversOf}
-use Rattle.board.specs.Lent.{lent, tasksOn, storeOf, TaskPut}
+use Rattle.board.specs.Lent.{lent, tasksOn, keptOf, TaskPut}
 use Rattle.board.specs.Rigs.{factsIn, Worded}
 use Rattle.board.specs.Verdicts.{stepVerdict}
 use Rattle.steps.specs.Words.{wordChanged}
@@ -135,10 +135,10 @@ changed o board' e =
       (λ q. never (sym q)),
       (λ q numbers users hp hm op on notes.
           let f = factsIn (a .n .tasks) (a .codes .now) numbers users in
-          let st = storeOf (lent hp hm op on notes (a .board .now)) in
+          let st = keptOf (lent hp hm op on notes (a .board .now)) in
           word-acted (sendersOf users) (receiversOf users) hp hm op on notes (a .board .now) board' (named s) (wordChanged (found s) (next s)) (stepVerdict f (a .n .processors) ts st (a .n .used) (a .s)) (a .codes .now) (found s .processor)
           (word-judged f (a .n .processors) ts st (a .n .used) (a .s) (eq-eqb (a .s .kind) 1 kind) none (counted (third r)) (ready r) high (used-few (s .pre .1 .rig .parts)))
-          (e .0, e .1 ∙ ap (taskStored ts (named s)) y, e .2)),
+          (e .0, e .1 ∙ ap (taskStored ts (named s)) y, e .2, e .3)),
     )
 
 change-first-level-requires : tie.Need-change-first-level-requires

@@ -18,7 +18,7 @@ use Rattle.network.specs.Rounds.{isMessage, roundsOf, messageOf}
 use Rattle.network.proofs.Gaps.{holding, gap-closed}
 use Rattle.network.proofs.Posted.{after, after-room, rounds-all, AtMostOne, posted-one}
 use Rattle.board.specs.declared.act.Act.{Act}
-use Rattle.board.specs.Lent.{Lent, lent, tasksOf, storeOf}
+use Rattle.board.specs.Lent.{Lent, lent, tasksOf, keptOf}
 use Rattle.board.specs.Acted.{Acted}
 use Rattle.board.specs.Verdicts.{stepVerdict}
 use Rattle.run.proofs.all_steps.Posts.{message-posts, one-room, posted-last}
@@ -43,7 +43,7 @@ word-kept c = c .before .word-run .ensures .0 (c .if2 .left)
 pub other-acted : (c : tie.After-other Inv-loop2 μ-loop2 Inv-loop3 μ-loop3 Inv-loop μ-loop)
     → let f = given (begun (entered (chosen (tried c)) .before)) in
     let l = here (entered (chosen (tried c)) .before) in
-    Acted (f .senders) (f .receivers) (stepVerdict f (begun (entered (chosen (tried c)) .before) .args .size .processors) (tasksOf l) (storeOf l) (entered (chosen (tried c)) .before .loop .network .used) (chosen (tried c) .before .step-at .result)) l (c .other .result) (other-left c)
+    Acted (f .senders) (f .receivers) (stepVerdict f (begun (entered (chosen (tried c)) .before) .args .size .processors) (tasksOf l) (keptOf l) (entered (chosen (tried c)) .before .loop .network .used) (chosen (tried c) .before .step-at .result)) l (c .other .result) (other-left c)
 other-acted c =
     let else2 = tried c in
     let after-step-at = chosen else2 .before in
@@ -52,7 +52,7 @@ other-acted c =
     let f = given start in
     subst (λ (z : List ℕ).
     let l = with-board at-loop z in
-    Acted (f .senders) (f .receivers) (stepVerdict f (start .args .size .processors) (tasksOf l) (storeOf l) (at-loop .loop .network .used) (after-step-at .step-at .result)) l (c .other .result) (other-left c))
+    Acted (f .senders) (f .receivers) (stepVerdict f (start .args .size .processors) (tasksOf l) (keptOf l) (at-loop .loop .network .used) (after-step-at .step-at .result)) l (c .other .result) (other-left c))
     (word-kept else2) (c .other .ensures)
 
 -- its letters have room
@@ -113,7 +113,7 @@ at-most c =
     let m = getD (b .network .slots) (after-position .position .result - 1) noSlot .message in
     let k = messageScope (f .senders) (f .receivers) (f .parents) m in
     subst (λ (r : Act). AtMostOne (r .posting)) (sym (c .deliver .ensures (f .tasks) (f .numbers) .act))
-    (message-posts k m (siteIn (f .codes) (tasksOf (here at-loop)) (storeOf (here at-loop)) k))
+    (message-posts k m (siteIn (f .codes) (tasksOf (here at-loop)) (keptOf (here at-loop) .store) k) _)
 
 pub network-is : (c : tie.After-wide8 Inv-loop2 μ-loop2 Inv-loop3 μ-loop3 Inv-loop μ-loop)
     → let k = entered (opened (c .before .before .before .before .before) .before) .before .loop .network in

@@ -12,7 +12,7 @@ use Rattle.network.proofs.Shift.{shifted}
 use Rattle.network.proofs.Gaps.{holding}
 use Rattle.network.proofs.Posted.{after}
 use Rattle.board.specs.declared.act.Size.{Size}
-use Rattle.board.specs.Lent.{Lent, lent, Whole, tasksOf, storeOf}
+use Rattle.board.specs.Lent.{Lent, lent, Whole, tasksOf, keptOf}
 use Rattle.board.specs.Rigs.{factsIn, RigOn}
 use Rattle.run.proofs.all_steps.Going.{Going, going-room}
 use Rattle.run.proofs.all_steps.run_steps.Tie as tie
@@ -38,7 +38,7 @@ abbrev pub μ-loop3 : tie.MeasureT-loop3
 -- k steps are carried out, and their lines written
 abbrev pub Inv-loop : tie.InvT-loop
 Inv-loop codes numbers users hintprocessors₀ hintmoves₀ heldprocessors₀ heldnumbers₀ notes₀ board₀ size steps out₀ progress₀ n network₀ k₀ hintprocessors hintmoves heldprocessors heldnumbers notes board out progress network k =
-    (k ≤ n) × Whole board × Going (factsIn (size .tasks) codes numbers users) (size .processors) (tasksOf (lent hintprocessors₀ hintmoves₀ heldprocessors₀ heldnumbers₀ notes₀ board₀)) network₀ (storeOf (lent hintprocessors₀ hintmoves₀ heldprocessors₀ heldnumbers₀ notes₀ board₀)) (stepAt steps) out₀ k (tasksOf (lent hintprocessors hintmoves heldprocessors heldnumbers notes board)) network (storeOf (lent hintprocessors hintmoves heldprocessors heldnumbers notes board)) progress out
+    (k ≤ n) × Whole board × Going (factsIn (size .tasks) codes numbers users) (size .processors) (tasksOf (lent hintprocessors₀ hintmoves₀ heldprocessors₀ heldnumbers₀ notes₀ board₀)) network₀ (keptOf (lent hintprocessors₀ hintmoves₀ heldprocessors₀ heldnumbers₀ notes₀ board₀)) (stepAt steps) out₀ k (tasksOf (lent hintprocessors hintmoves heldprocessors heldnumbers notes board)) network (keptOf (lent hintprocessors hintmoves heldprocessors heldnumbers notes board)) progress out
 
 abbrev pub μ-loop : tie.MeasureT-loop
 μ-loop codes numbers users hintprocessors₀ hintmoves₀ heldprocessors₀ heldnumbers₀ notes₀ board₀ size steps out₀ progress₀ n network₀ k₀ hintprocessors hintmoves heldprocessors heldnumbers notes board out progress network k =
@@ -75,7 +75,7 @@ size-at c =
 
 -- the parts of a rig
 pub parts : (c : tie.In-loop Inv-loop2 μ-loop2 Inv-loop3 μ-loop3 Inv-loop μ-loop)
-    → PartsOf (given (begun (c .before))) (begun (c .before) .args .size .processors) (tasksOf (here (c .before))) (storeOf (here (c .before))) (c .before .loop .network .used)
+    → PartsOf (given (begun (c .before))) (begun (c .before) .args .size .processors) (tasksOf (here (c .before))) (keptOf (here (c .before))) (c .before .loop .network .used)
 parts c = c .before .loop .inv .2 .rig .parts
 
 -- with the index of its plan

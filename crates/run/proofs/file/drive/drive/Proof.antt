@@ -6,7 +6,7 @@ use Rattle.rig_parts.specs.Facts.{Facts, facts}
 use Rattle.rig_parts.specs.Turns.{Rig}
 use Rattle.rig.proofs.rest.Refusals.{rest-quiet}
 use Rattle.steps.proofs.instruction.Refusals.{placed}
-use Rattle.board.specs.Lent.{Lent, lent, tasksOf, storeOf}
+use Rattle.board.specs.Lent.{Lent, lent, tasksOf, keptOf}
 use Rattle.board.specs.Rigs.{factsIn}
 use Rattle.run.specs.file.Begins.{Begins}
 use Rattle.rig_parts.proofs.BoundsParts.{count-few}
@@ -48,7 +48,7 @@ begins-on c =
 abbrev RigAt : tie.After-no-messages → Type 0
 RigAt c =
     let l = begins-on (c .before) in
-    Rig (given (tabled (boarded c) .before)) (begin (tabled (boarded c) .before) .args .processors) (tasksOf l) (c .no-messages .result) (storeOf l)
+    Rig (given (tabled (boarded c) .before)) (begin (tabled (boarded c) .before) .args .processors) (tasksOf l) (c .no-messages .result) (keptOf l)
 
 -- that of any plan of which this is derived
 abbrev rig : (c : tie.After-no-messages) {p : Plan} → Begins (begin (tabled (boarded c) .before) .args .processors) p (derived (begin (tabled (boarded c) .before))) → RigAt c

@@ -23,7 +23,7 @@ returns c ss rs hp hm op on notes d =
     let a = c .before .before .before .args in
     let put = c .before .put-task in
     two-acted ss rs (a .t) (taskId 0) d (a .y) noTask NoPosting Nothing (lent hp hm op on notes (a .board .now)) (lent hp hm op on notes (put .last .0))
-    (put .ensures .0) (c .posted .ensures) (put .ensures .1) (rw (put .ensures .2) refl)
+    (put .ensures .0) (c .posted .ensures) (put .ensures .1) (rw (put .ensures .2) refl) (put .ensures .3)
 
 pub alone-spec : {M : Type 1} → statement M
 alone-spec = tie.close (tie.spec put-task-requires posted-requires returns)

@@ -6,17 +6,15 @@ use lib.ListN.{length}
 use borrow.Author.Needs.{needs}
 use borrow.Author.Tests.{not-true, not-false}
 use Rattle.rules.specs.declared.rule.Finished.{Finished}
-use Rattle.rules.specs.Local.{finishRule}
 use Rattle.rules.specs.Networks.{messagesOf}
-use Rattle.rules.specs.Systems.{taskIn}
-use Rattle.rig_parts.specs.Scopes.{namedIn}
 use Rattle.plan_index.specs.user_table.Users.{parentsOf}
-use Rattle.board.specs.Lent.{tasksOn}
+use Rattle.board.specs.Lent.{tasksOn, parentsOn}
+use Rattle.steps.specs.instruction.Locals.{finishedIn}
 use Rattle.steps.proofs.instruction.local.finish_decided.Statement.{statement}
 use Rattle.steps.proofs.instruction.local.finish_decided.Tie as tie
 
 abbrev left : tie.Start → Finished
-left c = let a = c .args in finishRule (a .t) (a .x) (taskIn (tasksOn (a .board .now)) (namedIn (parentsOf (a .users .now)) (a .t .0)))
+left c = let a = c .args in finishedIn (parentsOf (a .users .now)) (tasksOn (a .board .now)) (parentsOn (a .board .now)) (a .t) (a .x)
 
 fits-is : (c : tie.After-fits2) → leb (c .before .before .args .n .used + length (messagesOf (c .before .before .args .n .processors) (left (c .before .before) .posting))) 256 ≡ c .fits2 .result
 fits-is c = sym (rw (c .before .finished .ensures) at (c .fits2 .ensures))

@@ -8,6 +8,7 @@ use Rattle.steps.specs.instruction.Receives.{receiveScope}
 use Rattle.steps.proofs.instruction.Receiving.{receive-kept, receive-processor}
 use Rattle.steps.proofs.instruction.Stored.{both-stored, note-stored}
 use borrow.Author.Needs.{needs}
+use Rattle.rig_parts.specs.declared.sweep.Sweep.the-variants.{Nothing}
 use Rattle.steps.proofs.instruction.receive.receive.Statement.{statement}
 use Rattle.rules.specs.Systems.{taskIn}
 use Rattle.steps.proofs.instruction.receive.receive.Tie as tie
@@ -50,7 +51,7 @@ returns c =
     λ receivers hp hm op on.
     none-fits (s .n .processors) (s .n .used) k (sendersOf (s .users .now)) receivers
     (receive-kept (s .codes .now) (s .numbers .now) (sendersOf (s .users .now)) (s .notes .now) (s .board .now) (s .t) (s .c) (g .at .channel-low) hp hm op on (x .receive-outcome .ensures))
-    (fits .ensures) (not-true (fits .result) (c .before .if1 .taken)) (c .refused .ensures) (start x .pre .0)
+    (fits .ensures) Nothing (not-true (fits .result) (c .before .if1 .taken)) (c .refused .ensures) (start x .pre .0)
 
 sender-requires : tie.Need-sender-requires
 sender-requires c κs = search needs
@@ -98,6 +99,7 @@ returns-2 c =
     (note-stored hp hm op on (s .notes .now) (s .board .now) (two .last .0) (own .last .0)
     (k .processor) (s .c) (x .receive-outcome .result .cell)
     note (two .ensures .2 ∙ one .2) (own .ensures .1))
+    (own .ensures .3 ∙ two .ensures .3 ∙ one .3)
     (c .accepted .ensures)
 
 pub receive-spec : {M : Type 1} → statement M

@@ -13,7 +13,7 @@ use Rattle.rig_parts.specs.Facts.{Facts}
 use Rattle.rig_parts.specs.RunVerdicts.{judgedRun}
 use Rattle.rig_parts.proofs.BoundsParts.{used-few}
 use Rattle.board.specs.declared.act.Act.{Act}
-use Rattle.board.specs.Lent.{Lent, lent, tasksOf, storeOf}
+use Rattle.board.specs.Lent.{Lent, lent, tasksOf, keptOf}
 use Rattle.board.specs.Acted.{Acted}
 use Rattle.board.specs.Rigs.{factsIn}
 use Rattle.steps.specs.declared.instruction.next.Next.{Next}
@@ -34,7 +34,7 @@ abbrev here : tie.Start → Lent
 here c = let a = c .args in lent (a .hintprocessors .now) (a .hintmoves .now) (a .heldprocessors .now) (a .heldnumbers .now) (a .notes .now) (a .board .now)
 
 abbrev verdict : tie.Start → Verdict
-verdict c = let a = c .args in judgedRun (given c) (a .n .processors) (tasksOf (here c)) (storeOf (here c)) (a .n .used) (a .t)
+verdict c = let a = c .args in judgedRun (given c) (a .n .processors) (tasksOf (here c)) (keptOf (here c)) (a .n .used) (a .t)
 
 -- a verdict carried out: the one on the run, where that is it
 abbrev Done : tie.Start → Verdict → Act → Lent → Type 0
@@ -59,11 +59,11 @@ abbrev next : tie.After-known-told2 → Instruction
 next c = c .before .found2 .given .0 .1 .0
 
 going : (c : tie.After-known-told2)
-    → let s = start c in ReadyWith (given s) (s .args .n .processors) (tasksOf (here s)) (storeOf (here s)) (s .args .n .used) (s .args .t) (task c) (next c)
+    → let s = start c in ReadyWith (given s) (s .args .n .processors) (tasksOf (here s)) (keptOf (here s)) (s .args .n .used) (s .args .t) (task c) (next c)
 going c =
     let s = start c in
     let a = s .args in
-    ready-with (given s) (a .n .processors) (tasksOf (here s)) (storeOf (here s)) (a .n .used) (a .t) (s .pre .parts) (task c) (next c)
+    ready-with (given s) (a .n .processors) (tasksOf (here s)) (keptOf (here s)) (a .n .used) (a .t) (s .pre .parts) (task c) (next c)
     (found-is (c .before .before .before) (Runs (task c) (next c)) (c .before .found2 .given .1))
 
 -- what is ensured of a task changed alone, said of this run
@@ -132,8 +132,8 @@ returns c =
     let s = c .before .before .before .before .before .before in
     let a = s .args in
     let k = Refused (c .before .before .found .given .0 .0) in
-    done s (next-judged (given s) (a .n .processors) (tasksOf (here s)) (storeOf (here s)) (a .n .used) (a .t) k (found-is (c .before .before .before .before) k (c .before .before .found .given .1)))
-    (record { whole = s .pre .whole; act = c .refused .ensures; tasks = refl; store = refl })
+    done s (next-judged (given s) (a .n .processors) (tasksOf (here s)) (keptOf (here s)) (a .n .used) (a .t) k (found-is (c .before .before .before .before) k (c .before .before .found .given .1)))
+    (record { whole = s .pre .whole; act = c .refused .ensures; tasks = refl; store = refl; parents = refl })
 
 returns-2 : tie.Need-returns-2
 returns-2 c =

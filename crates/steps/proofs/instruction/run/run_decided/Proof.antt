@@ -7,7 +7,7 @@ use Rattle.plan.specs.Kinds.{opSend, opReceive}
 use Rattle.rules.specs.declared.task.Task.{Task}
 use Rattle.rig_parts.specs.Facts.{Facts}
 use Rattle.rig_parts.proofs.BoundsParts.{used-few}
-use Rattle.board.specs.Lent.{Lent, lent, tasksOf, storeOf}
+use Rattle.board.specs.Lent.{Lent, lent, tasksOf, keptOf}
 use Rattle.board.specs.Acted.{actOf}
 use Rattle.board.specs.Rigs.{factsIn}
 use Rattle.steps.specs.declared.instruction.next.Next.{Next}
@@ -42,11 +42,11 @@ abbrev next : tie.After-known-told2 → Instruction
 next c = c .before .found2 .given .0 .1 .0
 
 going : (c : tie.After-known-told2)
-    → let s = start c in ReadyWith (given s) (s .args .n .processors) (tasksOf (here s)) (storeOf (here s)) (s .args .n .used) (s .args .t) (task c) (next c)
+    → let s = start c in ReadyWith (given s) (s .args .n .processors) (tasksOf (here s)) (keptOf (here s)) (s .args .n .used) (s .args .t) (task c) (next c)
 going c =
     let s = start c in
     let a = s .args in
-    ready-with (given s) (a .n .processors) (tasksOf (here s)) (storeOf (here s)) (a .n .used) (a .t) (s .pre .parts) (task c) (next c)
+    ready-with (given s) (a .n .processors) (tasksOf (here s)) (keptOf (here s)) (a .n .used) (a .t) (s .pre .parts) (task c) (next c)
     (found-is (c .before .before .before) (Runs (task c) (next c)) (c .before .found2 .given .1))
 
 next-of-requires : tie.Need-next-of-requires
@@ -85,7 +85,7 @@ returns c =
     let a = s .args in
     let k = Refused (c .before .before .found .given .0 .0) in
     c .refused .ensures
-    ∙ ap actOf (sym (next-judged (given s) (a .n .processors) (tasksOf (here s)) (storeOf (here s)) (a .n .used) (a .t) k (found-is (c .before .before .before .before) k (c .before .before .found .given .1))))
+    ∙ ap actOf (sym (next-judged (given s) (a .n .processors) (tasksOf (here s)) (keptOf (here s)) (a .n .used) (a .t) k (found-is (c .before .before .before .before) k (c .before .before .found .given .1))))
 
 returns-2 : tie.Need-returns-2
 returns-2 c = c .finish-decided .ensures ∙ ap actOf (sym (finish-judged (going (c .before .before)) (c .before .match2 .keys1)))

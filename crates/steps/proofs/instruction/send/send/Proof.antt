@@ -9,6 +9,7 @@ use Rattle.steps.specs.instruction.Sends.{sendScope}
 use Rattle.steps.proofs.instruction.Sending.{send-noted, send-hint, send-processor}
 use Rattle.steps.proofs.instruction.Stored.{both-stored}
 use borrow.Author.Needs.{needs}
+use Rattle.rig_parts.specs.declared.sweep.Sweep.the-variants.{Nothing}
 use Rattle.steps.proofs.instruction.send.send.Statement.{statement}
 use Rattle.rules.specs.Systems.{taskIn}
 use Rattle.steps.proofs.instruction.send.send.Tie as tie
@@ -51,7 +52,7 @@ returns c =
     λ senders notes.
     none-fits (s .n .processors) (s .n .used) k senders (receiversOf (s .users .now))
     (send-noted (s .codes .now) (s .numbers .now) (receiversOf (s .users .now)) (s .hintprocessors .now) (s .hintmoves .now) (s .heldprocessors .now) (s .heldnumbers .now) (s .board .now) (s .t) (s .c) (g .at .channel-low) notes (x .send-outcome .ensures))
-    (fits .ensures) (not-true (fits .result) (c .before .if1 .taken)) (c .refused .ensures) (start x .pre .0)
+    (fits .ensures) Nothing (not-true (fits .result) (c .before .if1 .taken)) (c .refused .ensures) (start x .pre .0)
 
 receiver-requires : tie.Need-receiver-requires
 receiver-requires c κs = search needs
@@ -100,6 +101,7 @@ returns-2 c =
     (k .processor) (s .c) (x .send-outcome .result .cell)
     (send-hint (s .codes .now) (s .numbers .now) (receiversOf (s .users .now)) (s .hintprocessors .now) (s .hintmoves .now) (s .heldprocessors .now) (s .heldnumbers .now) (s .board .now) (s .t) (s .c) (g .at .channel-low) (x .send-outcome .ensures))
     offer (two .ensures .2 ∙ one .2) (own .ensures .1))
+    (own .ensures .3 ∙ two .ensures .3 ∙ one .3)
     (c .accepted .ensures)
 
 pub send-spec : {M : Type 1} → statement M

@@ -51,6 +51,7 @@ returns-2 c =
     (own .ensures .0)
     (own .ensures .2 ∙ sym (both-own (tasksOn (s .board .now)) (senderIn (s .users .now) (x .0)) (receiverIn (s .users .now) (x .0))))
     (note-stored hintprocessors hintmoves heldprocessors heldnumbers (s .notes .now) (s .board .now) (x .1 .0) (x .0) (from .result .cell .entry .noted) (from .result .cell .channel) (own .last .0) (c .before .before .before .put-note .ensures) (own .ensures .1))
+    (own .ensures .3)
 
 pub advert-spec : {M : Type 1} → statement M
 advert-spec =

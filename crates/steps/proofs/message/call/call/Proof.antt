@@ -58,6 +58,7 @@ returns-2 c =
     (task .ensures .1 ∙ ap (λ (u : TaskId). taskStored (tasksOn (s .board .now)) u (from .result .sender)) (c .before .before .before .before .before .before .before .before .before .sender .ensures)
     ∙ sym (receiver-own (tasksOn (s .board .now)) (senderIn (s .users .now) (x .0)) (receiverIn (s .users .now) (x .0)) (from .result .sender) (bounds k .apart)))
     (hint-stored (s .hintprocessors .now) (s .hintmoves .now) heldprocessors heldnumbers notes (s .board .now) (x .1 .0) (x .0) (from .result .cell .entry .hint) (task .last .0) (hint .ensures) (task .ensures .2))
+    (task .ensures .3)
 
 pub call-spec : {M : Type 1} → statement M
 call-spec =

@@ -55,6 +55,7 @@ returns-2 c =
     (own .ensures .2 ∙ sym (both-own (tasksOn (s .board .now)) (senderIn (s .users .now) (x .0)) (receiverIn (s .users .now) (x .0))))
     (held-stored (s .hintprocessors .now) (s .hintmoves .now) (s .heldprocessors .now) (s .heldnumbers .now) notes (s .board .now) (s .board .now) (own .last .0) d (x .0)
     (withHint (from .result .cell) (hintIn (s .hintprocessors .now) (s .hintmoves .now) d (x .0))) refl (held .ensures) refl (own .ensures .1))
+    (own .ensures .3)
 
 pub offer-spec : {M : Type 1} → statement M
 offer-spec =

@@ -61,6 +61,7 @@ returns-2 c =
     ∙ sym (sender-own (tasksOn (s .board .now)) (senderIn (s .users .now) (x .0)) (receiverIn (s .users .now) (x .0)) (from .result .receiver)))
     (own-stored hintprocessors hintmoves heldprocessors heldnumbers notes (s .board .now) (x .1 .0) (x .0) (from .result .cell .channel) (own .last .0)
     (own .ensures .1 ∙ ap (λ (y : Channels). writeChannel y (x .0 .0 - 1) (from .result .cell .channel)) (task .ensures .2)))
+    (own .ensures .3 ∙ task .ensures .3)
 
 pub word-spec : {M : Type 1} → statement M
 word-spec =
