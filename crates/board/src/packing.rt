@@ -1,5 +1,5 @@
-// Records as numbers of 64 bits: a channel's own entry; a task, its children and its word, a number each. Each field has the width
-// of its type, but for the seven states, beside which a task's mark stands; so a record is read back as it was.
+// Records as numbers of 64 bits: a pointer to a parent; a channel's own entry; a task, its children and its word, a number each. Each
+// field has the width of its type, but for the seven states, beside which a task's mark stands; so a record is read back as it was.
 ghost use mathlib.Core.Path.{_≡_};
 ghost use Prim.Native.Nat.{_%_, _<_};
 ghost use lib.Dec.{eqb};
@@ -182,7 +182,7 @@ pub fn task_of(v: u64, children: u64, word: u64) -> Task
     }
 }
 
-// The first number of a task, its mark beside its state.
+// The first number of a task, its mark beside its state. In this order of its terms desk and place stand apart, and both counts (D64).
 pub fn task_word(x: Task) -> u64
     ensures { λ r. ⌜ r ≡ taskWord x ⌝ }
 {
@@ -191,10 +191,10 @@ pub fn task_word(x: Task) -> u64
     let toward = origin.processor;
     let state = x.state;
     state_number(state)
-        + 128 * bit(x.overflow)
-        + 256 * (at.0 as u64)
-        + 65536 * (x.pc as u64)
-        + 16777216 * (toward.0 as u64)
-        + 4294967296 * (origin.moves as u64)
         + 281474976710656 * (x.moves as u64)
+        + 65536 * (x.pc as u64)
+        + 128 * bit(x.overflow)
+        + 16777216 * (toward.0 as u64)
+        + 256 * (at.0 as u64)
+        + 4294967296 * (origin.moves as u64)
 }
