@@ -21,7 +21,7 @@ use Rattle.rules.specs.Systems.{readChannel, writeChannel, parentIndex, readPar
 use borrow.Author.Tests.{ne-eqb}
 use Rattle.rules.specs.Numbers.{taskId, processorId}
 use Rattle.rules.specs.Tasks.{noTask}
-use Rattle.board.specs.Lent.{channelColumn, channelsOn, parentColumn, parentsOn, tasksOn}
+use Rattle.board.specs.Lent.{AtParent, channelColumn, channelsOn, parentColumn, parentsOn, tasksOn}
 use Rattle.rig_parts.specs.Sweeps.{parentIn, parentStored}
 
 -- xs and ys have n entries, and their first k agree
@@ -175,14 +175,16 @@ parents-none p q =
       held = agree-none (p .held) (q .held);
     }
 
--- the entry after the first k, by its desk and its task
-pub index-after : (k : ℕ) → parentIndex (processorId (k / 64 + 1)) (taskId (k % 64 + 1)) ≡ k
-index-after k = omega arith
+-- the entry after the first k, by its desk d and its task t
+module _ (k : ℕ) {d : ProcessorId} {t : TaskId} (de : d ≡ processorId (k / 64 + 1)) (te : t ≡ taskId (k % 64 + 1)) where
+  pub at-after : k < 384 → AtParent d t
+  at-after h = rw (de, te) (record { processor-low = omega arith; processor = omega arith; task = omega arith })
 
--- read and stored by desk and task, d and t
-module _ (x : Parents) (k : ℕ) {d : ProcessorId} {t : TaskId} (de : d ≡ processorId (k / 64 + 1)) (te : t ≡ taskId (k % 64 + 1)) where
-  pub parent-after : parentIn x d t ≡ readParent x k
-  parent-after = rw (de, te, index-after k) refl
+  index-after : parentIndex d t ≡ k
+  index-after = rw (de, te) (omega arith)
 
-  pub stored-for : (e : ParentEntry) → parentStored x d t e ≡ writeParent x k e
-  stored-for e = rw (de, te, index-after k) refl
+  pub parent-after : (x : Parents) → parentIn x d t ≡ readParent x k
+  parent-after x = rw index-after refl
+
+  pub stored-for : (x : Parents) (e : ParentEntry) → parentStored x d t e ≡ writeParent x k e
+  stored-for x e = rw index-after refl

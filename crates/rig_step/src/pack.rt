@@ -140,7 +140,7 @@ fn parent_of(parents: Parents, k: usize) -> ParentEntry
     }
 }
 
-// The desk of the entry after the first k, and its task.
+// The desk of the entry for a parent after the first k.
 fn desk_after(k: u16) -> ProcessorId
     requires { ⌜ k < 384 ⌝ }
     ensures { λ r. ⌜ r ≡ processorId (k / 64 + 1) ⌝ }
@@ -148,6 +148,7 @@ fn desk_after(k: u16) -> ProcessorId
     ProcessorId((k / 64 + 1) as u8)
 }
 
+// Its task.
 fn task_after(k: u16) -> TaskId
     requires { ⌜ k < 384 ⌝ }
     ensures { λ r. ⌜ r ≡ taskId (k % 64 + 1) ⌝ }

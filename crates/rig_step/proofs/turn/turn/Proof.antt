@@ -1,8 +1,8 @@
 -- `turn` puts the parts on a board, decides the step, runs it, and takes the parts from the board.
-use mathlib.Core.Path.{refl, _∙_}
+use mathlib.Core.Path.{_≡_, refl, _∙_}
 use mathlib.Core.List.{List}
 use Prim.Native.Nat.{ℕ}
-use Rattle.board.specs.Lent.{lent}
+use Rattle.board.specs.Lent.{lent, tasksOn, channelsOn}
 use Rattle.rig_step.specs.Rigs.{RigWith}
 use Rattle.rig_step.proofs.Boards.{lentBy, packed-rig, packed-turn, few-of, one-step}
 use borrow.Author.Needs.{needs}
@@ -18,35 +18,47 @@ put-tasks-requires c κs = search needs
 put-channels-requires : tie.Need-put-channels-requires
 put-channels-requires c κs = search needs
 
--- the channels are on the board; before that the tasks, the table of who uses what, and the function's entry
-abbrev on : tie.After-board3 → tie.After-put-channels
+put-parents-requires : tie.Need-put-parents-requires
+put-parents-requires c κs = search needs
+
+-- the parents are on the board; before that the channels, the tasks, the table of who uses what, and the function's entry
+abbrev on : tie.After-board4 → tie.After-put-parents
 on c = c .before .before .before .before .before .before .before .before .before .before .before .before .before
 
-abbrev tasks-on : tie.After-put-channels → tie.After-put-tasks
-tasks-on c = c .before .before .before
+abbrev channels-on : tie.After-put-parents → tie.After-put-channels
+channels-on c = c .before .before .before
 
-abbrev built : tie.After-put-channels → tie.After-build
+abbrev tasks-on : tie.After-put-parents → tie.After-put-tasks
+tasks-on c = channels-on c .before .before .before .before
+
+abbrev built : tie.After-put-parents → tie.After-build
 built c = tasks-on c .before .before
 
-abbrev start : tie.After-put-channels → tie.Start
+abbrev start : tie.After-put-parents → tie.Start
 start c = built c .before .before
 
-module _ (c : tie.After-put-channels) where
+module _ (c : tie.After-put-parents) where
   abbrev board : List ℕ
-  board = c .put-channels .last .0
+  board = c .put-parents .last .0
+
+  -- what is on it
+  has-tasks : tasksOn board ≡ start c .args .tasks
+  has-tasks = c .put-parents .ensures .2 ∙ channels-on c .put-channels .ensures .2 ∙ tasks-on c .put-tasks .ensures .1
+
+  has-channels : channelsOn board ≡ start c .args .kept .store .channels
+  has-channels = c .put-parents .ensures .3 ∙ channels-on c .put-channels .ensures .1
 
   rig : let a = start c .args in
-      RigWith (a .codes .now) (a .numbers .now) (built c .build .last .1 .1 .1 .0) (record { tasks = a .count; processors = a .processors; used = a .network .used }) (a .network) (lentBy (a .store) board)
+      RigWith (a .codes .now) (a .numbers .now) (built c .build .last .1 .1 .1 .0) (record { tasks = a .count; processors = a .processors; used = a .network .used }) (a .network) (lentBy (a .kept) board)
   rig =
       let a = start c .args in
-      let t = tasks-on c .put-tasks .ensures in
-      let k = c .put-channels .ensures in
-      packed-rig (a .count) (a .codes .now) (a .numbers .now) (a .senders .now) (a .receivers .now) (a .parents .now) (a .processors) (a .tasks) (a .network) (a .store) _ board
+      packed-rig (a .count) (a .codes .now) (a .numbers .now) (a .senders .now) (a .receivers .now) (a .parents .now) (a .processors) (a .tasks) (a .network) (a .kept) _ board
       (built c .build .ensures)
-      (k .2 ∙ t .1)
-      (k .1)
+      has-tasks
+      has-channels
+      (c .put-parents .ensures .1)
       (start c .pre)
-      (k .0)
+      (c .put-parents .ensures .0)
 
 decided-requires : tie.Need-decided-requires
 decided-requires c κs = rig (on c)
@@ -78,27 +90,32 @@ tasks-on-requires c κs = search needs
 channels-on-requires : tie.Need-channels-on-requires
 channels-on-requires c κs = search needs
 
+parents-on-requires : tie.Need-parents-on-requires
+parents-on-requires c κs = search needs
+
 returns : tie.Need-returns
 returns c =
-    let ran = c .before .before .before .before .before in
+    let channels-from = c .before .before in
+    let tasks-from = channels-from .before .before in
+    let ran = tasks-from .before .before .before in
     let p = ran .before in
     let o = on (said p .before) in
     let a = start o .args in
-    let t = tasks-on o .put-tasks .ensures in
-    let k = o .put-channels .ensures in
     let h = ran .run-steps .last .1 .1 .1 in
-    packed-turn (a .count) (a .codes .now) (a .numbers .now) (a .senders .now) (a .receivers .now) (a .parents .now) (a .processors) (a .tasks) (a .network) (a .store) _ (board o)
+    packed-turn (a .count) (a .codes .now) (a .numbers .now) (a .senders .now) (a .receivers .now) (a .parents .now) (a .processors) (a .tasks) (a .network) (a .kept) _ (board o)
     (built o .build .ensures)
-    (k .2 ∙ t .1)
-    (k .1)
+    (has-tasks o)
+    (has-channels o)
+    (o .put-parents .ensures .1)
     (a .s)
     (lent (h .0) (h .1 .0) (h .1 .1 .0) (h .1 .1 .1 .0) (h .1 .1 .1 .1 .0) (h .1 .1 .1 .1 .1 .0))
     _
     (said p .decided .ensures)
     (bytes p .step-bytes .ensures)
     (ran .run-steps .ensures)
-    (c .before .before .tasks-on .ensures)
-    (c .channels-on .ensures)
+    (tasks-from .tasks-on .ensures)
+    (channels-from .channels-on .ensures)
+    (c .parents-on .ensures)
 
 pub turn-spec : {M : Type 1} → statement M
 turn-spec =
@@ -107,6 +124,7 @@ turn-spec =
     build-requires
     put-tasks-requires
     put-channels-requires
+    put-parents-requires
     decided-requires
     step-bytes-requires
     slice-aggregate-run-steps
@@ -114,4 +132,5 @@ turn-spec =
     run-steps-requires
     tasks-on-requires
     channels-on-requires
+    parents-on-requires
     returns)
