@@ -119,6 +119,6 @@ fn report(name: &[u8]) {
 }
 
 fn main() {
-    report(b"s111.bin");
+    report(b"s108.bin");
     report(b"edges.bin");
 }
