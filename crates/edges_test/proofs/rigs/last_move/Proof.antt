@@ -4,8 +4,8 @@ use Rattle.plan.specs.declared.PlanAnswer.the-variants.{Accepted}
 use Rattle.plan.specs.Programs.{programs}
 use Rattle.plan.specs.Refusals.{planAnswer}
 use borrow.Author.Needs.{needs}
-use Rattle.edges_test.proofs.last_move.Statement.{statement}
-use Rattle.edges_test.proofs.last_move.Tie as tie
+use Rattle.edges_test.proofs.rigs.last_move.Statement.{statement}
+use Rattle.edges_test.proofs.rigs.last_move.Tie as tie
 
 single-finish-requires : tie.Need-single-finish-requires
 single-finish-requires c κs = search needs
