@@ -1,0 +1,3 @@
+-- What a run reads and changes.
+pub mod Footprints
+pub mod Frames

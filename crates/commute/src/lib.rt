@@ -1,0 +1,1 @@
+// Runs of tasks at different desks, as definitions and theorems: see specs/ and proofs/.
