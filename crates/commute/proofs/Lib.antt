@@ -3,3 +3,8 @@
 pub mod Writes
 pub mod Alike
 pub mod Births
+-- what the rules make of a task elsewhere
+pub mod Rules
+-- the frame law
+pub mod Outcomes
+pub mod Runs

@@ -7,7 +7,6 @@ use Rattle.rules.specs.declared.system.System.{System}
 use Rattle.rules.specs.Tasks.{isAt}
 use Rattle.rules.specs.Systems.{taskAt}
 use Rattle.rules.specs.Effects.{Effect}
-use Rattle.rules.specs.Runs.{ran}
 use Rattle.rules_laws.specs.Shapes.{Shaped}
 use Rattle.commute.specs.Footprints.{Footprint, footprint, outside, creates, Alike}
 
@@ -24,12 +23,13 @@ pub record SeenAlike (r : System) (t : TaskId) (q : System) : Type 0 where
   pub parts : Alike (footprint r t) r q
   pub there : (v : TaskId) → isAt (taskAt r t .processor) (taskAt q v) ≡ isAt (taskAt r t .processor) (taskAt r v)
 
-pub record Framed (r : System) (t : TaskId) : Type 0 where
-  -- outside its footprint a run changes nothing
-  pub changes : Alike (outside (footprint r t)) r (ran r t .system)
+-- what a run of task t does, as a function of the rig, is framed at the rig r
+pub record Framed (r : System) (t : TaskId) (run : System → Effect) : Type 0 where
+  -- outside its footprint it changes nothing
+  pub changes : Alike (outside (footprint r t)) r (run r .system)
   -- and what it does to the footprint, posts and reports follows from the footprint
-  pub reads : (q : System) → SeenAlike r t q → SameEffect (footprint r t) (ran r t) (ran q t)
-  -- no task changes its desk but the new child, which is at the desk of task t
+  pub reads : (q : System) → SeenAlike r t q → SameEffect (footprint r t) (run r) (run q)
+  -- no task changes its desk but the new child, which is then at the desk of task t
   pub stay : (v : TaskId)
-      → (taskAt (ran r t .system) v .processor ≡ taskAt r v .processor)
-      ⊎ ((creates r t v ≡ true) × (taskAt (ran r t .system) v .processor ≡ taskAt r t .processor))
+      → (taskAt (run r .system) v .processor ≡ taskAt r v .processor)
+      ⊎ ((creates r t v ≡ true) × (taskAt (run r .system) v .processor ≡ taskAt r t .processor))
