@@ -8,3 +8,4 @@ pub mod Rules
 -- the frame law
 pub mod Outcomes
 pub mod Runs
+pub mod Transfers

@@ -10,6 +10,7 @@ use Rattle.plan.specs.declared.TaskId.{TaskId}
 use Rattle.plan.specs.declared.ChannelId.{ChannelId}
 use Rattle.rules.specs.declared.task.Task.{Task}
 use Rattle.rules.specs.declared.task.TaskState.the-variants.{Waiting}
+use Rattle.rules.specs.declared.channel.Channel.{Channel}
 use Rattle.rules.specs.declared.rule.Site.{Site}
 use Rattle.rules.specs.declared.rule.Outcome.{Outcome}
 use Rattle.rules.specs.declared.rule.Finished.{Finished}
@@ -27,10 +28,12 @@ both-picked : {A : Type 0} (P : A → A → Type 0) (b : Bool) (x y u v : A) →
 both-picked P true x y u v p q = p
 both-picked P false x y u v p q = q
 
--- a send to a task elsewhere, at the site x and at another with the same sender and the same row
-pub record SentAway (x : Site) (o p : Outcome) : Type 0 where
-  pub receiver : o .receiver ≡ x .receiver
-  pub channel : o .cell .channel ≡ x .cell .channel
+-- two sends by one task along one row, to a task elsewhere with the record u or v, while the channel has j or k
+pub record SentAway (u v : Task) (j k : Channel) (o p : Outcome) : Type 0 where
+  pub receiver : o .receiver ≡ u
+  pub other-receiver : p .receiver ≡ v
+  pub channel : o .cell .channel ≡ j
+  pub other-channel : p .cell .channel ≡ k
   pub sender : p .sender ≡ o .sender
   pub entry : p .cell .entry ≡ o .cell .entry
   pub posting : p .posting ≡ o .posting
@@ -38,20 +41,21 @@ pub record SentAway (x : Site) (o p : Outcome) : Type 0 where
 
 pub sent-away : (x y : Site) (c : ChannelId) (w : ℕ) → y .sender ≡ x .sender → y .cell .entry ≡ x .cell .entry
     → isAt (x .sender .processor) (x .receiver) ≡ false → isAt (x .sender .processor) (y .receiver) ≡ false
-    → SentAway x (sendRule x c w) (sendRule y c w)
+    → SentAway (x .receiver) (y .receiver) (x .cell .channel) (y .cell .channel) (sendRule x c w) (sendRule y c w)
 unfolding sendRule sendWaits
 sent-away x y c w same row ax ay =
     let h = x .cell .entry .hint in
     rw (same, row, ax, ay)
-    (both-picked (SentAway x) (isUnknown h) _ _ _ _
-    (record { receiver = refl; channel = refl; sender = refl; entry = refl; posting = refl; received = refl })
-    (both-picked (SentAway x) (sameProcessor (h .processor) (x .sender .processor)) _ _ _ _
-    (record { receiver = refl; channel = refl; sender = refl; entry = refl; posting = refl; received = refl })
-    (record { receiver = refl; channel = refl; sender = refl; entry = refl; posting = refl; received = refl })))
+    (both-picked (SentAway (x .receiver) (y .receiver) (x .cell .channel) (y .cell .channel)) (isUnknown h) _ _ _ _
+    (record { receiver = refl; other-receiver = refl; channel = refl; other-channel = refl; sender = refl; entry = refl; posting = refl; received = refl })
+    (both-picked (SentAway (x .receiver) (y .receiver) (x .cell .channel) (y .cell .channel)) (sameProcessor (h .processor) (x .sender .processor)) _ _ _ _
+    (record { receiver = refl; other-receiver = refl; channel = refl; other-channel = refl; sender = refl; entry = refl; posting = refl; received = refl })
+    (record { receiver = refl; other-receiver = refl; channel = refl; other-channel = refl; sender = refl; entry = refl; posting = refl; received = refl })))
 
--- a receive from a task elsewhere, at the site x and at another with the same receiver and the same cell
-pub record AwaitedAway (x : Site) (o p : Outcome) : Type 0 where
-  pub sender : o .sender ≡ x .sender
+-- two receives by one task at one cell, from a task elsewhere with the record u or v
+pub record AwaitedAway (u v : Task) (o p : Outcome) : Type 0 where
+  pub sender : o .sender ≡ u
+  pub other-sender : p .sender ≡ v
   pub receiver : p .receiver ≡ o .receiver
   pub cell : p .cell ≡ o .cell
   pub posting : p .posting ≡ o .posting
@@ -59,33 +63,34 @@ pub record AwaitedAway (x : Site) (o p : Outcome) : Type 0 where
 
 pub awaited-away : (x y : Site) (c : ChannelId) (w k : ℕ) → y .receiver ≡ x .receiver → y .cell ≡ x .cell
     → isAt (x .receiver .processor) (x .sender) ≡ false → isAt (x .receiver .processor) (y .sender) ≡ false
-    → AwaitedAway x (receiveRule x c w) (receiveRule y c k)
+    → AwaitedAway (x .sender) (y .sender) (receiveRule x c w) (receiveRule y c k)
 unfolding receiveRule receiveWaits
 awaited-away x y c w k same cell ax ay =
     rw (same, cell, ax, ay, and-false (x .sending), and-false (y .sending))
-    (both-picked (AwaitedAway x) (counts (x .cell) (x .cell .channel .carried)) _ _ _ _
-    (record { sender = refl; receiver = refl; cell = refl; posting = refl; received = refl })
-    (both-picked (AwaitedAway x) (noneCalled (x .cell) && not (isNone (x .cell .entry .noted))) _ _ _ _
-    (record { sender = refl; receiver = refl; cell = refl; posting = refl; received = refl })
-    (record { sender = refl; receiver = refl; cell = refl; posting = refl; received = refl })))
+    (both-picked (AwaitedAway (x .sender) (y .sender)) (counts (x .cell) (x .cell .channel .carried)) _ _ _ _
+    (record { sender = refl; other-sender = refl; receiver = refl; cell = refl; posting = refl; received = refl })
+    (both-picked (AwaitedAway (x .sender) (y .sender)) (noneCalled (x .cell) && not (isNone (x .cell .entry .noted))) _ _ _ _
+    (record { sender = refl; other-sender = refl; receiver = refl; cell = refl; posting = refl; received = refl })
+    (record { sender = refl; other-sender = refl; receiver = refl; cell = refl; posting = refl; received = refl })))
 
--- a finish of a task whose parent is elsewhere, with one record of the parent and with another
-pub record EndedAway (y : Task) (o p : Finished) : Type 0 where
+-- two finishes of one task at one row, whose parent is elsewhere with the record y or z
+pub record EndedAway (y z : Task) (o p : Finished) : Type 0 where
   pub parent : o .parent ≡ y
+  pub other-parent : p .parent ≡ z
   pub task : p .task ≡ o .task
   pub entry : p .entry ≡ o .entry
   pub posting : p .posting ≡ o .posting
 
 pub ended-away : (t : TaskId) (x y z : Task) (e : ParentEntry) → isAt (x .processor) y ≡ false → isAt (x .processor) z ≡ false
-    → EndedAway y (finishRule t x y e) (finishRule t x z e)
+    → EndedAway y z (finishRule t x y e) (finishRule t x z e)
 unfolding finishRule
 ended-away t x y z e ay az =
     rw (ay, az)
-    (both-picked (EndedAway y) (sameTask t (taskId 1)) _ _ _ _
-    (record { parent = refl; task = refl; entry = refl; posting = refl })
-    (both-picked (EndedAway y) (sameProcessor (newer (e .hint) (x .origin) .processor) (x .processor)) _ _ _ _
-    (record { parent = refl; task = refl; entry = refl; posting = refl })
-    (record { parent = refl; task = refl; entry = refl; posting = refl })))
+    (both-picked (EndedAway y z) (sameTask t (taskId 1)) _ _ _ _
+    (record { parent = refl; other-parent = refl; task = refl; entry = refl; posting = refl })
+    (both-picked (EndedAway y z) (sameProcessor (newer (e .hint) (x .origin) .processor) (x .processor)) _ _ _ _
+    (record { parent = refl; other-parent = refl; task = refl; entry = refl; posting = refl })
+    (record { parent = refl; other-parent = refl; task = refl; entry = refl; posting = refl })))
 
 -- nobody changes its desk
 record Stays (x y : Task) : Type 0 where

@@ -214,10 +214,9 @@ module _ (r : System) (s : Startable (r .processors) (r .plan)) (w : Whole r) (t
         go false at =
             let away : isAt desk (taskAt q p) ≡ false = seen .there p ∙ at in
             let both = ended-away t (taskAt r t) (taskAt r p) (taskAt q p) e at away in
-            let other = ended-away t (taskAt r t) (taskAt q p) (taskAt r p) e away at in
             record {
               task = both .task;
-              parent = λ k. other .parent ∙ seen .parts .tasks p k ∙ sym (both .parent);
+              parent = λ k. both .other-parent ∙ seen .parts .tasks p k ∙ sym (both .parent);
               entry = both .entry;
               posting = both .posting;
             }
