@@ -9,3 +9,4 @@ pub mod Rules
 pub mod Outcomes
 pub mod Runs
 pub mod Transfers
+pub mod Frames
