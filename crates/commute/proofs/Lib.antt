@@ -10,3 +10,6 @@ pub mod Outcomes
 pub mod Runs
 pub mod Transfers
 pub mod Frames
+-- two runs
+pub mod Apart
+pub mod Seconds
