@@ -13,3 +13,5 @@ pub mod Frames
 -- two runs
 pub mod Apart
 pub mod Seconds
+pub mod Parts
+pub mod Commutes
