@@ -14,3 +14,4 @@ pub mod Parents
 pub mod Overflows
 pub mod OldPlans
 pub mod OneMessage
+pub mod Commute

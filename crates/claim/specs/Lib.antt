@@ -4,4 +4,5 @@ pub mod Moves
 pub mod Parents
 pub mod Overflows
 pub mod OldPlans
+pub mod Commute
 pub mod Corollaries
