@@ -9,3 +9,4 @@ pub mod Suppositions
 pub mod Moves
 pub mod Overflows
 pub mod OldPlans
+pub mod Commute

@@ -7,3 +7,5 @@ pub mod Scenes
 pub mod Demand3
 -- Tasks that add at the top and over it.
 pub mod Overflows
+-- Two tasks that may run next.
+pub mod Commute
