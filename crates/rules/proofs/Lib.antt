@@ -20,6 +20,8 @@ pub mod ParentCases
 pub mod TaskCases
 -- each refusal of a run, a delivery and a move, in their order where several hold; whole steps
 pub mod StepCases
+-- two runs at different desks, in either order
+pub mod OrderCases
 -- the four levels of a word
 pub mod LevelCases
 -- the mark of a sum over the top
