@@ -28,3 +28,5 @@ pub mod LevelCases
 pub mod OverflowCases
 -- numbers in a line, lines, and what fits into an output
 pub mod TraceCases
+-- when a word leaves, the bytes of a log, each answer of the check of two logs
+pub mod LogCases

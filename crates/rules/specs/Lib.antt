@@ -1,5 +1,5 @@
 -- What the paper says of the rig: first what it is made of and how it is read and changed, then start, run, deliver, move, refusal 9, steps,
--- trace and step file.
+-- trace and step file, what is sent and the logs.
 pub mod Numbers
 pub mod Answers
 pub mod Hints
@@ -23,3 +23,5 @@ pub mod Sound
 pub mod Steps
 pub mod Trace
 pub mod StepFiles
+pub mod Logs
+pub mod LogFiles

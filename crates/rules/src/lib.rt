@@ -2,6 +2,8 @@
 
 // What is kept for a channel: pointers, offers, what the channel keeps itself.
 pub mod channel;
+// What two logs are answered.
+pub mod log;
 // A letter, and the mail.
 pub mod message;
 // What a rule about one channel sees, leaves and posts.
