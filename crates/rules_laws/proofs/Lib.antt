@@ -9,3 +9,5 @@ pub mod Sound
 pub mod StepKinds
 pub mod Changes
 pub mod Shapes
+-- what the check of two logs is made of: beginnings, the lowest channel
+pub mod Logs

@@ -1,0 +1,3 @@
+-- What the two passes of the check compute.
+pub mod Places
+pub mod Following
