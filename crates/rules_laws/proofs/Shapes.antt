@@ -21,7 +21,7 @@ use Rattle.rules_laws.proofs.TaskAt.{withTask-processors, withTask-plan
 use Rattle.rules_laws.proofs.CellAt.{withCell-processors, withCell-plan, withCell-shaped}
 use Rattle.rules_laws.proofs.ParentAt.{withParent-processors, withParent-plan, withParent-shaped}
 use Rattle.rules_laws.proofs.Messages.{enqueuedAll-size, dequeued-size}
-use Rattle.rules_laws.proofs.Changes.{Kept, birth-keeps, step-keeps, steps-keep}
+use Rattle.rules_laws.proofs.Changes.{Kept, written, birth-keeps, step-keeps, steps-keep}
 
 -- another mail of the same size
 pub withNetwork-shaped : (r : System) (n : Network) → Shaped r → length (n .slots) ≡ 256 → Shaped (withNetwork r n)
@@ -44,7 +44,7 @@ blank-shaped n p = search
 
 pub started-shaped : (n : ℕ) (p : Plan) → Shaped (started n p)
 unfolding started
-started-shaped n p = birth-keeps Shaped shaped-kept (blank n p) (taskId 1) (processorId 1) unknown (blank-shaped n p)
+started-shaped n p = birth-keeps Shaped (written shaped-kept) (blank n p) (taskId 1) (processorId 1) unknown (blank-shaped n p)
 
 -- steps
 pub step-shaped : (r : System) (s : Step) → Shaped r → Shaped (step r s .system)
@@ -75,10 +75,10 @@ module _ (r : System) where
       }
 
   pub birth-plan : (t : TaskId) (d : ProcessorId) (own : Hint) → birth r t d own .plan ≡ r .plan
-  birth-plan t d own = birth-keeps _ plan-kept r t d own refl
+  birth-plan t d own = birth-keeps _ (written plan-kept) r t d own refl
 
   pub birth-processors : (t : TaskId) (d : ProcessorId) (own : Hint) → birth r t d own .processors ≡ r .processors
-  birth-processors t d own = birth-keeps _ processors-kept r t d own refl
+  birth-processors t d own = birth-keeps _ (written processors-kept) r t d own refl
 
   pub step-plan : (s : Step) → step r s .system .plan ≡ r .plan
   step-plan s = step-keeps _ plan-kept r s refl

@@ -35,7 +35,7 @@ use Rattle.rules.specs.Runs.{fits}
 use Rattle.rules.specs.Moves.{departureSending, moved, moveAnswer}
 use Rattle.rules.specs.Sound.{taskOk, systemOk}
 use Rattle.rules_laws.specs.Shapes.{Shaped}
-use Rattle.rules_laws.proofs.Changes.{moved-keeps}
+use Rattle.rules_laws.proofs.Changes.{written, moved-keeps}
 use Rattle.rules_laws.proofs.Shapes.{shaped-kept}
 use Rattle.rules_sound.proofs.Answers.{move-passed}
 use Rattle.rules_sound.proofs.Settled.{settled}
@@ -171,7 +171,7 @@ module _ (r : System) (shaped : Shaped r) (ok : systemOk r ≡ true) (h : Histor
       let network = placed-network r t (departed now) entry d pointer departureSending in
       let q : reading (moved r t e .system) ≡ placedRead (meaning r) t (departed now) then pointer departureSending (d .0) ((reading r) .messages) (reading r) =
       rw kept (read-placed r shaped t is (departed now) then d (b .processor) few pointer departureSending) in
-      read-completed (moved r t e) (moved-keeps Shaped shaped-kept r t e shaped) (rw network (leb-true _ _ (p .fitting)))
+      read-completed (moved r t e) (moved-keeps Shaped (written shaped-kept) r t e shaped) (rw network (leb-true _ _ (p .fitting)))
       ∙ (λ i. withMessagesRead (q i) (q i .messages ++ one (Migration e t)))
 
   -- an accepted move
