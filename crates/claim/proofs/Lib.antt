@@ -13,5 +13,7 @@ pub mod Moves
 pub mod Parents
 pub mod Overflows
 pub mod OldPlans
+pub mod SentWords
+pub mod Sent
 pub mod OneMessage
 pub mod Commute

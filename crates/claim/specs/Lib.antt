@@ -1,8 +1,10 @@
--- Demand 3: the statement, what else holds of moves, of parents, of marks and of plans on one level, and what a corollary is stated with.
+-- Demand 3: the statement, what else holds of moves, of parents, of marks, of plans on one level and of the two logs, and what a corollary is
+-- stated with.
 pub mod Statement
 pub mod Moves
 pub mod Parents
 pub mod Overflows
 pub mod OldPlans
 pub mod Commute
+pub mod Logs
 pub mod Corollaries
