@@ -15,5 +15,8 @@ pub mod Overflows
 pub mod OldPlans
 pub mod SentWords
 pub mod Sent
+pub mod PassedFew
+pub mod LogBytes
+pub mod Logs
 pub mod OneMessage
 pub mod Commute

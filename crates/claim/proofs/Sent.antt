@@ -160,7 +160,7 @@ module _ (p : Plan) (a : planAnswer (programs p) ≡ PlanAccepted) {r : System} 
   here-reached = subst (λ (z : Plan). Reached (programs z) (k .labels) (k .state)) (sym (k .plan)) (k .reached)
 
   -- at most one word of a channel is under way
-  few-under-way : (c : ChannelId) → 1 ≤ c .0 → c .0 ≤ 128 → length (underWayOn c (messages (r .network))) ≤ 1
+  pub few-under-way : (c : ChannelId) → 1 ≤ c .0 → c .0 ≤ 128 → length (underWayOn c (messages (r .network))) ≤ 1
   unfolding viewOf reading
   few-under-way c low high =
       let view = viewOf (programs p) (k .histories) (reading r) c in

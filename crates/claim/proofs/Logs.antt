@@ -1,0 +1,215 @@
+-- The two logs of a run agree, and what the answers of the check mean.
+use mathlib.Core.Path.{_≡_, refl, sym, ap, ap₂, _∙_}
+use mathlib.Core.Bool.{Bool, true, false, _&&_}
+use mathlib.Core.List.{List, [], _∷_, _++_, map, append-nil}
+use mathlib.Core.Logic.{_≢_, by-cases}
+use Prim.Native.Nat.{ℕ, zero, suc, _≤_, _<_}
+use native.Mathlib.Decide.{ℕ-discrete}
+use native.Mathlib.Omega.{arith}
+use lib.Dec.{eqb}
+use lib.ListN.{length, length-append}
+use borrow.Author.Tests.{eq-eqb, ne-eqb}
+use Rattle.base.specs.Beginnings.{Beginning}
+use Rattle.base.specs.Choice.{within, unless}
+use Rattle.base.specs.Lists.{every}
+use Rattle.base.proofs.Sums.{sum-le}
+use Rattle.base.proofs.Tests.{and-both, is-true, is-false, tests-differ, within-low, within-high, within-both}
+use Rattle.plan.specs.declared.ChannelId.{ChannelId}
+use Rattle.plan.specs.declared.Plan.{Plan}
+use Rattle.plan.specs.declared.PlanAnswer.the-variants.{Accepted}
+use Rattle.plan.specs.declared.Word.{Word as WordOf}
+use Rattle.plan.specs.Numbers.{channelId}
+use Rattle.plan.specs.Programs.{programs}
+use Rattle.plan.specs.Refusals.{planAnswer}
+use Rattle.rules.specs.declared.log.LogsAnswer.{LogsAnswer}
+use Rattle.rules.specs.declared.log.LogsAnswer.the-variants.{Yes, No, BadLength, BadRecord}
+use Rattle.rules.specs.declared.rule.Received.{Received}
+use Rattle.rules.specs.declared.rule.Received.the-variants.{Nothing, Word}
+use Rattle.rules.specs.declared.step.Step.{Step}
+use Rattle.rules.specs.declared.system.System.{System}
+use Rattle.rules.specs.Networks.{messages}
+use Rattle.rules.specs.Starts.{started}
+use Rattle.rules.specs.Steps.{quiescent, wordOn, receivedOn}
+use Rattle.rules.specs.Logs.{sentIn, receivedIn, wordsOn, sentOn, underWayOn, logOf, sentLog, receivedLog}
+use Rattle.rules.specs.LogFiles.{loggedOn, logLengthOk, logChannelsOk, begins, channelAgrees, lowestFailing, verdictOf, logsAnswer}
+use Rattle.rules_laws.proofs.Logs.{begins-is, is-begins, Lowest as LowestOf, lowest-is, lowest-only}
+use Rattle.transitions.specs.Messages.{messagesOn, wordsIn}
+use Rattle.transitions.specs.Readings.{Reading, reading}
+use Rattle.invariant.proofs.Next.{Kept}
+use Rattle.invariant.proofs.StartViews.{read-started}
+use Rattle.claim.specs.Statement.{from}
+use Rattle.claim.specs.Logs.{LogsAgree, LogsAlwaysAgree, YesMeans, Lowest, NoMeans}
+use Rattle.claim.proofs.Whole.{start-kept, list-kept}
+use Rattle.claim.proofs.Demand3.{all-received}
+use Rattle.claim.proofs.SentWords.{received-words, under-way-words}
+use Rattle.claim.proofs.Sent.{few-under-way, sent-steps}
+use Rattle.claim.proofs.PassedFew.{tally, passed-few, passed-none}
+use Rattle.claim.proofs.LogBytes.{channelThere, wordCount, count-tally, logged-words, log-there, log-short}
+
+-- two lists that are empty together
+no-words-behind : (xs ys : List WordOf) → xs ++ ys ≡ [] → ys ≡ []
+no-words-behind [] ys e = e
+no-words-behind (x ∷ xs) ys e = let q : _≡_ {A = ℕ} 0 1 = cc in absurd (omega arith)
+
+no-words-before : (xs ys : List WordOf) → xs ++ ys ≡ [] → xs ≡ []
+no-words-before [] ys e = refl
+no-words-before (x ∷ xs) ys e = let q : _≡_ {A = ℕ} 0 1 = cc in absurd (omega arith)
+
+-- words on no channel but those that there are: each is on one of them
+words-there : (xs : List Received) → ((c : ChannelId) → within 1 128 (c .0) ≡ false → wordsOn c xs ≡ []) → every channelThere xs ≡ true
+unfolding wordsOn wordOn every channelThere
+words-there [] none = refl
+words-there (Nothing ∷ xs) none = words-there xs none
+words-there (Word e w ∷ xs) none =
+    and-both (within 1 128 (e .0)) _
+    (is-true (within 1 128 (e .0)) (λ out. let z : w ∷ wordsOn e xs ≡ [] = rw (eq-eqb (e .0) (e .0) refl) at (none e out) in let q : _≡_ {A = ℕ} 0 1 = cc in omega arith))
+    (words-there xs (λ c out. no-words-behind (wordOn c (Word e w)) (wordsOn c xs) (none c out)))
+
+-- logs that neither 24 nor 25 refuses, each channel's received list a beginning of its sent list
+passes : (s r : List ℕ) → logLengthOk s ≡ true → logLengthOk r ≡ true → logChannelsOk s ≡ true → logChannelsOk r ≡ true
+    → ((c : ChannelId) → Beginning (loggedOn c r) (loggedOn c s)) → logsAnswer s r ≡ Yes
+unfolding logsAnswer
+passes s r a b c d all =
+    let none : lowestFailing 128 (channelAgrees s r) ≡ 0 =
+    lowest-only 128 (channelAgrees s r) _ 0 (lowest-is 128 (channelAgrees s r))
+    (record { holds = λ k l u h. is-begins (loggedOn (channelId k) r) (loggedOn (channelId k) s) (all (channelId k)); few = omega arith; fails = λ l. absurd (omega arith) }) in
+    rw (a, b, c, d, none) refl
+
+module _ (n : ℕ) (p : Plan) (ss : List Step) (some : 1 ≤ n) (few : n ≤ 6) (a : planAnswer (programs p) ≡ Accepted) where
+  abbrev start : System
+  start = started n p
+
+  abbrev end : System
+  end = from n p ss .system
+
+  there : Kept p end (λ c. receivedOn c (from n p ss .reports))
+  there = list-kept n p some few a ss
+
+  no-mail : (c : ChannelId) → underWayOn c (messages (start .network)) ≡ []
+  unfolding reading wordsOn
+  no-mail c = ap (λ (x : Reading). underWayOn c (x .messages)) (read-started n p)
+
+  sent : (c : ChannelId) → sentOn c start ss ≡ receivedOn c (from n p ss .reports) ++ underWayOn c (messages (end .network))
+  sent c = ap (_++ sentOn c start ss) (sym (no-mail c)) ∙ sent-steps p a c (start-kept n p some few a) ss
+
+  -- the words that have passed in the net
+  passed : (c : ChannelId) → sentOn c start ss ≡ there .state .passed c
+  unfolding reading
+  passed c = sent c ∙ ap (receivedOn c (from n p ss .reports) ++_) (under-way-words c (messages (end .network))) ∙ sym (there .running .passed c)
+
+  sent-none : (c : ChannelId) → within 1 128 (c .0) ≡ false → sentOn c start ss ≡ []
+  sent-none c out = passed c ∙ passed-none (programs p) a (there .reached) c out
+
+  one : (c : ChannelId) → length (underWayOn c (messages (end .network))) ≤ 1
+  one c = go (within 1 128 (c .0)) refl
+    where
+      go : (b : Bool) → within 1 128 (c .0) ≡ b → length (underWayOn c (messages (end .network))) ≤ 1
+      go true e = few-under-way p a there c (within-low 1 128 (c .0) e) (within-high 1 128 (c .0) e)
+      go false e =
+          let z = no-words-behind (receivedOn c (from n p ss .reports)) (underWayOn c (messages (end .network))) (sym (sent c) ∙ sent-none c e) in
+          rw z (omega arith)
+
+  at-rest : quiescent end ≡ true → (c : ChannelId) → sentOn c start ss ≡ receivedOn c (from n p ss .reports)
+  at-rest quiet c = passed c ∙ all-received p a there quiet c
+
+  -- both logs as lists of words
+  received-is : (c : ChannelId) → wordsOn c (receivedIn start ss) ≡ receivedOn c (from n p ss .reports)
+  received-is c = sym (received-words c (from n p ss .reports))
+
+  beginning : (c : ChannelId) → Beginning (wordsOn c (receivedIn start ss)) (sentOn c start ss)
+  beginning c = record { rest = underWayOn c (messages (end .network)); whole = sent c ∙ ap (_++ underWayOn c (messages (end .network))) (sym (received-is c)) }
+
+  sent-there : every channelThere (sentIn start ss) ≡ true
+  sent-there = words-there (sentIn start ss) sent-none
+
+  received-there : every channelThere (receivedIn start ss) ≡ true
+  unfolding beginning
+  received-there =
+      words-there (receivedIn start ss) (λ c out.
+      no-words-before (wordsOn c (receivedIn start ss)) (underWayOn c (messages (end .network)))
+      (sym (beginning c .whole) ∙ sent-none c out))
+
+  sent-few : wordCount (sentIn start ss) ≤ 4096
+  sent-few =
+      let same = sum-le 128 (λ k. length (sentOn (channelId (suc k)) start ss)) (λ k. length (there .state .passed (channelId (suc k))))
+      (λ k l. omega (arith, ap length (passed (channelId (suc k))))) in
+      omega (arith, count-tally (sentIn start ss) sent-there, same, passed-few (programs p) a (there .reached))
+
+  received-few : wordCount (receivedIn start ss) ≤ 4096
+  received-few =
+      let fewer = sum-le 128 (λ k. length (wordsOn (channelId (suc k)) (receivedIn start ss))) (λ k. length (sentOn (channelId (suc k)) start ss))
+      (λ k l.
+      let c = channelId (suc k) in
+      omega (arith, ap length (beginning c .whole), length-append (wordsOn c (receivedIn start ss)) (beginning c .rest))) in
+      omega (arith, count-tally (receivedIn start ss) received-there, fewer, count-tally (sentIn start ss) sent-there, sent-few)
+
+  agree : LogsAgree n p ss
+  agree =
+      record {
+        sent = sent;
+        one = one;
+        at-rest = at-rest;
+        sent-log = λ c. logged-words c (sentIn start ss);
+        received-log = λ c. logged-words c (receivedIn start ss) ∙ received-is c;
+        passes =
+            passes (sentLog start ss) (receivedLog start ss) (log-short (sentIn start ss) sent-few) (log-short (receivedIn start ss) received-few)
+            (log-there (sentIn start ss) sent-there) (log-there (receivedIn start ss) received-there)
+            (λ c.
+            record {
+              rest = beginning c .rest;
+              whole = logged-words c (sentIn start ss) ∙ beginning c .whole ∙ ap (_++ beginning c .rest) (sym (logged-words c (receivedIn start ss)));
+            });
+      }
+
+pub logs-agree : LogsAlwaysAgree
+logs-agree n p ss some few a = agree n p ss some few a
+
+-- what the answers mean: one that is no refusal is the verdict
+not-refused : (lengths channels : Bool) (v x : LogsAnswer) → unless lengths BadLength (unless channels BadRecord v) ≡ x → x ≢ BadLength → x ≢ BadRecord → v ≡ x
+not-refused true true v x e p q = e
+not-refused true false v x e p q = absurd (q (sym e))
+not-refused false channels v x e p q = absurd (p (sym e))
+
+module _ (s r : List ℕ) where
+  abbrev lowest : ℕ
+  lowest = lowestFailing 128 (channelAgrees s r)
+
+  facts : LowestOf 128 (channelAgrees s r) lowest
+  facts = lowest-is 128 (channelAgrees s r)
+
+  verdict : (x : LogsAnswer) → logsAnswer s r ≡ x → x ≢ BadLength → x ≢ BadRecord → verdictOf lowest ≡ x
+  unfolding logsAnswer
+  verdict x e = not-refused (logLengthOk s && logLengthOk r) (logChannelsOk s && logChannelsOk r) (verdictOf lowest) x e
+
+  says-yes : verdictOf lowest ≡ Yes → lowest ≡ 0
+  says-yes e =
+      by-cases
+      (ℕ-discrete lowest 0)
+      (λ z. z)
+      (λ ne. let z : No (channelId lowest) ≡ Yes = rw (ne-eqb lowest 0 ne) at e in let q : _≡_ {A = ℕ} 0 1 = cc in absurd (omega arith))
+
+  says-no : (c : ChannelId) → verdictOf lowest ≡ No c → (1 ≤ lowest) × (channelId lowest ≡ c)
+  says-no c e =
+      by-cases
+      (ℕ-discrete lowest 0)
+      (λ (z : lowest ≡ 0). let f : Yes ≡ No c = rw (eq-eqb lowest 0 z) at e in let q : _≡_ {A = ℕ} 0 1 = cc in absurd (omega arith))
+      (λ ne. let z : No (channelId lowest) ≡ No c = rw (ne-eqb lowest 0 ne) at e in (omega arith, cc))
+
+  begins-at : (c : ℕ) → 1 ≤ c → c ≤ 128 → (1 ≤ lowest → c < lowest) → Beginning (loggedOn (channelId c) r) (loggedOn (channelId c) s)
+  begins-at c l u h = begins-is (loggedOn (channelId c) r) (loggedOn (channelId c) s) (facts .holds c l u h)
+
+pub yes-means : YesMeans
+yes-means s r e c low high =
+    let none = says-yes s r (verdict s r Yes e (λ z. let q : _≡_ {A = ℕ} 0 1 = cc in omega arith) (λ z. let q : _≡_ {A = ℕ} 0 1 = cc in omega arith)) in
+    begins-at s r (c .0) low high (λ z. absurd (omega arith))
+
+pub no-means : NoMeans
+no-means s r c e =
+    let (some, is) = says-no s r c (verdict s r (No c) e (λ z. let q : _≡_ {A = ℕ} 0 1 = cc in omega arith) (λ z. let q : _≡_ {A = ℕ} 0 1 = cc in omega arith)) in
+    let same : lowest s r ≡ c .0 = ap (λ (d : ChannelId). d .0) is in
+    record {
+      low = omega (arith, some, same);
+      high = omega (arith, facts s r .few, same);
+      fails = λ b. tests-differ (is-begins (loggedOn c r) (loggedOn c s) b) (rw is at (facts s r .fails some));
+      lower = λ d l u. begins-at s r (d .0) l (omega (arith, facts s r .few, same)) (λ z. omega (arith, same));
+    }
