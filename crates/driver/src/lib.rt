@@ -1,4 +1,8 @@
 // What the C driver calls: numbers and byte slices in, a number out.
+
+// The check of two logs.
+pub mod log_files;
+
 ghost use mathlib.Core.Path.{_≡_};
 ghost use Prim.Native.Nat.{_≤_};
 ghost use Rattle.plan.specs.Outcomes.{startNumber};

@@ -2,7 +2,7 @@
 pub mod Edges
 -- Each run has its trace.
 pub mod Scenes
--- What demand 3 says of two runs, that its test of letters tells rigs apart, and what is said of moves, of marks and of plans on level 0.
+-- What demand 3 says of two runs, that its test of letters tells rigs apart, and what is said of moves, of marks, of plans on level 0 and of logs.
 pub mod Demand3
 pub mod Bound
 pub mod Suppositions
@@ -10,3 +10,4 @@ pub mod Moves
 pub mod Overflows
 pub mod OldPlans
 pub mod Commute
+pub mod Logs

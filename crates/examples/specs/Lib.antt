@@ -9,3 +9,5 @@ pub mod Demand3
 pub mod Overflows
 -- Two tasks that may run next.
 pub mod Commute
+-- Words that pass directly and by letters.
+pub mod Logs
