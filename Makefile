@@ -18,7 +18,7 @@ SANITIZE = -O1 -g -fsanitize=address,undefined -fno-sanitize-recover=all
 ARCHIVE = target/staticlib/libdriver.a
 PROVED = crates.txt $(shell find crates -type f)
 HEADER = include/mortarsedge.h
-DRIVER = driver/driver.c driver/file.c
+DRIVER = driver/driver.c driver/file.c driver/logs.c
 SIMULATOR = bench/simulator.c bench/sim_plan.c bench/sim_start.c bench/sim_step.c \
     bench/sim_run.c bench/sim_deliver.c bench/sim_move.c
 GENERATOR = bench/generate.c bench/damage.c bench/make_plan.c bench/make_steps.c bench/draft.c
@@ -64,12 +64,15 @@ build/differential: $(COMPARISON) $(GENERATOR) $(SIMULATOR) $(BENCH_HEADERS) $(A
 build/benchmark: $(BENCHMARK) $(SIMULATOR) $(BENCH_HEADERS) $(ARCHIVE) | build
 	$(CCALL) -o $@ $(BENCHMARK) $(SIMULATOR) $(ARCHIVE)
 
+build/logs: bench/logs.c bench/sim_logs.c driver/logs.c driver/logs.h $(GENERATOR) $(SIMULATOR) $(BENCH_HEADERS) $(ARCHIVE) | build
+	$(CCALL) -o $@ bench/logs.c bench/sim_logs.c driver/logs.c $(GENERATOR) $(SIMULATOR) $(ARCHIVE)
+
 build/stack: $(STACK) $(GENERATOR) $(SIMULATOR) $(BENCH_HEADERS) $(ARCHIVE) | build
 	$(CCALL) -o $@ $(STACK) $(GENERATOR) $(SIMULATOR) $(ARCHIVE)
 
 HEADER_TESTS = build/header_c99 build/header_c11 build/header_cxx11
 
-ctest: build/driver $(HEADER_TESTS) build/vectors build/old_plans build/differential build/stack
+ctest: build/driver $(HEADER_TESTS) build/vectors build/old_plans build/differential build/logs build/stack
 	build/header_c99
 	build/header_c11
 	build/header_cxx11
@@ -77,6 +80,7 @@ ctest: build/driver $(HEADER_TESTS) build/vectors build/old_plans build/differen
 	build/vectors crates/vectors_test/data/s108.bin crates/vectors_test/data/edges.bin
 	build/old_plans bench/data/one_level.bin
 	build/differential $(SEED) $(COUNT)
+	build/logs crates/logs_test/data/logs.bin $(SEED) 2000
 	build/stack $(SEED) 1000
 
 sanitize: $(ARCHIVE) | build

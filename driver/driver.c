@@ -1,22 +1,25 @@
-/* driver DESKS PLANFILE STEPFILE: stands where a dimmer's driver stands.
+/* driver [--logs DIR] DESKS PLANFILE STEPFILE: stands where a dimmer's driver stands.
  *
  * Each word that a task receives becomes a line `level CHANNEL`, its four levels, on
  * standard output, in order. Refused steps, tasks that met a sum over the top
- * and the end of the run are told on standard error. Exit status: 0 the run was done; 1 the desks or a file are
- * refused; 2 wrong usage; 3 a file cannot be read or the levels cannot be
- * written. */
+ * and the end of the run are told on standard error. With --logs the sender's and
+ * the receiver's log of the run are written to DIR/sent.log and DIR/received.log.
+ * Exit status: 0 the run was done; 1 the desks or a file are
+ * refused; 2 wrong usage; 3 a file cannot be read, or the levels or the logs
+ * cannot be written. */
 #include <errno.h>
 #include <stdio.h>
 #include <string.h>
 
 #include "file.h"
+#include "logs.h"
 #include "mortarsedge.h"
 
 enum { DONE = 0, REFUSED = 1, USAGE = 2, BROKEN = 3 };
 
 static int usage(void)
 {
-    fprintf(stderr, "usage: driver DESKS PLANFILE STEPFILE\n"
+    fprintf(stderr, "usage: driver [--logs DIR] DESKS PLANFILE STEPFILE\n"
                     "DESKS is a number, and 1 to 6 are accepted; the files are explained in docs/FORMATS.md\n");
     return USAGE;
 }
@@ -49,6 +52,7 @@ static bool parse_desks(const char *text, uint32_t *desks)
 struct show {
     uint32_t desks;
     const char *desks_word, *plan_name, *steps_name; /* as on the command line */
+    const char *logs_folder;                         /* NULL: no logs are asked for */
     struct file plan, steps;
     uint32_t runs; /* accepted runs of task 1 */
 };
@@ -116,6 +120,35 @@ static int report(struct show *show, const uint8_t *trace, size_t length)
     return fflush(stdout) == 0 ? DONE : broken("standard output", strerror(errno));
 }
 
+static bool write_log(const char *folder, const char *name, const struct log *log)
+{
+    char path[4096];
+    int length = snprintf(path, sizeof path, "%s/%s", folder, name);
+    if (length < 0 || (size_t)length >= sizeof path)
+        return false;
+    FILE *to = fopen(path, "wb");
+    if (to == NULL)
+        return false;
+    bool written = fwrite(log->bytes, 1, log->length, to) == log->length;
+    return fclose(to) == 0 && written;
+}
+
+/* Both logs, taken after the same step. */
+static int report_logs(const struct show *show)
+{
+    static struct logs logs;
+    errno = 0;
+    if (!logs_of(show->desks, show->plan.bytes, show->plan.length, show->steps.bytes, show->steps.length, &logs))
+        return broken("the trace", "a line of no known form");
+    if (MORTARSEDGE_STEP_BYTES * logs.after < show->steps.length)
+        fprintf(stderr, "logs taken after step %u: behind the last of 2,000 steps nothing can be asked\n",
+                (unsigned)logs.after);
+    if (!write_log(show->logs_folder, "sent.log", &logs.sent)
+        || !write_log(show->logs_folder, "received.log", &logs.received))
+        return broken(show->logs_folder, errno == 0 ? "the logs cannot be written" : strerror(errno));
+    return DONE;
+}
+
 static int run(struct show *show)
 {
     static uint8_t out[MORTARSEDGE_OUTPUT_ENOUGH];
@@ -128,13 +161,19 @@ static int run(struct show *show)
     number = mortarsedge_number(answer);
     if (number != MORTARSEDGE_ACCEPTED)
         return refused(show->steps_name, number);
-    return report(show, out, mortarsedge_filled(answer));
+    int status = report(show, out, mortarsedge_filled(answer));
+    return status == DONE && show->logs_folder != NULL ? report_logs(show) : status;
 }
 
 int main(int argc, char **argv)
 {
     struct show show = {.desks = 0};
     int status = BROKEN;
+    if (argc == 6 && strcmp(argv[1], "--logs") == 0) {
+        show.logs_folder = argv[2];
+        argv += 2;
+        argc -= 2;
+    }
     if (argc != 4 || !parse_desks(argv[1], &show.desks))
         return usage();
     show.desks_word = argv[1];

@@ -24,6 +24,9 @@ static void texts_differ(void)
     for (uint32_t i = 0; i <= 20; i++)
         for (uint32_t j = 0; j < i; j++)
             expect(strcmp(mortarsedge_refusal_text(i), mortarsedge_refusal_text(j)) != 0, "two texts are one");
+    for (uint32_t i = 24; i <= 25; i++)
+        for (uint32_t j = 0; j < i; j++)
+            expect(strcmp(mortarsedge_refusal_text(i), mortarsedge_refusal_text(j)) != 0, "two texts are one");
 }
 
 static void sizes_are_right(void)
@@ -34,6 +37,7 @@ static void sizes_are_right(void)
     expect(strlen("2000 0 128 65535 65535 65535 65535\n") == MORTARSEDGE_MAX_LINE, "longest line");
     expect(strlen("over 64\n") == MORTARSEDGE_MAX_OVER_LINE, "longest line of a marked task");
     expect(strlen("end 0 256\n") == MORTARSEDGE_MAX_END_LINE, "longest last line");
+    expect(MORTARSEDGE_MAX_LOG == 40960, "longest log");
 }
 
 /* A plan of one finish, and an empty step file. */
@@ -51,6 +55,30 @@ static void calls_link(void)
     expect(mortarsedge_number(answer) == MORTARSEDGE_OUTPUT_SHORT && mortarsedge_filled(answer) == 0, "run: 20");
     answer = mortarsedge_run(1, plan, sizeof plan, plan, 3, out, 8);
     expect(answer == MORTARSEDGE_BAD_STEP_FILE, "run: 8");
+}
+
+/* Two logs: each answer, the records put by the header. */
+static void logs_are_held(void)
+{
+    static const uint16_t first[4] = {1, 2, 3, 4}, second[4] = {256, 65535, 0, 772}, third[4] = {1, 2, 3, 5};
+    static const uint8_t bytes[10] = {2, 1, 0, 1, 255, 255, 0, 0, 4, 3};
+    uint8_t sent[30], received[30];
+    mortarsedge_put_log_record(sent, 258, second);
+    expect(memcmp(sent, bytes, sizeof bytes) == 0, "a record's bytes");
+    mortarsedge_put_log_record(sent, 5, first);
+    mortarsedge_put_log_record(sent + 10, 128, second);
+    mortarsedge_put_log_record(sent + 20, 5, second);
+    memcpy(received, sent + 10, 10);
+    memcpy(received + 10, sent, 10);
+    mortarsedge_put_log_record(received + 20, 5, third);
+    expect(mortarsedge_logs(NULL, 0, NULL, 0) == 0, "logs: empty");
+    expect(mortarsedge_logs(sent, 30, received, 20) == 0, "logs: yes");
+    expect(mortarsedge_logs(sent, 30, received, 30) == 256 * 5, "logs: no");
+    expect(mortarsedge_channel(mortarsedge_logs(NULL, 0, received, 10)) == 128, "logs: no, channel 128");
+    expect(mortarsedge_logs(sent, 29, received, 30) == MORTARSEDGE_BAD_LOG_LENGTH, "logs: 24");
+    received[0] = 129;
+    expect(mortarsedge_number(mortarsedge_logs(sent, 30, received, 30)) == MORTARSEDGE_BAD_LOG_RECORD, "logs: 25");
+    expect(mortarsedge_logs(sent, 29, received, 30) == MORTARSEDGE_BAD_LOG_LENGTH, "logs: 24 before 25");
 }
 
 /* Whether a step is put as these bytes, and no byte around them is written. */
@@ -318,6 +346,7 @@ int main(void)
     texts_differ();
     sizes_are_right();
     calls_link();
+    logs_are_held();
     steps_are_put();
     lines_are_taken();
     others_are_told();

@@ -115,6 +115,35 @@ expect "an end without rest" 0 "level 1 0 0 0 0
 " "finished, not at rest, 1 letter
 "
 
+# Logs. After eight steps of the worked run its word has left and is not received; after nine both logs have it.
+# A word that passes directly is in both at once. With 2,000 steps the logs are taken after the 1,999th.
+logs_are() {
+    cases=$((cases + 1))
+    [ "$status" -eq 0 ] || fail "$1: exit status $status, not 0"
+    [ "$(od -An -v -tu1 "$scratch/sent.log" | tr -s ' \n' ' ')" = "$2" ] || fail "$1: sent.log: $(od -An -v -tu1 "$scratch/sent.log")"
+    [ "$(od -An -v -tu1 "$scratch/received.log" | tr -s ' \n' ' ')" = "$3" ] || fail "$1: received.log: $(od -An -v -tu1 "$scratch/received.log")"
+}
+seven=' 3 0 7 0 0 0 0 0 0 0 '
+for count in 7 8 9; do
+    head -c $((4 * count)) "$steps" > "$scratch/first"
+    run --logs "$scratch" 2 "$plan" "$scratch/first"
+    case $count in
+    7) logs_are "logs after 7 steps" '' '' ;;
+    8) logs_are "logs after 8 steps" "$seven" '' ;;
+    9) logs_are "logs after 9 steps" "$seven" "$seven" ;;
+    esac
+done
+direct=' 128 0 255 255 0 0 0 0 0 0 1 0 1 0 0 0 0 0 0 0 '
+run --logs "$scratch" 1 "$scratch/two.plan" "$scratch/two.steps"
+logs_are "logs of direct words" "$direct" "$direct"
+{ head -c 36 "$steps"; head -c 7964 /dev/zero; } > "$scratch/full"
+run --logs "$scratch" 2 "$plan" "$scratch/full"
+logs_are "logs of 2,000 steps" "$seven" "$seven"
+grep -q "^logs taken after step 1999: " "$scratch/err" || fail "logs of 2,000 steps: not told"
+run --logs "$scratch/nowhere" 2 "$plan" "$steps"
+cases=$((cases + 1))
+[ "$status" -eq 3 ] || fail "logs nowhere: exit status $status, not 3"
+
 # Refused plans: one task with one instruction unless said otherwise.
 one='\001\000\001\000\010\000\001\000'
 bytes finish.plan "$one"'\003\000\000\000'
@@ -177,7 +206,7 @@ if [ -w /dev/full ]; then
 fi
 
 # Wrong usage.
-wrong="usage: driver DESKS PLANFILE STEPFILE
+wrong="usage: driver [--logs DIR] DESKS PLANFILE STEPFILE
 DESKS is a number, and 1 to 6 are accepted; the files are explained in docs/FORMATS.md
 "
 run

@@ -1,9 +1,9 @@
 /* Mortarsedge: the proved core of a moving rig, for a C driver.
  *
- * Link with libdriver.a. Its two functions, plan check and run, take numbers
- * and bytes, keep nothing between calls, and may be called from several threads
- * at once. Both return for every input; neither allocates, reads or writes
- * anything else. Everything else in this header is C for a driver's convenience:
+ * Link with libdriver.a. Its three functions, plan check, run and the check of two
+ * logs, take numbers and bytes, keep nothing between calls, and may be called from
+ * several threads at once. Each returns for every input; none allocates, reads or
+ * writes anything else. Everything else in this header is C for a driver's convenience:
  * names for the numbers, and inline functions, which no proof covers.
  *
  * Where a length is 0 its pointer may be any.
@@ -54,9 +54,15 @@ enum {
     /* An output of so many bytes is never answered 20. Tasks 1 to 9 have one digit less. */
     MORTARSEDGE_OUTPUT_ENOUGH = MORTARSEDGE_MAX_STEPS * MORTARSEDGE_MAX_LINE
         + MORTARSEDGE_MAX_TASKS * MORTARSEDGE_MAX_OVER_LINE - 9 + MORTARSEDGE_MAX_END_LINE,
+    /* A record of a log: a channel and four levels, 2 bytes each. */
+    MORTARSEDGE_LOG_RECORD = 10,
+    MORTARSEDGE_MAX_LOG_RECORDS = 4096,
+    /* The longest log that is accepted. */
+    MORTARSEDGE_MAX_LOG = MORTARSEDGE_LOG_RECORD * MORTARSEDGE_MAX_LOG_RECORDS,
     /* Stack for a call, with some to spare: make ctest measures what is needed. */
     MORTARSEDGE_PLAN_CHECK_STACK = 16 * 1024,
-    MORTARSEDGE_RUN_STACK = 128 * 1024
+    MORTARSEDGE_RUN_STACK = 128 * 1024,
+    MORTARSEDGE_LOGS_STACK = 64 * 1024
 };
 
 /* The kinds of an instruction, 4 bytes of a plan file: kind, a second byte, and an
@@ -82,7 +88,7 @@ enum mortarsedge_step {
     MORTARSEDGE_STEP_MOVE = 3     /* the task; the number is the desk it goes to */
 };
 
-/* The answers: of a call 0 to 6, 8 and 20, of a step in the trace 0 and 10 to 19. */
+/* The answers: of a call 0 to 6, 8, 20, 24 and 25, of a step in the trace 0 and 10 to 19. */
 enum mortarsedge_answer {
     MORTARSEDGE_ACCEPTED = 0,
     /* Of the plan file. */
@@ -110,7 +116,10 @@ enum mortarsedge_answer {
     MORTARSEDGE_MOVE_COUNT = 18,      /* the task's move count is 9,999; no step file has so many moves */
     MORTARSEDGE_BAD_STEP = 19,        /* a kind not 1 to 3, or an unused field not zero */
     /* Of the output. */
-    MORTARSEDGE_OUTPUT_SHORT = 20 /* the lent output is too short */
+    MORTARSEDGE_OUTPUT_SHORT = 20, /* the lent output is too short */
+    /* Of two logs. */
+    MORTARSEDGE_BAD_LOG_LENGTH = 24, /* length no multiple of 10, or over 4,096 records */
+    MORTARSEDGE_BAD_LOG_RECORD = 25  /* a channel outside 1 to 128 */
 };
 
 /* May this plan file be started on so many desks?
@@ -161,7 +170,32 @@ uint64_t mortarsedge_run(uint32_t desks, const uint8_t *plan, size_t plan_length
                          const uint8_t *steps, size_t steps_length,
                          uint8_t *out, size_t out_length);
 
-/* The number in the answer of a run: 0 to 6, 8 or 20. */
+/* Holds a sender's log against a receiver's log.
+ *
+ * A log has a record of MORTARSEDGE_LOG_RECORD bytes for each word: its channel and
+ * its four levels, level 0 first, 16 bits each, little-endian. The sender's has each
+ * word when it leaves, the receiver's when it is received.
+ *
+ * The caller supplies
+ *   sent       sent_length readable bytes, any bytes, which nobody writes meanwhile;
+ *   received   received_length readable bytes, likewise;
+ *   stack      MORTARSEDGE_LOGS_STACK bytes.
+ *
+ * The answer holds a number and a channel: take it apart by mortarsedge_number and
+ * mortarsedge_channel.
+ *
+ *   0, channel 0   yes: on every channel the received words are a beginning of the
+ *                  sent words
+ *   0, channel     no: the lowest channel where that is not so
+ *   24             a length is no multiple of 10, or over 4,096 records
+ *   25             a record's channel is outside 1 to 128
+ *
+ * 24 is tested over both logs before 25. Both logs of a run from an accepted plan's
+ * start, taken after the same step, get yes. */
+uint64_t mortarsedge_logs(const uint8_t *sent, size_t sent_length,
+                          const uint8_t *received, size_t received_length);
+
+/* The number in the answer of a run, 0 to 6, 8 or 20, or of two logs, 0, 24 or 25. */
 static inline uint32_t mortarsedge_number(uint64_t answer)
 {
     return (uint32_t)(answer % 256);
@@ -171,6 +205,24 @@ static inline uint32_t mortarsedge_number(uint64_t answer)
 static inline size_t mortarsedge_filled(uint64_t answer)
 {
     return (size_t)(answer / 256);
+}
+
+/* The channel in the answer of two logs: 0 for yes, else the lowest that differs. */
+static inline uint32_t mortarsedge_channel(uint64_t answer)
+{
+    return (uint32_t)(answer / 256);
+}
+
+/* Puts a record of a log: the channel and the word's four levels. */
+static inline void mortarsedge_put_log_record(uint8_t out[MORTARSEDGE_LOG_RECORD], uint16_t channel,
+                                              const uint16_t level[MORTARSEDGE_LEVELS])
+{
+    out[0] = (uint8_t)(channel % 256);
+    out[1] = (uint8_t)(channel / 256);
+    for (size_t i = 0; i < MORTARSEDGE_LEVELS; i++) {
+        out[2 + 2 * i] = (uint8_t)(level[i] % 256);
+        out[3 + 2 * i] = (uint8_t)(level[i] / 256);
+    }
 }
 
 /* Puts a step into the four bytes out[0] to out[3]. A kind or a task above 255
@@ -361,6 +413,10 @@ static inline const char *mortarsedge_refusal_text(uint32_t number)
         return "kind of step not 1 to 3, or an unused field not zero";
     case MORTARSEDGE_OUTPUT_SHORT:
         return "the lent output is too short";
+    case MORTARSEDGE_BAD_LOG_LENGTH:
+        return "log's length no multiple of 10, or over 4,096 records";
+    case MORTARSEDGE_BAD_LOG_RECORD:
+        return "a channel in a log outside 1 to 128";
     default:
         return "not a number of the paper";
     }
