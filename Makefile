@@ -22,7 +22,7 @@ DRIVER = driver/driver.c driver/file.c driver/logs.c
 SIMULATOR = bench/simulator.c bench/sim_plan.c bench/sim_start.c bench/sim_step.c \
     bench/sim_run.c bench/sim_deliver.c bench/sim_move.c
 GENERATOR = bench/generate.c bench/damage.c bench/make_plan.c bench/make_steps.c bench/draft.c
-BENCHMARK = bench/benchmark.c bench/cases.c bench/make_plan.c bench/make_steps.c bench/draft.c
+BENCHMARK = bench/benchmark.c bench/sim_logs.c bench/cases.c bench/make_plan.c bench/make_steps.c bench/draft.c
 COMPARISON = bench/differential.c bench/tally.c bench/guarded.c
 STACK = bench/stack.c bench/cases.c bench/guarded.c
 BENCH_HEADERS = $(wildcard bench/*.h) $(HEADER)
@@ -97,6 +97,7 @@ mutants: $(ARCHIVE) | build
 
 bench: build/benchmark
 	build/benchmark 101
+	build/benchmark --logs
 
 instructions: build/benchmark
 	bench/instructions.sh build/benchmark

@@ -2,6 +2,7 @@
  * benchmark --one CASE library|simulator COUNT: so many calls and no more, for
  * a counter of instructions (instructions.sh).
  * benchmark --growing: the library on files that grow by one step at a time.
+ * benchmark --logs: the check of two logs of 4,096 records, and that in C.
  * benchmark --names: the cases. */
 #define _POSIX_C_SOURCE 200809L
 #include <stdio.h>
@@ -11,6 +12,7 @@
 
 #include "../include/mortarsedge.h"
 #include "cases.h"
+#include "sim_logs.h"
 #include "simulator.h"
 
 enum { MAX_SAMPLES = 201, SAMPLE_NS = 2000000, GROWING_SAMPLES = 21 };
@@ -180,6 +182,37 @@ static int growing(void)
     return 0;
 }
 
+/* Two full logs that agree: the record after the first k is on channel k times `step`, taken round. */
+static int logs(void)
+{
+    static uint8_t log[MORTARSEDGE_MAX_LOG];
+    static const uint32_t steps[2] = {1, 0};
+    static double samples[2][GROWING_SAMPLES];
+    uint64_t (*check[2])(const uint8_t *, size_t, const uint8_t *, size_t) = {mortarsedge_logs, sim_logs};
+    printf("nanoseconds for two logs of %d records, best and median of %d\n", MORTARSEDGE_MAX_LOG_RECORDS, GROWING_SAMPLES);
+    printf("%-15s %10s %10s %10s %10s\n", "", "library", "", "in C", "");
+    for (int i = 0; i < 2; i++) {
+        struct result r[2];
+        for (uint32_t k = 0; k < MORTARSEDGE_MAX_LOG_RECORDS; k++) {
+            uint16_t level[MORTARSEDGE_LEVELS] = {(uint16_t)k, 1, 2, (uint16_t)(65535 - k)};
+            mortarsedge_put_log_record(log + MORTARSEDGE_LOG_RECORD * k, (uint16_t)(1 + k * steps[i] % 128), level);
+        }
+        for (int s = 0; s < 2; s++)
+            for (unsigned n = 0; n < GROWING_SAMPLES; n++) {
+                double start = now();
+                for (int calls = 0; calls < 20; calls++)
+                    if (check[s](log, sizeof log, log, sizeof log) != 0)
+                        return 1;
+                samples[s][n] = (now() - start) / 20;
+            }
+        for (int s = 0; s < 2; s++)
+            r[s] = summary(samples[s], GROWING_SAMPLES);
+        printf("%-15s %10.0f %10.0f %10.0f %10.0f\n", steps[i] == 0 ? "one channel" : "128 channels", r[0].best, r[0].median,
+               r[1].best, r[1].median);
+    }
+    return 0;
+}
+
 static int names(void)
 {
     const struct bench_case *c;
@@ -194,11 +227,13 @@ int main(int argc, char **argv)
         return one(argv[2], argv[3], argv[4]);
     if (argc == 2 && strcmp(argv[1], "--growing") == 0)
         return growing();
+    if (argc == 2 && strcmp(argv[1], "--logs") == 0)
+        return logs();
     if (argc == 2 && strcmp(argv[1], "--names") == 0)
         return names();
     long samples = argc == 2 ? strtol(argv[1], NULL, 10) : 21;
     if (argc > 2 || samples < 1 || samples > MAX_SAMPLES) {
-        fprintf(stderr, "usage: benchmark [SAMPLES] | --growing | --names | --one CASE library|simulator COUNT\n");
+        fprintf(stderr, "usage: benchmark [SAMPLES] | --growing | --logs | --names | --one CASE library|simulator COUNT\n");
         return 2;
     }
     return compare((unsigned)samples);

@@ -34,6 +34,14 @@ static void call_run(void)
     mortarsedge_run(desks, plan, plan_length, steps, steps_length, out, sizeof out);
 }
 
+static void call_logs(void)
+{
+    static uint8_t log[MORTARSEDGE_MAX_LOG];
+    for (size_t at = 0; at < sizeof log; at += MORTARSEDGE_LOG_RECORD)
+        log[at] = (uint8_t)(1 + at / MORTARSEDGE_LOG_RECORD % 128);
+    mortarsedge_logs(log, sizeof log, log, sizeof log);
+}
+
 /* Bytes of stack that a call changes, its own frame and the switch with it. */
 static size_t depth(void (*call)(void))
 {
@@ -90,7 +98,7 @@ static int within(const char *name, size_t measured, size_t promised)
 
 int main(int argc, char **argv)
 {
-    size_t check = 0, run = 0;
+    size_t check = 0, run = 0, logs = 0;
     if (argc != 3) {
         fprintf(stderr, "usage: stack SEED COUNT\n");
         return 2;
@@ -98,7 +106,9 @@ int main(int argc, char **argv)
     stack = guarded_new(STACK);
     over_generated(strtoull(argv[1], NULL, 10), strtoull(argv[2], NULL, 10), &check, &run);
     over_cases(&check, &run);
+    deepen(&logs, call_logs);
     int holds = within("plan check", check, MORTARSEDGE_PLAN_CHECK_STACK);
     holds &= within("run", run, MORTARSEDGE_RUN_STACK);
+    holds &= within("logs", logs, MORTARSEDGE_LOGS_STACK);
     return holds ? 0 : 1;
 }
