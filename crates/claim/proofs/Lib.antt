@@ -13,10 +13,17 @@ pub mod Moves
 pub mod Parents
 pub mod Overflows
 pub mod OldPlans
+pub mod OneMessage
+-- the two logs: the words that steps send and that letters have, a step, a list, how many, their bytes
 pub mod SentWords
+pub mod SentPostings
+pub mod PassingWords
+pub mod SentDeliveries
 pub mod Sent
 pub mod PassedFew
 pub mod LogBytes
 pub mod Logs
 pub mod OneMessage
 pub mod Commute
+-- .. and what the answers of the check mean
+pub mod Verdicts

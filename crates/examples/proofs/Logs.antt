@@ -1,7 +1,7 @@
 -- What is said of the two logs, used: a word that is under way after the steps, and one that passed directly before; at rest both logs are the same.
-use mathlib.Core.Path.{_≡_, refl, sym, _∙_}
+use mathlib.Core.Path.{_≡_, refl, _∙_}
 use mathlib.Core.Bool.{true}
-use mathlib.Core.List.{List, [], _∷_, _++_}
+use mathlib.Core.List.{[], _∷_}
 use native.Mathlib.Omega.{arith}
 use Rattle.plan.specs.declared.ChannelId.{ChannelId}
 use Rattle.plan.specs.declared.PlanAnswer.the-variants.{Accepted}
@@ -13,7 +13,7 @@ use Rattle.rules.specs.declared.log.LogsAnswer.the-variants.{Yes}
 use Rattle.rules.specs.Networks.{messages}
 use Rattle.rules.specs.Starts.{started}
 use Rattle.rules.specs.Steps.{quiescent, receivedOn}
-use Rattle.rules.specs.Logs.{letterWord, postedWord, leaving, sentBy, sentIn, wordsOn, sentOn, underWayOn, sentLog, receivedLog}
+use Rattle.rules.specs.Logs.{letterWord, wordsOn, sentOn, underWayOn, sentLog, receivedLog}
 use Rattle.rules.specs.LogFiles.{logsAnswer}
 use Rattle.rules.proofs.Evaluated.{evaluated}
 use Rattle.claim.specs.Statement.{from}

@@ -1,74 +1,36 @@
 -- The pass over the received log, record by record: where each channel stands in the sent log, and the lowest channel that does not agree.
 use mathlib.Core.Path.{_≡_, refl, sym, ap, _∙_}
-use mathlib.Core.Bool.{Bool, true, false, not, _&&_}
+use mathlib.Core.Bool.{Bool, true, false, not}
 use mathlib.Core.List.{List, [], _∷_, _++_, append-assoc, append-nil}
 use mathlib.Core.Logic.{_≢_, by-cases}
-use Prim.Native.Nat.{ℕ, zero, suc, _+_, _-_, _≤_, _<_}
+use Prim.Native.Nat.{ℕ, suc, _+_, _-_, _≤_, _<_}
 use native.Mathlib.Decide.{ℕ-discrete}
 use native.Mathlib.Omega.{arith}
-use lib.Dec.{eqb, ltb}
+use lib.Dec.{eqb}
 use lib.ListN.{length, getD, set, length-set}
 use lib.Seq.{getD-set-same, getD-set-other}
-use borrow.Author.Tests.{eqb-true, eq-eqb, ne-eqb, lt-ltb, le-ltb}
+use borrow.Author.Tests.{eq-eqb, ne-eqb}
 use Rattle.base.specs.Choice.{within}
 use Rattle.base.specs.Lists.{table}
 use Rattle.base.specs.Range.{fold, below, joined}
 use Rattle.base.proofs.Folds.{fold-more}
 use Rattle.base.proofs.Tables.{getD-table, length-table}
-use Rattle.base.proofs.Tests.{and-right, below-none, below-more, below-fails, tests-differ, within-low, within-high}
+use Rattle.base.proofs.Tests.{and-right, below-more, below-fails, tests-differ, within-low, within-high}
 use Rattle.plan.specs.declared.ChannelId.{ChannelId}
 use Rattle.plan.specs.declared.Word.{Word}
 use Rattle.plan.specs.Numbers.{channelId}
-use Rattle.rules.specs.declared.log.LogsAnswer.{LogsAnswer}
 use Rattle.rules.specs.declared.log.LogsAnswer.the-variants.{BadRecord}
-use Rattle.rules.specs.LogFiles.{recordChannel, recordWord, recordsIn, loggedOn, logChannelsOk, sameWord, begins, lowestFailing, verdictOf}
+use Rattle.rules.specs.LogFiles.{recordChannel, recordWord, recordsIn, loggedOn, logChannelsOk, sameWord, begins, verdictOf}
 use Rattle.rules_laws.proofs.Logs.{same-word, begins-behind, begins-nothing, begins-word, begins-no-word, begins-no-more, Lowest, lowest-is, lowest-only}
-use Rattle.logs.specs.Places.{placeFrom, wordAt, wordsFrom, placeBehind, nextOf}
+use Rattle.logs.specs.Places.{wordAt, wordsFrom, placeBehind, nextOf}
 use Rattle.logs.specs.Following.{matchesAt, lowerOf, followedAnswer}
+use Rattle.logs.proofs.Lowering.{lowest-same, lowest-lower}
 use Rattle.logs.proofs.Places.{place-few, words-none, Found, found, words-split}
 
 -- a test holds, or it fails
 either : {C : Type 0} (b : Bool) → (b ≡ true → C) → (b ≡ false → C) → C
 either true f g = f refl
 either false f g = g refl
-
--- the lowest channel, where one channel more fails, and where none changes
-module _ (n : ℕ) (old then : ChannelId → Bool) (k : ℕ) (lowest : Lowest n old k) where
-  lowest-same : ((c : ℕ) → 1 ≤ c → c ≤ n → then (channelId c) ≡ old (channelId c)) → Lowest n then k
-  lowest-same same =
-      record {
-        holds = λ c l u h. same c l u ∙ lowest .holds c l u h;
-        few = lowest .few;
-        fails = λ l. same k l (lowest .few) ∙ lowest .fails l;
-      }
-
-  lowest-lower : (c : ℕ) → 1 ≤ c → c ≤ n → then (channelId c) ≡ false
-      → ((d : ℕ) → 1 ≤ d → d ≤ n → d ≢ c → then (channelId d) ≡ old (channelId d)) → Lowest n then (lowerOf k c)
-  unfolding lowerOf
-  lowest-lower c low high differs same =
-      by-cases
-      (ℕ-discrete k 0)
-      (λ (e : k ≡ 0). rw (eq-eqb k 0 e)
-      (record {
-        holds = λ d l u h. same d l u (λ z. omega (arith, h low)) ∙ lowest .holds d l u (λ z. absurd (omega arith));
-        few = high;
-        fails = λ l. differs;
-      }))
-      (λ ne. rw (ne-eqb k 0 ne)
-      (by-cases
-      (ℕ-discrete (k - c) 0)
-      (λ (e : k - c ≡ 0). rw (le-ltb c k (omega arith))
-      (record {
-        holds = λ d l u h. same d l u (λ z. omega (arith, h (omega arith))) ∙ lowest .holds d l u h;
-        few = lowest .few;
-        fails = λ l. by-cases (ℕ-discrete k c) (λ (q : k ≡ c). rw q differs) (λ q. same k l (lowest .few) q ∙ lowest .fails l);
-      }))
-      (λ z. rw (lt-ltb c k (omega arith))
-      (record {
-        holds = λ d l u h. same d l u (λ q. omega (arith, h low)) ∙ lowest .holds d l u (λ q. omega (arith, h low));
-        few = high;
-        fails = λ l. differs;
-      }))))
 
 module _ (s e : List ℕ) where
   -- the words received on channel c in the first k records; they are a beginning of those sent

@@ -14,7 +14,6 @@ use Rattle.base.specs.Lists.{table}
 use Rattle.base.proofs.Tables.{all-same, getD-table, table-same, set-table}
 use Rattle.base.proofs.Tests.{below-all, below-fails, and-right, tests-differ, within-high}
 use Rattle.rules.specs.LogFiles.{recordChannel, recordsIn, logLengthOk, logChannelsOk}
-use Rattle.logs.specs.declared.links.Links.{Links}
 use Rattle.logs.specs.Places.{placeFrom, placeBehind, nextOf, Linked}
 
 -- the places behind those records, in a table of all

@@ -8,7 +8,6 @@ use native.Mathlib.Nat.{add-zero}
 use native.Mathlib.Omega.{arith}
 use borrow.Author.Tests.{eq-eqb, ne-eqb}
 use Rattle.base.specs.Range.{fold, joined}
-use Rattle.plan.specs.declared.Word.{Word}
 use Rattle.rules.specs.LogFiles.{recordChannel, recordWord}
 use Rattle.logs.specs.Places.{placeFrom, wordAt, wordsFrom}
 
