@@ -22,6 +22,7 @@ pub mod SentDeliveries
 pub mod Sent
 pub mod PassedFew
 pub mod LogBytes
+pub mod LogFits
 pub mod Logs
 pub mod OneMessage
 pub mod Commute

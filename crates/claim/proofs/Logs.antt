@@ -10,7 +10,7 @@ use Rattle.base.specs.Beginnings.{Beginning}
 use Rattle.base.specs.Choice.{within}
 use Rattle.base.specs.Lists.{every}
 use Rattle.base.proofs.Sums.{sum-le}
-use Rattle.base.proofs.Tests.{and-both, is-true, within-low, within-high}
+use Rattle.base.proofs.Tests.{and-both, every-append, is-true, within-low, within-high}
 use Rattle.plan.specs.declared.ChannelId.{ChannelId}
 use Rattle.plan.specs.declared.Plan.{Plan}
 use Rattle.plan.specs.declared.PlanAnswer.the-variants.{Accepted}
@@ -29,6 +29,9 @@ use Rattle.rules.specs.Steps.{quiescent, wordOn, receivedOn}
 use Rattle.rules.specs.Logs.{sentIn, receivedIn, wordsOn, sentOn, underWayOn, sentLog, receivedLog}
 use Rattle.rules.specs.LogFiles.{loggedOn, logLengthOk, logChannelsOk, channelAgrees, lowestFailing, logsAnswer}
 use Rattle.rules_laws.proofs.Logs.{is-begins, lowest-is, lowest-only}
+use Rattle.rules_sound.specs.Words.{GoodHistory}
+use Rattle.rules_sound.proofs.Words.Fits.{wordFits, plan-keeps}
+use Rattle.rules_sound.proofs.Words.Steps.{words-good}
 use Rattle.transitions.specs.Readings.{Reading, reading}
 use Rattle.invariant.proofs.Next.{Kept}
 use Rattle.invariant.proofs.StartViews.{read-started}
@@ -40,6 +43,8 @@ use Rattle.claim.proofs.SentWords.{received-words, under-way-words}
 use Rattle.claim.proofs.SentDeliveries.{few-under-way}
 use Rattle.claim.proofs.Sent.{sent-steps}
 use Rattle.claim.proofs.PassedFew.{passed-few, passed-none}
+use Rattle.claim.proofs.OldPlans.{received-good}
+use Rattle.claim.proofs.LogFits.{under-way-good, log-bytes}
 use Rattle.claim.proofs.LogBytes.{channelThere, wordCount, count-tally, logged-words, log-there, log-short}
 
 -- two lists that are empty together
@@ -139,6 +144,18 @@ module _ (n : ℕ) (p : Plan) (ss : List Step) (some : 1 ≤ n) (few : n ≤ 6) 
       omega (arith, ap length (beginning c .whole), length-append (wordsOn c (receivedIn start ss)) (beginning c .rest))) in
       omega (arith, count-tally (receivedIn start ss) received-there, fewer, count-tally (sentIn start ss) sent-there, sent-few)
 
+  -- each word fits
+  good : GoodHistory wordFits (from n p ss)
+  good = words-good n p ss some few a (plan-keeps (programs p) a)
+
+  received-fits : (c : ChannelId) → every wordFits (receivedOn c (from n p ss .reports)) ≡ true
+  received-fits c = received-good wordFits c (from n p ss .reports) (good .reports)
+
+  sent-fits : (c : ChannelId) → every wordFits (sentOn c start ss) ≡ true
+  sent-fits c =
+      ap (every wordFits) (sent c) ∙ every-append wordFits (receivedOn c (from n p ss .reports)) (underWayOn c (messages (end .network)))
+      ∙ and-both _ _ (received-fits c) (under-way-good wordFits c end (good .system))
+
   agree : LogsAgree n p ss
   agree =
       record {
@@ -147,6 +164,8 @@ module _ (n : ℕ) (p : Plan) (ss : List Step) (some : 1 ≤ n) (few : n ≤ 6) 
         at-rest = at-rest;
         sent-log = λ c. logged-words c (sentIn start ss);
         received-log = λ c. logged-words c (receivedIn start ss) ∙ received-is c;
+        sent-bytes = log-bytes (sentIn start ss) sent-there sent-fits;
+        received-bytes = log-bytes (receivedIn start ss) received-there (λ c. ap (every wordFits) (received-is c) ∙ received-fits c);
         passes =
             passes (sentLog start ss) (receivedLog start ss) (log-short (sentIn start ss) sent-few) (log-short (receivedIn start ss) received-few)
             (log-there (sentIn start ss) sent-there) (log-there (receivedIn start ss) received-there)

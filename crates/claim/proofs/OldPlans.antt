@@ -46,7 +46,7 @@ module _ (good : WordOf → Bool) (c : ChannelId) where
   word-good (Word e w) h =
       pick-either (λ (ws : List WordOf). every good ws ≡ true) (sameChannel e c) (w ∷ []) [] (rw (and-right (leb (e .0) 128) (good w) h) refl) refl
 
-  received-good : (qs : List Report) → every (reportGood good) qs ≡ true → every good (receivedOn c qs) ≡ true
+  pub received-good : (qs : List Report) → every (reportGood good) qs ≡ true → every good (receivedOn c qs) ≡ true
   unfolding receivedOn every
   received-good [] h = refl
   received-good (q ∷ qs) h =

@@ -1,11 +1,13 @@
 -- The two logs of a run, held against each other: "Both logs, taken after the same step of a run from an accepted plan's start, always pass."; and
 -- what the check's answers mean. Said of the definitions of `rules` and of the statement alone.
 use mathlib.Core.Path.{_≡_}
-use mathlib.Core.Bool.{true}
+use mathlib.Core.Bool.{Bool, true}
 use mathlib.Core.List.{List, _++_}
 use Prim.Native.Nat.{ℕ, _≤_, _<_}
+use lib.Dec.{ltb}
 use lib.ListN.{length}
 use Rattle.base.specs.Beginnings.{Beginning}
+use Rattle.base.specs.Lists.{every}
 use Rattle.plan.specs.declared.ChannelId.{ChannelId}
 use Rattle.plan.specs.declared.Plan.{Plan}
 use Rattle.plan.specs.declared.PlanAnswer.the-variants.{Accepted}
@@ -20,6 +22,10 @@ use Rattle.rules.specs.Logs.{sentOn, underWayOn, sentLog, receivedLog}
 use Rattle.rules.specs.LogFiles.{loggedOn, logsAnswer}
 use Rattle.claim.specs.Statement.{from}
 
+-- a file is a list of these
+abbrev pub isByte : ℕ → Bool
+isByte n = ltb n 256
+
 -- after the list ss
 pub record LogsAgree (n : ℕ) (p : Plan) (ss : List Step) : Type 0 where
   -- a channel's sent words are its received ones and then the word of its word letter in the mail, if there is one
@@ -30,6 +36,8 @@ pub record LogsAgree (n : ℕ) (p : Plan) (ss : List Step) : Type 0 where
   -- the logs hold just these words
   pub sent-log : (c : ChannelId) → loggedOn c (sentLog (started n p) ss) ≡ sentOn c (started n p) ss
   pub received-log : (c : ChannelId) → loggedOn c (receivedLog (started n p) ss) ≡ receivedOn c (from n p ss .reports)
+  pub sent-bytes : every isByte (sentLog (started n p) ss) ≡ true
+  pub received-bytes : every isByte (receivedLog (started n p) ss) ≡ true
   -- as files they pass, and so are not refused: no log of a run has more than 4,096 records, or a channel that there is not
   pub passes : logsAnswer (sentLog (started n p) ss) (receivedLog (started n p) ss) ≡ Yes
 

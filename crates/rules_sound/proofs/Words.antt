@@ -5,3 +5,5 @@ pub mod Systems
 mod Runs
 mod Deliveries
 pub mod Steps
+-- levels of 16 bits are such a property
+pub mod Fits

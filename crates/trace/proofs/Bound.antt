@@ -36,7 +36,7 @@ use Rattle.rules_sound.proofs.Starts.{started-ok}
 use Rattle.rules_sound.proofs.Words.Steps.{words-good}
 use Rattle.trace.specs.Bounds.{longestTrace}
 use Rattle.trace.proofs.Lengths.{overs-short, end-short}
-use Rattle.trace.proofs.Words.{plan-keeps}
+use Rattle.rules_sound.proofs.Words.Fits.{plan-keeps}
 use Rattle.trace.proofs.Steps.{steps-short}
 use Rattle.trace.proofs.Texts.{text-append, text-more}
 

@@ -29,7 +29,7 @@ use Rattle.rules.specs.StepFiles.{text}
 use Rattle.rules_sound.specs.Words.{receivedGood}
 use Rattle.trace.proofs.Decimals.{few-digits}
 use Rattle.trace.proofs.Lines.{over-length}
-use Rattle.trace.proofs.Words.{wordFits, fits}
+use Rattle.rules_sound.proofs.Words.Fits.{wordFits, fits}
 use Rattle.trace.proofs.Texts.{text-append}
 
 -- fields behind one of at most d digits

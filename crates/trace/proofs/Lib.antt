@@ -3,10 +3,9 @@ pub mod Lines
 pub mod Emitting
 pub mod Filling
 pub mod Putting
--- How long a trace is: decimals and lines; the words of a run are four numbers of 16 bits; the bound. A step file that grows, and refused steps left out.
+-- How long a trace is: decimals and lines; the bound. A step file that grows, and refused steps left out.
 pub mod Decimals
 pub mod Texts
-pub mod Words
 pub mod Lengths
 mod Steps
 pub mod Bound

@@ -14,7 +14,7 @@ use Rattle.rules.specs.Trace.{stepLine, stepLines}
 use Rattle.rules.specs.StepFiles.{text}
 use Rattle.rules_laws.proofs.Steps.{step-cases}
 use Rattle.rules_sound.specs.Words.{reportGood}
-use Rattle.trace.proofs.Words.{wordFits}
+use Rattle.rules_sound.proofs.Words.Fits.{wordFits}
 use Rattle.trace.proofs.Lengths.{reportText, refused-short, accepted-short, line-short}
 
 report-short : (r : System) (s : Step) → reportGood wordFits (step r s .report) ≡ true → length (reportText (step r s .report)) ≤ 31
