@@ -13,7 +13,6 @@ pub mod Moves
 pub mod Parents
 pub mod Overflows
 pub mod OldPlans
-pub mod OneMessage
 -- the two logs: the words that steps send and that letters have, a step, a list, how many, their bytes
 pub mod SentWords
 pub mod SentPostings
@@ -24,7 +23,9 @@ pub mod PassedFew
 pub mod LogBytes
 pub mod LogFits
 pub mod Logs
-pub mod OneMessage
-pub mod Commute
 -- .. and what the answers of the check mean
 pub mod Verdicts
+-- at most one call or word letter of a channel
+pub mod OneMessage
+-- runs at different desks
+pub mod Commute

@@ -1,5 +1,5 @@
--- Demand 3: the statement, what else holds of moves, of parents, of marks, of plans on one level and of the two logs, and what a corollary is
--- stated with.
+-- Demand 3: the statement, what else holds of moves, of parents, of marks, of plans on one level, of runs at different desks and of the two logs, and
+-- what a corollary is stated with.
 pub mod Statement
 pub mod Moves
 pub mod Parents

@@ -59,7 +59,7 @@ module _ (r q : System) (rs : Shaped r) (qs : Shaped q) (a : Alike everything r 
       rw (place i) at
       (sym (a .entries (processorId (i / 128 + 1)) (channelId (i % 128 + 1)) (omega arith) (omega arith) (omega arith) (omega arith) refl)) in
       let same : (part : Entry → ℕ) (of : Tables → List ℕ) → ((x : Tables) (i : ℕ) → part (readEntry x i) ≡ getD (of x) i 0)
-          → length (of (r .tables)) ≡ 768 → length (of (q .tables)) ≡ 768 → of (r .tables) ≡ of (q .tables) =
+      → length (of (r .tables)) ≡ 768 → length (of (q .tables)) ≡ 768 → of (r .tables) ≡ of (q .tables) =
       λ part of is l k. column 768 readEntry part of 0 is (r .tables) (q .tables) l k entries in
       let e₁ = same (λ e. e .hint .processor .0) (λ x. x .hintprocessors) (λ x i. refl) (rs .hintprocessors) (qs .hintprocessors) in
       let e₂ = same (λ e. e .hint .moves) (λ x. x .hintmoves) (λ x i. refl) (rs .hintmoves) (qs .hintmoves) in
@@ -74,8 +74,8 @@ module _ (r q : System) (rs : Shaped r) (qs : Shaped q) (a : Alike everything r 
       let channels : (i : ℕ) → i < 128 → readChannel (r .channels) i ≡ readChannel (q .channels) i =
       λ i l. rw (first i) at (sym (a .channels (channelId (suc i)) (omega arith) (omega arith) refl)) in
       let same : (A : Type 0) (none : A) (part : Channel → A) (of : Channels → List A)
-          → ((x : Channels) (i : ℕ) → part (readChannel x i) ≡ getD (of x) i none)
-          → length (of (r .channels)) ≡ 128 → length (of (q .channels)) ≡ 128 → of (r .channels) ≡ of (q .channels) =
+      → ((x : Channels) (i : ℕ) → part (readChannel x i) ≡ getD (of x) i none)
+      → length (of (r .channels)) ≡ 128 → length (of (q .channels)) ≡ 128 → of (r .channels) ≡ of (q .channels) =
       λ A none part of is l k. column 128 readChannel part of none is (r .channels) (q .channels) l k channels in
       let e₁ = same ℕ 0 (λ e. e .granted) (λ x. x .granted) (λ x i. refl) (rs .granted) (qs .granted) in
       let e₂ = same Bool false (λ e. e .awaiting) (λ x. x .awaiting) (λ x i. refl) (rs .awaiting) (qs .awaiting) in
@@ -99,7 +99,7 @@ module _ (r q : System) (rs : Shaped r) (qs : Shaped q) (a : Alike everything r 
       let entries : (i : ℕ) → i < 384 → readParent (r .parents) i ≡ readParent (q .parents) i =
       λ i l. rw (parent-place i) at (sym (a .parents (processorId (i / 64 + 1)) (taskId (i % 64 + 1)) (omega arith) (omega arith) (omega arith) refl)) in
       let same : (part : ParentEntry → ℕ) (of : Parents → List ℕ) → ((x : Parents) (i : ℕ) → part (readParent x i) ≡ getD (of x) i 0)
-          → length (of (r .parents)) ≡ 384 → length (of (q .parents)) ≡ 384 → of (r .parents) ≡ of (q .parents) =
+      → length (of (r .parents)) ≡ 384 → length (of (q .parents)) ≡ 384 → of (r .parents) ≡ of (q .parents) =
       λ part of is l k. column 384 readParent part of 0 is (r .parents) (q .parents) l k entries in
       let e₁ = same (λ e. e .hint .processor .0) (λ x. x .hintprocessors) (λ x i. refl) (rs .parentprocessors) (qs .parentprocessors) in
       let e₂ = same (λ e. e .hint .moves) (λ x. x .hintmoves) (λ x i. refl) (rs .parentmoves) (qs .parentmoves) in
