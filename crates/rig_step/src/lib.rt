@@ -1,12 +1,14 @@
 // One step of any rig: 9 is tested, the rig is packed, the step is decided and carried out as a run of one step.
 
 // A rig put on a board, and back.
-mod pack;
+pub mod pack;
 // The run of one step.
 mod turn;
 
 ghost use mathlib.Core.Path.{_≡_};
+ghost use Rattle.rules.specs.Sound.{systemOk};
 ghost use Rattle.rules.specs.Steps.{step, refused};
+ghost use Rattle.rules_laws.specs.Shapes.{Shaped};
 use rig_parts::kept::Kept;
 use rules::rule::Received;
 use rules::step::Report;
@@ -31,11 +33,18 @@ fn refused(r: System, a: StepAnswer) -> Stepped
     }
 }
 
+// Whether 9 does not refuse a rig; a rig's arrays have their sizes.
+pub fn passes(r: System) -> bool
+    ensures { λ b. ⌜ (b ≡ systemOk r) × (Shaped r) ⌝ }
+{
+    rig_check::system::system_ok(r)
+}
+
 // 9 first, then as the paper orders. The rig is taken apart, and put together again.
 pub fn step(r: System, s: Step) -> Stepped
     ensures { λ q. ⌜ q ≡ step r s ⌝ }
 {
-    if !rig_check::system::system_ok(r) {
+    if !passes(r) {
         return refused(r, StepAnswer::BadSystem);
     }
     let plan = r.plan;

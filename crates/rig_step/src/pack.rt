@@ -16,6 +16,7 @@ use board::task_at;
 use plan::ChannelId;
 use plan::ProcessorId;
 use plan::TaskId;
+use rig_parts::kept::Kept;
 use rules::channel::Channel;
 use rules::channel::Hint;
 use rules::channel::Offer;
@@ -78,7 +79,7 @@ fn put_sets(board: &mut Board, ready: [u64; 6])
 }
 
 // The board's tasks become these.
-pub fn put_tasks(board: &mut Board, tasks: TaskTable)
+fn put_tasks(board: &mut Board, tasks: TaskTable)
     requires { ⌜ Whole (now board) ⌝ }
     ensures { λ r. ⌜ (Whole (now (board .exit))) × (tasksOn (now (board .exit)) ≡ tasks) × (channelsOn (now (board .exit)) ≡ channelsOn (now (board .entry))) ⌝ }
 {
@@ -89,7 +90,7 @@ pub fn put_tasks(board: &mut Board, tasks: TaskTable)
 }
 
 // The board's channels become these.
-pub fn put_channels(board: &mut Board, channels: Channels)
+fn put_channels(board: &mut Board, channels: Channels)
     requires { ⌜ Whole (now board) ⌝ }
     ensures { λ r. ⌜ (Whole (now (board .exit))) × (channelsOn (now (board .exit)) ≡ channels) × (tasksOn (now (board .exit)) ≡ tasksOn (now (board .entry))) ⌝ }
 {
@@ -213,7 +214,7 @@ fn task_after(k: u16) -> TaskId
 }
 
 // What desks keep for parents on the board becomes this.
-pub fn put_parents(board: &mut Board, parents: Parents)
+fn put_parents(board: &mut Board, parents: Parents)
     requires { ⌜ Whole (now board) ⌝ }
     ensures { λ r. ⌜ (Whole (now (board .exit))) × (parentsOn (now (board .exit)) ≡ parents) × (tasksOn (now (board .exit)) ≡ tasksOn (now (board .entry)))
         × (channelsOn (now (board .exit)) ≡ channelsOn (now (board .entry))) ⌝ }
@@ -249,4 +250,18 @@ pub fn parents_on(board: &Board) -> Parents
         hintmoves: hintmoves,
         held: held,
     }
+}
+
+// The parts of a rig are put on the board.
+pub fn put_rig(board: &mut Board, tasks: TaskTable, kept: Kept)
+    requires { ⌜ Whole (now board) ⌝ }
+    ensures { λ r. ⌜ (Whole (now (board .exit))) × (tasksOn (now (board .exit)) ≡ tasks) × (channelsOn (now (board .exit)) ≡ kept .store .channels)
+        × (parentsOn (now (board .exit)) ≡ kept .parents) ⌝ }
+{
+    put_tasks(board, tasks);
+    let store = kept.store;
+    let channels = store.channels;
+    put_channels(board, channels);
+    let family = kept.parents;
+    put_parents(board, family);
 }

@@ -1,0 +1,1 @@
+-- The laws of a panel on what is lent.

@@ -1,0 +1,2 @@
+-- What the counting of a panel is stated with.
+pub mod Counted
