@@ -23,8 +23,7 @@ static void lay_out_tasks(struct sim_rig *rig, const uint8_t *plan, const struct
     memset(rig->task, 0, (rig->tasks + 1) * sizeof rig->task[0]);
     memset(rig->parent, 0, (rig->tasks + 1) * sizeof rig->parent[0]);
     for (uint32_t t = 1; t <= rig->tasks; t++) {
-        rig->first[t] = (uint16_t)place;
-        rig->task[t].place = rig->first[t];
+        rig->task[t].place = (uint16_t)place;
         rig->task[t].parent = users->creator[t];
         place += sim_u16(plan + 4 * t + 2);
     }
@@ -61,7 +60,6 @@ uint32_t sim_start(struct sim_rig *rig, uint32_t desks, const uint8_t *plan, siz
     rig->desks = desks;
     rig->tasks = sim_u16(plan);
     rig->letters = 0;
-    memset(rig->chosen, 0, sizeof rig->chosen);
     read_code(rig, plan + 4 + 4 * rig->tasks, sim_u16(plan + 2));
     lay_out_tasks(rig, plan, &users);
     link_channels(rig, &users);

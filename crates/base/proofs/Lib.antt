@@ -14,4 +14,3 @@ pub mod Maps
 pub mod Pairs
 pub mod Scans
 pub mod Sets
-pub mod SetsOf

@@ -23,11 +23,9 @@ fn own(what: &[u8], mut r: System, k: usize, desk: u8, moves: u16, number: u8)
     requires { ⌜ k < 64 ⌝ }
 {
     let h = pointer(desk, moves);
-    let mut tasks = r.tasks;
-    let mut x = tasks.records[k];
+    let mut x = r.tasks[k];
     x.origin = h;
-    tasks.records[k] = x;
-    r.tasks = tasks;
+    r.tasks[k] = x;
     let a = take_step(r, 1, 2, 0);
     say(what, a.number == number);
 }

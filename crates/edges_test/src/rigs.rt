@@ -33,11 +33,9 @@ fn single_finish() -> Plan {
 
 // The rig with this move count of task 1.
 fn with_moves(mut r: System, moves: u16) -> System {
-    let mut tasks = r.tasks;
-    let mut first = tasks.records[0];
+    let mut first = r.tasks[0];
     first.moves = moves;
-    tasks.records[0] = first;
-    r.tasks = tasks;
+    r.tasks[0] = first;
     r
 }
 
@@ -58,8 +56,7 @@ pub fn take_step(r: System, kind: u8, task: u8, number: u16) -> After {
     let report = q.report;
     let answer = report.answer;
     let system = q.system;
-    let tasks = system.tasks;
-    let first = tasks.records[0];
+    let first = system.tasks[0];
     After {
         number: trace::answer_number(answer),
         moves: first.moves,
@@ -112,11 +109,9 @@ fn creating() -> Plan {
 
 // The rig with a mark on task 2.
 fn with_mark(mut r: System) -> System {
-    let mut tasks = r.tasks;
-    let mut second = tasks.records[1];
+    let mut second = r.tasks[1];
     second.overflow = true;
-    tasks.records[1] = second;
-    r.tasks = tasks;
+    r.tasks[1] = second;
     r
 }
 

@@ -2,8 +2,7 @@
 pub mod Edges
 -- Each run has its trace.
 pub mod Scenes
--- What demand 3 says of two runs, that its test of letters tells rigs apart, and what is said of moves, of marks, of plans on level 0, of runs at
--- different desks, of logs, of dispatchers, of tablets and of plans with repeats.
+-- What demand 3 says of two runs, that its test of letters tells rigs apart, and what is said of moves, of marks, of plans on level 0 and of logs.
 pub mod Demand3
 pub mod Bound
 pub mod Suppositions
@@ -12,6 +11,3 @@ pub mod Overflows
 pub mod OldPlans
 pub mod Commute
 pub mod Logs
-pub mod Dispatch
-pub mod Tablets
-pub mod Repeats

@@ -11,9 +11,3 @@ pub mod Overflows
 pub mod Commute
 -- Words that pass directly and by letters.
 pub mod Logs
--- Steps and calls, mixed.
-pub mod Dispatch
--- Plans that differ in an argument.
-pub mod Tablets
--- A plan with repeats.
-pub mod Repeats

@@ -2,12 +2,12 @@
 use crate::kept::Kept;
 use rules::message::Network;
 use rules::step::Report;
-use rules::system::TaskTable;
+use rules::task::Task;
 
 // What a step leaves: its report, and the parts of the rig then.
 pub struct Turn {
     pub report: Report,
-    pub tasks: TaskTable,
+    pub tasks: [Task; 64],
     pub network: Network,
     pub kept: Kept,
 }

@@ -1,14 +1,12 @@
 // One step of any rig: 9 is tested, the rig is packed, the step is decided and carried out as a run of one step.
 
 // A rig put on a board, and back.
-pub mod pack;
+mod pack;
 // The run of one step.
 mod turn;
 
 ghost use mathlib.Core.Path.{_≡_};
-ghost use Rattle.rules.specs.Sound.{systemOk};
 ghost use Rattle.rules.specs.Steps.{step, refused};
-ghost use Rattle.rules_laws.specs.Shapes.{Shaped};
 use rig_parts::kept::Kept;
 use rules::rule::Received;
 use rules::step::Report;
@@ -33,18 +31,11 @@ fn refused(r: System, a: StepAnswer) -> Stepped
     }
 }
 
-// Whether 9 does not refuse a rig; a rig's arrays have their sizes.
-pub fn passes(r: System) -> bool
-    ensures { λ b. ⌜ (b ≡ systemOk r) × (Shaped r) ⌝ }
-{
-    rig_check::system::system_ok(r)
-}
-
 // 9 first, then as the paper orders. The rig is taken apart, and put together again.
 pub fn step(r: System, s: Step) -> Stepped
     ensures { λ q. ⌜ q ≡ step r s ⌝ }
 {
-    if !passes(r) {
+    if !rig_check::system::system_ok(r) {
         return refused(r, StepAnswer::BadSystem);
     }
     let plan = r.plan;
@@ -90,7 +81,6 @@ pub fn step(r: System, s: Step) -> Stepped
     let now_tables = now_store.tables;
     let now_channels = now_store.channels;
     let now_parents = left.parents;
-    let chosen = r.chosen;
     let system = System {
         processors: processors,
         plan: plan,
@@ -99,7 +89,6 @@ pub fn step(r: System, s: Step) -> Stepped
         channels: now_channels,
         parents: now_parents,
         network: network,
-        chosen: chosen,
     };
     Stepped {
         report: report,

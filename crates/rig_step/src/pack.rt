@@ -3,27 +3,23 @@ ghost use mathlib.Core.Path.{_≡_};
 ghost use Prim.Native.Nat.{_<_, _/_, _%_, _+_};
 ghost use Rattle.plan.specs.Numbers.{taskId, processorId};
 ghost use Rattle.rules.specs.Systems.{readChannel, readParent};
-ghost use Rattle.board.specs.Lent.{Whole, recordsOn, readyOn, tasksOn, channelsOn, parentsOn};
+ghost use Rattle.board.specs.Lent.{Whole, tasksOn, channelsOn, parentsOn};
 use board::Board;
 use board::channel_at;
 use board::parent_at;
 use board::put_channel;
 use board::put_parent;
 use board::put_task;
-use board::ready::put_set;
-use board::ready::ready_at;
 use board::task_at;
 use plan::ChannelId;
 use plan::ProcessorId;
 use plan::TaskId;
-use rig_parts::kept::Kept;
 use rules::channel::Channel;
 use rules::channel::Hint;
 use rules::channel::Offer;
 use rules::system::Channels;
 use rules::system::ParentEntry;
 use rules::system::Parents;
-use rules::system::TaskTable;
 use rules::task::Task;
 
 // The entry of the channel after the first k.
@@ -49,48 +45,22 @@ fn channel_of(channels: Channels, k: usize) -> Channel
     }
 }
 
-// The records of the board's tasks become these.
-fn put_records(board: &mut Board, records: [Task; 64])
+// The board's tasks become these.
+pub fn put_tasks(board: &mut Board, tasks: [Task; 64])
     requires { ⌜ Whole (now board) ⌝ }
-    ensures { λ r. ⌜ (Whole (now (board .exit))) × (recordsOn (now (board .exit)) ≡ records) × (channelsOn (now (board .exit)) ≡ channelsOn (now (board .entry))) ⌝ }
+    ensures { λ r. ⌜ (Whole (now (board .exit))) × (tasksOn (now (board .exit)) ≡ tasks) × (channelsOn (now (board .exit)) ≡ channelsOn (now (board .entry))) ⌝ }
 {
     let mut k: u8 = 0;
     while k < 64 {
         let at = base::wide8(k);
-        let x = records[at];
+        let x = tasks[at];
         put_task(board, TaskId(k + 1), x);
         k += 1;
     }
 }
 
-// The board's sets of ready tasks become these.
-fn put_sets(board: &mut Board, ready: [u64; 6])
-    requires { ⌜ Whole (now board) ⌝ }
-    ensures { λ r. ⌜ (Whole (now (board .exit))) × (readyOn (now (board .exit)) ≡ ready) × (recordsOn (now (board .exit)) ≡ recordsOn (now (board .entry)))
-        × (channelsOn (now (board .exit)) ≡ channelsOn (now (board .entry))) ⌝ }
-{
-    let mut k: u8 = 0;
-    while k < 6 {
-        let at = base::wide8(k);
-        let s = ready[at];
-        put_set(board, ProcessorId(k + 1), s);
-        k += 1;
-    }
-}
-
-// The board's tasks become these.
-fn put_tasks(board: &mut Board, tasks: TaskTable)
-    requires { ⌜ Whole (now board) ⌝ }
-    ensures { λ r. ⌜ (Whole (now (board .exit))) × (tasksOn (now (board .exit)) ≡ tasks) × (channelsOn (now (board .exit)) ≡ channelsOn (now (board .entry))) ⌝ }
-{
-    let records = tasks.records;
-    let ready = tasks.ready;
-    put_records(board, records);
-    put_sets(board, ready);
-}
-
 // The board's channels become these.
-fn put_channels(board: &mut Board, channels: Channels)
+pub fn put_channels(board: &mut Board, channels: Channels)
     requires { ⌜ Whole (now board) ⌝ }
     ensures { λ r. ⌜ (Whole (now (board .exit))) × (channelsOn (now (board .exit)) ≡ channels) × (tasksOn (now (board .exit)) ≡ tasksOn (now (board .entry))) ⌝ }
 {
@@ -102,47 +72,20 @@ fn put_channels(board: &mut Board, channels: Channels)
     }
 }
 
-// The records of the tasks of a board.
-fn records_on(board: &Board) -> [Task; 64]
-    ensures { λ r. ⌜ r ≡ recordsOn (now (board .entry)) ⌝ }
+// The tasks of a board.
+pub fn tasks_on(board: &Board) -> [Task; 64]
+    ensures { λ r. ⌜ r ≡ tasksOn (now (board .entry)) ⌝ }
 {
     let first = task_at(board, TaskId(1));
-    let mut records = [first; 64];
+    let mut tasks = [first; 64];
     let mut k: u8 = 0;
     while k < 64 {
         let x = task_at(board, TaskId(k + 1));
         let at = base::wide8(k);
-        records[at] = x;
+        tasks[at] = x;
         k += 1;
     }
-    records
-}
-
-// The sets of ready tasks of a board.
-fn sets_on(board: &Board) -> [u64; 6]
-    ensures { λ r. ⌜ r ≡ readyOn (now (board .entry)) ⌝ }
-{
-    let mut ready = [0u64; 6];
-    let mut k: u8 = 0;
-    while k < 6 {
-        let s = ready_at(board, ProcessorId(k + 1));
-        let at = base::wide8(k);
-        ready[at] = s;
-        k += 1;
-    }
-    ready
-}
-
-// The tasks of a board.
-pub fn tasks_on(board: &Board) -> TaskTable
-    ensures { λ r. ⌜ r ≡ tasksOn (now (board .entry)) ⌝ }
-{
-    let records = records_on(board);
-    let ready = sets_on(board);
-    TaskTable {
-        records: records,
-        ready: ready,
-    }
+    tasks
 }
 
 // The channels of a board.
@@ -214,7 +157,7 @@ fn task_after(k: u16) -> TaskId
 }
 
 // What desks keep for parents on the board becomes this.
-fn put_parents(board: &mut Board, parents: Parents)
+pub fn put_parents(board: &mut Board, parents: Parents)
     requires { ⌜ Whole (now board) ⌝ }
     ensures { λ r. ⌜ (Whole (now (board .exit))) × (parentsOn (now (board .exit)) ≡ parents) × (tasksOn (now (board .exit)) ≡ tasksOn (now (board .entry)))
         × (channelsOn (now (board .exit)) ≡ channelsOn (now (board .entry))) ⌝ }
@@ -250,18 +193,4 @@ pub fn parents_on(board: &Board) -> Parents
         hintmoves: hintmoves,
         held: held,
     }
-}
-
-// The parts of a rig are put on the board.
-pub fn put_rig(board: &mut Board, tasks: TaskTable, kept: Kept)
-    requires { ⌜ Whole (now board) ⌝ }
-    ensures { λ r. ⌜ (Whole (now (board .exit))) × (tasksOn (now (board .exit)) ≡ tasks) × (channelsOn (now (board .exit)) ≡ kept .store .channels)
-        × (parentsOn (now (board .exit)) ≡ kept .parents) ⌝ }
-{
-    put_tasks(board, tasks);
-    let store = kept.store;
-    let channels = store.channels;
-    put_channels(board, channels);
-    let family = kept.parents;
-    put_parents(board, family);
 }

@@ -9,7 +9,9 @@ ghost use Rattle.board.specs.Rigs.{factsIn};
 ghost use Rattle.rig_step.specs.Rigs.{RigWith, saidOf};
 use crate::pack::channels_on;
 use crate::pack::parents_on;
-use crate::pack::put_rig;
+use crate::pack::put_channels;
+use crate::pack::put_parents;
+use crate::pack::put_tasks;
 use crate::pack::tasks_on;
 use board::Board;
 use board::act::Size;
@@ -22,7 +24,7 @@ use rules::step::Report;
 use rules::step::Step;
 use rules::system::Store;
 use rules::system::Tables;
-use rules::system::TaskTable;
+use rules::task::Task;
 use run::all_steps::run_steps;
 use steps::message::message_decided;
 use steps::step_decided;
@@ -112,7 +114,7 @@ pub fn turn<'a>(
     receivers: &'a [u8; 129],
     parents: &'a [u8; 129],
     processors: u8,
-    tasks: TaskTable,
+    tasks: [Task; 64],
     network: Network,
     kept: Kept,
     s: Step,
@@ -125,9 +127,13 @@ pub fn turn<'a>(
 {
     let mut users = [0u8; 1024];
     build(senders, receivers, parents, &mut users);
-    let mut board = [0u64; 1094];
-    put_rig(&mut board, tasks, kept);
+    let mut board = [0u64; 1088];
+    put_tasks(&mut board, tasks);
     let store = kept.store;
+    let channels = store.channels;
+    put_channels(&mut board, channels);
+    let family = kept.parents;
+    put_parents(&mut board, family);
     let tables = store.tables;
     let mut hintprocessors = tables.hintprocessors;
     let mut hintmoves = tables.hintmoves;

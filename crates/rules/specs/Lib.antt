@@ -1,5 +1,5 @@
 -- What the paper says of the rig: first what it is made of and how it is read and changed, then start, run, deliver, move, refusal 9, steps,
--- the dispatcher, the panel, views of a task, trace and step file; whether a plan finishes; what is sent, and the logs.
+-- trace and step file, what is sent and the logs.
 pub mod Numbers
 pub mod Answers
 pub mod Hints
@@ -21,13 +21,7 @@ pub mod Deliver
 pub mod Moves
 pub mod Sound
 pub mod Steps
-pub mod Dispatch
-pub mod Panel
-pub mod Views
-pub mod Erasures
 pub mod Trace
 pub mod StepFiles
 pub mod Logs
 pub mod LogFiles
--- will this plan finish
-pub mod Finish

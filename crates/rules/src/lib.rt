@@ -4,8 +4,6 @@
 pub mod channel;
 // What two logs are answered.
 pub mod log;
-// What a call of a dispatcher gives.
-pub mod dispatch;
 // A letter, and the mail.
 pub mod message;
 // What a rule about one channel sees, leaves and posts.
@@ -16,5 +14,3 @@ pub mod step;
 pub mod system;
 // A task's record.
 pub mod task;
-// What tablets and the driver show of a task.
-pub mod view;

@@ -1,4 +1,2 @@
 -- Laws that the code's proofs cite.
 mod Bits
-mod Counting
-mod Finding

@@ -1,3 +1,0 @@
--- Laws that the code's proofs cite.
-mod Letters
-mod Turns

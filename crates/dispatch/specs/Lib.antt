@@ -1,2 +1,0 @@
--- What a turn of a call gives, in the code's record.
-pub mod Turns

@@ -1,2 +1,0 @@
--- What rules take and give back, without words.
-pub mod Erased

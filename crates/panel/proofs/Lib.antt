@@ -1,1 +1,0 @@
--- The laws of a panel on what is lent.

@@ -1,2 +1,0 @@
--- What the counting of a panel is stated with.
-pub mod Counted

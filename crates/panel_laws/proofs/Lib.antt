@@ -1,2 +1,0 @@
--- The laws of the counts of a list of steps.
-pub mod Tallies

@@ -1,2 +1,0 @@
--- What the laws of a panel are stated with.
-pub mod Tallies

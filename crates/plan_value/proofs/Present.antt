@@ -1,0 +1,18 @@
+-- The present edition's test of an instruction is the paper's.
+use mathlib.Core.Path.{_≡_, refl}
+use mathlib.Core.Logic.{by-cases}
+use Prim.Native.Nat.{ℕ, _<_}
+use native.Mathlib.Decide.{decLt}
+use native.Mathlib.Omega.{arith}
+use borrow.Author.Tests.{le-leb, lt-leb}
+use Rattle.plan.specs.declared.Instruction.{Instruction}
+use Rattle.plan.specs.Refusals.{instructionOk}
+use Rattle.plan_value.specs.Editions.{presentEdition, allowed}
+use Rattle.plan_value.proofs.ByKind.{ok-unknown}
+
+pub allowed-present : (n : ℕ) (x : Instruction) → allowed presentEdition n x ≡ instructionOk n x
+allowed-present n x =
+    by-cases
+    (decLt 7 (x .opcode))
+    (λ (h : 7 < x .opcode). rw (lt-leb (x .opcode) 7 h, ok-unknown n x (λ k p q e. omega arith)) refl)
+    (λ h. rw (le-leb (x .opcode) 7 (omega arith)) refl)

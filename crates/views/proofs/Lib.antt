@@ -1,2 +1,0 @@
--- When a view is refused, and when it is shown.
-pub mod Viewed
