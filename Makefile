@@ -19,7 +19,7 @@ ARCHIVE = target/staticlib/libdriver.a
 PROVED = crates.txt $(shell find crates -type f)
 HEADER = include/mortarsedge.h
 DRIVER = driver/driver.c driver/file.c driver/logs.c
-SIMULATOR = bench/simulator.c bench/sim_plan.c bench/sim_start.c bench/sim_step.c \
+SIMULATOR = bench/simulator.c bench/sim_plan.c bench/sim_start.c bench/sim_step.c bench/sim_call.c \
     bench/sim_run.c bench/sim_deliver.c bench/sim_move.c
 GENERATOR = bench/generate.c bench/damage.c bench/make_plan.c bench/make_steps.c bench/draft.c
 BENCHMARK = bench/benchmark.c bench/sim_logs.c bench/cases.c bench/make_plan.c bench/make_steps.c bench/draft.c
@@ -55,6 +55,9 @@ build/header_cxx%: driver/header_test.c $(HEADER) $(ARCHIVE) | build
 build/vectors: bench/vectors.c $(SIMULATOR) $(BENCH_HEADERS) | build
 	$(CCALL) -o $@ bench/vectors.c $(SIMULATOR)
 
+build/calls: bench/calls.c $(SIMULATOR) $(BENCH_HEADERS) | build
+	$(CCALL) -o $@ bench/calls.c $(SIMULATOR)
+
 build/old_plans: bench/old_plans.c $(HEADER) $(ARCHIVE) | build
 	$(CCALL) -o $@ bench/old_plans.c $(ARCHIVE)
 
@@ -72,12 +75,14 @@ build/stack: $(STACK) $(GENERATOR) $(SIMULATOR) $(BENCH_HEADERS) $(ARCHIVE) | bu
 
 HEADER_TESTS = build/header_c99 build/header_c11 build/header_cxx11
 
-ctest: build/driver $(HEADER_TESTS) build/vectors build/old_plans build/differential build/logs build/stack
+ctest: build/driver $(HEADER_TESTS) build/vectors build/old_plans build/differential build/logs build/stack build/calls
 	build/header_c99
 	build/header_c11
 	build/header_cxx11
 	driver/test.sh build/driver crates/trace_program/data
-	build/vectors crates/vectors_test/data/s108.bin crates/vectors_test/data/edges.bin
+	build/vectors crates/vectors_test/data/s103.bin crates/vectors_test/data/edges.bin
+	build/calls crates/vectors_test/data/calls.bin
+	scripts/replay_test.sh target/bin/dispatch_program target/bin/trace_program crates/trace_program/data/rig.plan crates/edges_test/data/over.plan
 	build/old_plans bench/data/one_level.bin
 	build/differential $(SEED) $(COUNT)
 	build/logs crates/logs_test/data/logs.bin $(SEED) 2000

@@ -57,7 +57,8 @@ static struct step_style any_step_style(struct random *r)
         .move = random_below(r, 6),
         .wild = random_chance(r, 50) ? 1 : 0,
         .led = random_from(r, 60, 100),
-        .oldest = random_chance(r, 50) ? 0 : random_below(r, 101)};
+        .oldest = random_chance(r, 50) ? 0 : random_below(r, 101),
+        .called = 20};
 }
 
 static void any_rig(struct random *r, struct generated *g, struct draft *d)

@@ -1,5 +1,7 @@
 #include "make_steps.h"
 
+#include <string.h>
+
 #include "../include/mortarsedge.h"
 #include "draft.h"
 
@@ -96,9 +98,35 @@ static void one_step(struct random *r, const struct step_style *style, const str
         blind_step(r, rig, kind, step);
 }
 
+/* What the dispatchers choose, called in turn or at random, mixed with some steps of the style. */
+static uint32_t called_steps(struct random *r, const struct step_style *style, struct sim_rig *rig,
+                             uint8_t *steps, uint32_t count)
+{
+    struct sim_received received;
+    struct sim_made made[2];
+    uint32_t filled = 0, number, d = 0;
+    bool in_turn = random_chance(r, 50);
+    for (uint32_t calls = 0; filled + 2 <= count && calls < 2 * count; calls++) {
+        if (!in_turn && random_chance(r, 20)) {
+            one_step(r, style, rig, steps + 4 * filled);
+            sim_step(rig, steps + 4 * filled++, &received);
+            continue;
+        }
+        d = in_turn ? d % rig->desks + 1 : random_from(r, 1, rig->desks);
+        sim_call(rig, d, made, &number);
+        for (uint32_t i = 0; i < number; i++)
+            memcpy(steps + 4 * filled++, made[i].step, 4);
+        if (sim_at_rest(rig) && random_chance(r, 70))
+            break;
+    }
+    return filled;
+}
+
 uint32_t make_steps(struct random *r, const struct step_style *style, struct sim_rig *rig,
                     uint8_t *steps, uint32_t count)
 {
+    if (random_chance(r, style->called))
+        return called_steps(r, style, rig, steps, count);
     struct sim_received received;
     for (uint32_t i = 0; i < count; i++) {
         one_step(r, style, rig, steps + 4 * i);

@@ -11,6 +11,7 @@ struct step_style {
     uint32_t led;                      /* of 100 steps, how many look at the rig */
     uint32_t oldest;                   /* of 100 deliveries, how many take the first letter */
     uint32_t hoard;                    /* no delivery while fewer letters are in the mail */
+    uint32_t called;                   /* of 100 step files, how many are what dispatchers choose */
 };
 
 /* A ready task, from a random one on; 0 if there is none. */

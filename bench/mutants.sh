@@ -8,7 +8,7 @@ set -u
 archive=target/staticlib/libdriver.a
 sources='bench/differential.c bench/tally.c bench/guarded.c bench/generate.c bench/damage.c
     bench/make_plan.c bench/make_steps.c bench/draft.c
-    bench/simulator.c bench/sim_plan.c bench/sim_start.c bench/sim_step.c
+    bench/simulator.c bench/sim_plan.c bench/sim_start.c bench/sim_step.c bench/sim_call.c
     bench/sim_run.c bench/sim_deliver.c bench/sim_move.c'
 missed=0
 tried=0

@@ -86,6 +86,7 @@ struct sim_rig {
     uint32_t desks;
     uint32_t tasks;
     uint32_t letters;
+    uint8_t chosen[MAX_DESKS + 1]; /* by desk: the task that its dispatcher chose last, 0 at first */
     struct sim_task task[MAX_TASKS + 1];
     struct sim_letter mail[MAX_MAIL + (MUTANT == 12 || MUTANT == 13 ? 64 : 0)];
     struct sim_parent parent[MAX_TASKS + 1][MAX_DESKS + 1]; /* by task and desk */
@@ -109,6 +110,19 @@ void sim_birth(struct sim_rig *rig, uint32_t t, uint8_t d, struct sim_pointer ow
 uint32_t sim_step(struct sim_rig *rig, const uint8_t *step, struct sim_received *received);
 
 bool sim_at_rest(const struct sim_rig *rig);
+
+/* A step that a dispatcher made. */
+struct sim_made {
+    uint8_t step[4];
+    uint32_t answer;
+    struct sim_received received;
+};
+
+/* A call of desk d's dispatcher: its answer, and the steps that it made, none, one or two. */
+uint32_t sim_call(struct sim_rig *rig, uint32_t d, struct sim_made made[2], uint32_t *count);
+
+/* The ready tasks of desk d. */
+uint64_t sim_ready(const struct sim_rig *rig, uint32_t d);
 
 static inline uint64_t sim_bit(uint32_t task)
 {

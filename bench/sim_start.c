@@ -60,6 +60,7 @@ uint32_t sim_start(struct sim_rig *rig, uint32_t desks, const uint8_t *plan, siz
     rig->desks = desks;
     rig->tasks = sim_u16(plan);
     rig->letters = 0;
+    memset(rig->chosen, 0, sizeof rig->chosen);
     read_code(rig, plan + 4 + 4 * rig->tasks, sim_u16(plan + 2));
     lay_out_tasks(rig, plan, &users);
     link_channels(rig, &users);

@@ -17,6 +17,10 @@ module _ {A : Type 0} where
   pick-under f true a b = refl
   pick-under f false a b = refl
 
+  pub unless-under : {B : Type 0} (f : A → B) (ok : Bool) (refusal rest : A) → unless ok (f refusal) (f rest) ≡ f (unless ok refusal rest)
+  unless-under f true refusal rest = refl
+  unless-under f false refusal rest = refl
+
   -- what is not the refusal has passed the test
   pub unless-not-refused : (ok : Bool) (refusal rest x : A) → refusal ≢ x → unless ok refusal rest ≡ x → (ok ≡ true) × (rest ≡ x)
   unless-not-refused true refusal rest x ne h = (refl, h)

@@ -14,3 +14,4 @@ pub mod Maps
 pub mod Pairs
 pub mod Scans
 pub mod Sets
+pub mod SetsOf

@@ -1,7 +1,7 @@
 -- Laws of sets in the bits of a number: a number that was put in is a member, one that was taken out is none, the others stay as they were,
 -- and a set of numbers up to m stays below 2 ^ m.
 use mathlib.Core.Path.{_≡_, refl, sym, _∙_, ap}
-use mathlib.Core.Bool.{true, false}
+use mathlib.Core.Bool.{Bool, true, false}
 use mathlib.Core.Logic.{_≢_, by-cases}
 use Prim.Native.Nat.{ℕ, zero, suc, _+_, _-_, _*_, _/_, _%_, _^_, _<_, _≤_}
 use native.Mathlib.Nat.{add-div-right, add-mul-div-right, zero-div, div-lt-iff-lt-mul, div-eq-of-lt}
@@ -187,11 +187,39 @@ pub none-member : (t : ℕ) → member t 0 ≡ false
 unfolding member
 none-member t = rw (zero-div (2 ^ (t - 1))) refl
 
-pub no-member : (m s : ℕ) → s < 2 ^ m → ((t : ℕ) → 1 ≤ t → t ≤ m → member t s ≡ false) → s ≡ 0
-no-member zero s l h = omega arith
-no-member (suc m) s l h =
+-- a set of 1 .. m + 1 that lacks the last is one of 1 .. m
+lacks-last : (m s : ℕ) → s < 2 ^ suc m → member (suc m) s ≡ false → s < 2 ^ m
+lacks-last m s l out =
     let e : suc m - 1 ≡ m = omega arith in
-    let b : bit m s ≡ 0 = rw e at (zero-bit (suc m) s (h (suc m) (omega arith) (omega arith))) in
+    let b : bit m s ≡ 0 = rw e at (zero-bit (suc m) s out) in
     let q : s / 2 ^ m < 2 = div-lt-iff-lt-mul (pow-pos m) .1 (omega arith) in
     let z : s < 1 * 2 ^ m = div-lt-iff-lt-mul (pow-pos m) .0 (omega arith) in
-    no-member m s (omega arith) (λ t p r. h t p (omega arith))
+    omega arith
+
+pub no-member : (m s : ℕ) → s < 2 ^ m → ((t : ℕ) → 1 ≤ t → t ≤ m → member t s ≡ false) → s ≡ 0
+no-member zero s l h = omega arith
+no-member (suc m) s l h = no-member m s (lacks-last m s l (h (suc m) (omega arith) (omega arith))) (λ t p r. h t p (omega arith))
+
+-- two sets with the same rest without t, and t in both or in none
+same-rest : (t s x : ℕ) → removed t s ≡ removed t x → member t s ≡ member t x → s ≡ x
+unfolding removed
+same-rest t s x e f = go (member t s) refl (member t x) refl
+  where
+    go : (b : Bool) → member t s ≡ b → (c : Bool) → member t x ≡ c → s ≡ x
+    go true p true q = let d : s - 2 ^ (t - 1) ≡ x - 2 ^ (t - 1) = rw (p, q) at e in sym (whole t s p) ∙ rw d (whole t x q)
+    go true p false q = absurd (tests-differ p (f ∙ q))
+    go false p true q = absurd (tests-differ (f ∙ q) p)
+    go false p false q = rw (p, q) at e
+
+-- two sets of 1 .. m with the same members
+pub same-members : (m s x : ℕ) → s < 2 ^ m → x < 2 ^ m → ((t : ℕ) → 1 ≤ t → t ≤ m → member t s ≡ member t x) → s ≡ x
+same-members zero s x l k h = omega arith
+same-members (suc m) s x l k h =
+    let rest : (y : ℕ) → y < 2 ^ suc m → removed (suc m) y < 2 ^ m =
+    λ y f. lacks-last m (removed (suc m) y) (omega (arith, removed-at-most (suc m) y)) (member-removed (suc m) y) in
+    let other : (y t : ℕ) → 1 ≤ t → t ≤ m → member t (removed (suc m) y) ≡ member t y =
+    λ y t p q. other-removed (suc m) y t (omega arith) p (λ z. omega arith) in
+    same-rest (suc m) s x
+    (same-members m (removed (suc m) s) (removed (suc m) x) (rest s l) (rest x k)
+    (λ t p q. other s t p q ∙ h t p (omega arith) ∙ sym (other x t p q)))
+    (h (suc m) (omega arith) (omega arith))

@@ -14,6 +14,16 @@ inserted t s = pick (member t s) s (s + 2 ^ (t - 1))
 unfoldable pub removed : ℕ → ℕ → ℕ
 removed t s = pick (member t s) (s - 2 ^ (t - 1)) s
 
+-- how many of 1 .. n are in the set
+unfoldable pub size : ℕ → ℕ → ℕ
+size zero s = 0
+size (suc n) s = size n s + pick (member (suc n) s) 1 0
+
+-- those of 1 .. n that p holds of
+unfoldable pub setOf : ℕ → (ℕ → Bool) → ℕ
+setOf zero p = 0
+setOf (suc n) p = pick (p (suc n)) (inserted (suc n) (setOf n p)) (setOf n p)
+
 -- the set s without those of 1 .. n that are in the set h
 unfoldable pub removedAll : ℕ → ℕ → ℕ → ℕ
 removedAll zero h s = s

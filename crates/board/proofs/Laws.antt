@@ -11,7 +11,7 @@ use Rattle.base.proofs.Tables.{getD-table, table-same, set-table}
 use Rattle.board.specs.packing.Packed.{taskOf, byte2, low16}
 use Rattle.rules.specs.declared.task.Task.{Task}
 use Rattle.rules.specs.Tasks.{noTask}
-use Rattle.board.specs.Lent.{channelColumn, taskOn, tasksOn, parentColumn, parentsOn}
+use Rattle.board.specs.Lent.{channelColumn, taskOn, recordsOn, setOn, readyOn, tasksOn, parentColumn, parentsOn}
 
 module _ {A : Type 0} (f : ℕ → A) (board : List ℕ) where
   pub getD-channel : (i : ℕ) (d : A) → i < 128 → getD (channelColumn f board) i d ≡ f (getD board i 0)
@@ -35,13 +35,13 @@ module _ {A : Type 0} (f : ℕ → A) (board : List ℕ) where
   keep-channel-above i w h = keep i w (λ j b (e : j ≡ i). omega arith)
 
 module _ (board : List ℕ) where
-  pub getD-task : (k : ℕ) (d : Task) → k < 64 → getD (tasksOn board) k d ≡ taskOn board k
-  unfolding tasksOn
+  pub getD-task : (k : ℕ) (d : Task) → k < 64 → getD (recordsOn board) k d ≡ taskOn board k
+  unfolding recordsOn
   getD-task k d h = getD-table 64 (taskOn board) k d h
 
-  tasks-beside : (i w : ℕ) → ((j : ℕ) → 128 ≤ j → j < 320 → j ≢ i) → tasksOn (set board i w) ≡ tasksOn board
-  unfolding tasksOn
-  tasks-beside i w other =
+  records-beside : (i w : ℕ) → ((j : ℕ) → 128 ≤ j → j < 320 → j ≢ i) → recordsOn (set board i w) ≡ recordsOn board
+  unfolding recordsOn
+  records-beside i w other =
       table-same 64 (taskOn (set board i w)) (taskOn board)
       (λ j b.
       rw (
@@ -51,11 +51,21 @@ module _ (board : List ℕ) where
       )
       refl)
 
-  pub keep-tasks : (i w : ℕ) → i < 128 → tasksOn (set board i w) ≡ tasksOn board
-  keep-tasks i w h = tasks-beside i w (λ j low high (e : j ≡ i). omega arith)
+  pub keep-records : (i w : ℕ) → 320 ≤ i → recordsOn (set board i w) ≡ recordsOn board
+  keep-records i w h = records-beside i w (λ j low high (e : j ≡ i). omega arith)
 
-  pub keep-tasks-above : (i w : ℕ) → 320 ≤ i → tasksOn (set board i w) ≡ tasksOn board
-  keep-tasks-above i w h = tasks-beside i w (λ j low high (e : j ≡ i). omega arith)
+  pub keep-ready : (i w : ℕ) → i < 1088 → readyOn (set board i w) ≡ readyOn board
+  unfolding readyOn
+  keep-ready i w h =
+      table-same 6 (setOn (set board i w)) (setOn board) (λ j b. getD-set-other board i (1088 + j) w 0 (λ (e : 1088 + j ≡ i). omega arith))
+
+  pub keep-tasks : (i w : ℕ) → i < 128 → tasksOn (set board i w) ≡ tasksOn board
+  unfolding tasksOn
+  keep-tasks i w h = rw (records-beside i w (λ j low high (e : j ≡ i). omega arith), keep-ready i w (omega arith)) refl
+
+  pub keep-tasks-above : (i w : ℕ) → 320 ≤ i → i < 1088 → tasksOn (set board i w) ≡ tasksOn board
+  unfolding tasksOn
+  keep-tasks-above i w h l = rw (keep-records i w h, keep-ready i w l) refl
 
 -- a column of what desks keep for parents, whose numbers are at start, start + 2, ..
 module _ (f : ℕ → ℕ) (start : ℕ) (board : List ℕ) where
@@ -78,18 +88,24 @@ module _ (f : ℕ → ℕ) (start : ℕ) (board : List ℕ) where
       table-same 384 (λ k. f (getD (set board i w) (start + 2 * k) 0)) (λ k. f (getD board (start + 2 * k) 0))
       (λ j b. ap f (getD-set-other board i (start + 2 * j) w 0 (other j b)))
 
-pub keep-parents : (board : List ℕ) (i w : ℕ) → i < 320 → parentsOn (set board i w) ≡ parentsOn board
+parents-beside : (board : List ℕ) (i w : ℕ) → ((j : ℕ) → 320 ≤ j → j < 1088 → j ≢ i) → parentsOn (set board i w) ≡ parentsOn board
 unfolding parentsOn
-keep-parents board i w h =
+parents-beside board i w other =
     rw (
-      keep-parent byte2 320 board i w (λ j b (e : 320 + 2 * j ≡ i). omega arith),
-      keep-parent low16 320 board i w (λ j b (e : 320 + 2 * j ≡ i). omega arith),
-      keep-parent (λ v. v) 321 board i w (λ j b (e : 321 + 2 * j ≡ i). omega arith),
+      keep-parent byte2 320 board i w (λ j b. other (320 + 2 * j) (omega arith) (omega arith)),
+      keep-parent low16 320 board i w (λ j b. other (320 + 2 * j) (omega arith) (omega arith)),
+      keep-parent (λ v. v) 321 board i w (λ j b. other (321 + 2 * j) (omega arith) (omega arith)),
     )
     refl
 
+pub keep-parents : (board : List ℕ) (i w : ℕ) → i < 320 → parentsOn (set board i w) ≡ parentsOn board
+keep-parents board i w h = parents-beside board i w (λ j low high (e : j ≡ i). omega arith)
+
+pub keep-parents-above : (board : List ℕ) (i w : ℕ) → 1088 ≤ i → parentsOn (set board i w) ≡ parentsOn board
+keep-parents-above board i w h = parents-beside board i w (λ j low high (e : j ≡ i). omega arith)
+
 -- the three numbers of task k + 1 are stored
-module _ (board : List ℕ) (k w c v : ℕ) (h : k < 64) (l : length board ≡ 1088) where
+module _ (board : List ℕ) (k w c v : ℕ) (h : k < 64) (l : length board ≡ 1094) where
   abbrev one : List ℕ
   one = set board (128 + 2 * k) w
 
@@ -99,7 +115,7 @@ module _ (board : List ℕ) (k w c v : ℕ) (h : k < 64) (l : length board ≡ 1
   abbrev three : List ℕ
   three = set two (256 + k) v
 
-  long : length two ≡ 1088
+  long : length two ≡ 1094
   long = simp (length-set, l)
 
   past : (i : ℕ) → i ≢ 128 + 2 * k → i ≢ 129 + 2 * k → i ≢ 256 + k → getD three i 0 ≡ getD board i 0
@@ -126,7 +142,7 @@ module _ (board : List ℕ) (k w c v : ℕ) (h : k < 64) (l : length board ≡ 1
       )
       refl
 
-  pub set-task : (x : Task) → taskOf w c v ≡ x → tasksOn three ≡ set (tasksOn board) k x
-  unfolding tasksOn
+  pub set-task : (x : Task) → taskOf w c v ≡ x → recordsOn three ≡ set (recordsOn board) k x
+  unfolding recordsOn
   set-task x e =
       sym (ap (λ (y : Task). set (table 64 (taskOn board)) k y) (sym e ∙ sym here) ∙ set-table 64 (taskOn board) (taskOn three) k noTask h other)

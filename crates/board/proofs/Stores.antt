@@ -25,11 +25,12 @@ use Rattle.rules.specs.Systems.{entryIndex, parentIndex, readChannel, writeChan
 use Rattle.rules.specs.Starts.{pointing}
 use Rattle.rig_parts.specs.Sweeps.{parentIn}
 use Rattle.board.specs.packing.Packed.{hintOf, hintWord, taskOf, taskWord, wordOf, wordNumber, firstNumber, stateOf, stateNumber, channelOf, channelWord, travellingWord, low16, byte2, byte3, byte4, byte5, mark6, bit}
-use Rattle.board.specs.Lent.{lent, channelColumn, channelsOn, tasksOn, parentColumn, parentsOn, storeOf, hintIn, heldIn, noteIn, SameAbove, ChannelPut, ParentPut, travels}
-use Rattle.board.proofs.Laws.{getD-channel, set-channel, keep-channel-above, getD-task, set-task, keep-tasks, keep-tasks-above, getD-parent, set-parent, keep-parent, keep-parents}
+use Rattle.board.specs.Lent.{lent, channelColumn, channelsOn, recordsOn, readyOn, tasksOn, parentColumn, parentsOn, storeOf, hintIn, heldIn, noteIn, SameAbove, ChannelPut, ParentPut, travels}
+use Rattle.board.proofs.Laws.{getD-channel, set-channel, keep-channel-above, getD-task, set-task, keep-ready, keep-tasks, keep-tasks-above, getD-parent, set-parent, keep-parent, keep-parents}
 
 pub task-read : (board : List ℕ) (n : ℕ) {m : ℕ} → m ≡ n → 1 ≤ n → n ≤ 64
-    → taskOf (getD board (126 + 2 * m) 0) (getD board (126 + 2 * m + 1) 0) (getD board (255 + m) 0) ≡ getD (tasksOn board) (n - 1) noTask
+    → taskOf (getD board (126 + 2 * m) 0) (getD board (126 + 2 * m + 1) 0) (getD board (255 + m) 0) ≡ getD (tasksOn board .records) (n - 1) noTask
+unfolding tasksOn
 task-read board n {m} e one most =
     let a : 126 + 2 * m ≡ 128 + 2 * (n - 1) = omega arith in
     let b : 126 + 2 * m + 1 ≡ 129 + 2 * (n - 1) = omega arith in
@@ -38,7 +39,7 @@ task-read board n {m} e one most =
 
 -- its word
 pub word-read : (board : List ℕ) (t : TaskId) {m : ℕ} → m ≡ t .0 → 1 ≤ t .0 → t .0 ≤ 64 → taskIn (tasksOn board) t .word ≡ wordOf (getD board (255 + m) 0)
-unfolding taskIn taskOf
+unfolding taskIn taskOf tasksOn
 word-read board t {m} e one most =
     let d : 255 + m ≡ 256 + (t .0 - 1) = omega arith in
     rw (ne-eqb (t .0) 0 (λ q. omega arith), getD-task board (t .0 - 1) noTask (omega arith), d) refl
@@ -91,7 +92,7 @@ bit-of-mark : (b : Bool) → eqb (bit b) 1 ≡ b
 bit-of-mark true = refl
 bit-of-mark false = refl
 
-same-task : (x : Task) → NarrowTask x → taskOf (taskWord x) (x .children) (wordNumber (x .word)) ≡ x
+pub same-task : (x : Task) → NarrowTask x → taskOf (taskWord x) (x .children) (wordNumber (x .word)) ≡ x
 unfolding taskOf
 same-task x n =
     rw (p0, p1, p2, p3, p4, p5, p6, state-of-number (x .state), bit-of-mark (x .overflow), same-word (x .word) (n .5)) refl
@@ -126,16 +127,22 @@ first-number v w s =
     let c = s .2 in
     omega arith
 
-module _ (board : List ℕ) (n : ℕ) (x : Task) {m w v : ℕ} (e : m ≡ n) (one : 1 ≤ n) (most : n ≤ 64) (long : length board ≡ 1088) (we : w ≡ taskWord x) (ve : v ≡ wordNumber (x .word)) (small : NarrowTask x) where
+module _ (board : List ℕ) (n : ℕ) (x : Task) {m w v : ℕ} (e : m ≡ n) (one : 1 ≤ n) (most : n ≤ 64) (long : length board ≡ 1094) (we : w ≡ taskWord x) (ve : v ≡ wordNumber (x .word)) (small : NarrowTask x) where
   abbrev after : List ℕ
   after = set (set (set board (126 + 2 * m) w) (126 + 2 * m + 1) (x .children)) (255 + m) v
 
-  pub task-written : tasksOn after ≡ set (tasksOn board) (n - 1) x
+  pub task-written : recordsOn after ≡ set (recordsOn board) (n - 1) x
   task-written =
       let a : 126 + 2 * m ≡ 128 + 2 * (n - 1) = omega arith in
       let b : 126 + 2 * m + 1 ≡ 129 + 2 * (n - 1) = omega arith in
       let d : 255 + m ≡ 256 + (n - 1) = omega arith in
       rw d (rw b (rw a (set-task board (n - 1) w (x .children) v (omega arith) long x (rw (we, ve) (same-task x small)))))
+
+  pub ready-kept : readyOn after ≡ readyOn board
+  ready-kept =
+      keep-ready (set (set board (126 + 2 * m) w) (126 + 2 * m + 1) (x .children)) (255 + m) v (omega arith)
+      ∙ keep-ready (set board (126 + 2 * m) w) (126 + 2 * m + 1) (x .children) (omega arith)
+      ∙ keep-ready board (126 + 2 * m) w (omega arith)
 
   kept : {A : Type 0} (f : ℕ → A) → channelColumn f after ≡ channelColumn f board
   kept f =
@@ -167,7 +174,7 @@ mark-of : (a : ℕ) (b : Bool) → a < 281474976710656 → mark6 (a + 2814749767
 mark-of a true h = let e : (a + 281474976710656 * 1) / 281474976710656 % 2 ≡ 1 = omega arith in rw e refl
 mark-of a false h = let e : (a + 281474976710656 * 0) / 281474976710656 % 2 ≡ 0 = omega arith in rw e refl
 
-module _ (board : List ℕ) (k : ℕ) (y : Channel) {w : ℕ} (most : k < 128) (long : length board ≡ 1088) (we : w ≡ channelWord y) (small : NarrowChannel y) where
+module _ (board : List ℕ) (k : ℕ) (y : Channel) {w : ℕ} (most : k < 128) (long : length board ≡ 1094) (we : w ≡ channelWord y) (small : NarrowChannel y) where
   column : {A : Type 0} (f : ℕ → A) (v def : A) → f (channelWord y) ≡ v → channelColumn f (set board k w) ≡ set (channelColumn f board) k v
   column f v def q = set-channel f board k w v def most (omega arith) (ap f we ∙ q)
 
@@ -208,7 +215,7 @@ module _ (v p m : ℕ) (pe : p < 256) (me : m < 65536) where
   counted : low16 anew ≡ m
   counted = omega arith
 
-module _ (board : List ℕ) (k : ℕ) (h : Hint) {w : ℕ} (most : k < 128) (long : length board ≡ 1088) (we : w ≡ travellingWord (getD board k 0) h) (pe : h .processor .0 < 256) (me : h .moves < 65536) where
+module _ (board : List ℕ) (k : ℕ) (h : Hint) {w : ℕ} (most : k < 128) (long : length board ≡ 1094) (we : w ≡ travellingWord (getD board k 0) h) (pe : h .processor .0 < 256) (me : h .moves < 65536) where
   stays : {A : Type 0} (f : ℕ → A) (def : A) → f (travellingWord (getD board k 0) h) ≡ f (getD board k 0) → channelColumn f (set board k w) ≡ set (channelColumn f board) k (getD (channelColumn f board) k def)
   stays f def q = set-channel f board k w (getD (channelColumn f board) k def) def most (omega arith) (ap f we ∙ q ∙ sym (getD-channel f board k def most))
 
@@ -229,7 +236,7 @@ module _ (board : List ℕ) (k : ℕ) (h : Hint) {w : ℕ} (most : k < 128) (lon
   travelling-put = (simp (length-set, long), travelling-written, keep-tasks board k w most, keep-parents board k w (omega arith))
 
 -- a number behind the channels is stored
-channels-above : (board : List ℕ) (i w : ℕ) → 128 ≤ i → channelsOn (set board i w) ≡ channelsOn board
+pub channels-above : (board : List ℕ) (i w : ℕ) → 128 ≤ i → channelsOn (set board i w) ≡ channelsOn board
 unfolding channelsOn
 channels-above board i w h =
     rw (
@@ -251,7 +258,7 @@ parent-read board d t {i} e h =
     rw (← e, a, getD-parent byte2 320 board i 0 h, getD-parent low16 320 board i 0 h, getD-parent (λ v. v) 321 board i 0 h) refl
 
 -- and stored: the pointer, and the children that are held
-module _ (board : List ℕ) (d : ProcessorId) (t : TaskId) {i w : ℕ} (e : i ≡ parentIndex d t) (most : i < 384) (long : length board ≡ 1088) where
+module _ (board : List ℕ) (d : ProcessorId) (t : TaskId) {i w : ℕ} (e : i ≡ parentIndex d t) (most : i < 384) (long : length board ≡ 1094) where
   module _ (h : Hint) (we : w ≡ hintWord h) (pe : h .processor .0 < 256) (me : h .moves < 65536) where
     abbrev pointed : List ℕ
     pointed = set board (320 + 2 * i) w
@@ -269,7 +276,7 @@ module _ (board : List ℕ) (d : ProcessorId) (t : TaskId) {i w : ℕ} (e : i �
     pub pointer-put : ParentPut d t (pointing (parentIn (parentsOn board) d t) h) board pointed
     unfolding parentsOn
     pointer-put =
-        (simp (length-set, long), rw (← e, pointed-toward, pointed-moves, pointed-held, set-getD (parentColumn (λ v. v) 321 board) i 0) refl, keep-tasks-above board (320 + 2 * i) w (omega arith), channels-above board (320 + 2 * i) w (omega arith))
+        (simp (length-set, long), rw (← e, pointed-toward, pointed-moves, pointed-held, set-getD (parentColumn (λ v. v) 321 board) i 0) refl, keep-tasks-above board (320 + 2 * i) w (omega arith) (omega arith), channels-above board (320 + 2 * i) w (omega arith))
 
     -- both
     pub parent-put : (s : ℕ) → ParentPut d t (record { hint = h; held = s }) board (set pointed (320 + 2 * i + 1) s)
@@ -281,7 +288,7 @@ module _ (board : List ℕ) (d : ProcessorId) (t : TaskId) {i w : ℕ} (e : i �
         let held : parentColumn (λ v. v) 321 (set pointed (321 + 2 * i) s) ≡ set (parentColumn (λ v. v) 321 pointed) i s =
         set-parent (λ v. v) 321 pointed i s s most (rw (length-set board (320 + 2 * i) w, long) (omega arith)) refl in
         rw a
-        (simp (length-set, long), rw (← e, beside byte2, beside low16, held, pointed-toward, pointed-moves, pointed-held) refl, keep-tasks-above pointed (321 + 2 * i) s (omega arith) ∙ keep-tasks-above board (320 + 2 * i) w (omega arith), channels-above pointed (321 + 2 * i) s (omega arith) ∙ channels-above board (320 + 2 * i) w (omega arith))
+        (simp (length-set, long), rw (← e, beside byte2, beside low16, held, pointed-toward, pointed-moves, pointed-held) refl, keep-tasks-above pointed (321 + 2 * i) s (omega arith) (omega arith) ∙ keep-tasks-above board (320 + 2 * i) w (omega arith) (omega arith), channels-above pointed (321 + 2 * i) s (omega arith) ∙ channels-above board (320 + 2 * i) w (omega arith))
 
 -- a cell is stored where each column has what it leaves there: a column that it leaves as it was need not be written (`set-getD`)
 module _ (hp hm op on notes : List ℕ) (k : Channels) (d : ProcessorId) (c : ChannelId) (x : Cell) {hp' hm' op' on' notes' : List ℕ} {k' : Channels} where

@@ -2,13 +2,13 @@
 use mathlib.Core.Path.{_≡_}
 use mathlib.Core.List.{List}
 use Prim.Native.Nat.{ℕ}
-use Rattle.rules.specs.declared.task.Task.{Task}
 use Rattle.rules.specs.declared.rule.Outcome.{Outcome}
 use Rattle.rules.specs.declared.rule.Posting.{Posting}
 use Rattle.rules.specs.declared.rule.Posting.the-variants.{Nothing as NoPosting}
 use Rattle.rules.specs.declared.rule.Received.the-variants.{Nothing as NoWord}
 use Rattle.rules.specs.declared.step.StepAnswer.{StepAnswer}
 use Rattle.rules.specs.declared.step.StepAnswer.the-variants.{Accepted}
+use Rattle.rules.specs.declared.system.TaskTable.{TaskTable}
 use Rattle.rules.specs.declared.system.Parents.{Parents}
 use Rattle.rules.specs.declared.system.Store.{Store}
 use Rattle.rig_parts.specs.declared.change.Verdict.{Verdict}
@@ -37,7 +37,7 @@ actOf (Refused q) = refusedAct q
 actOf (Allowed k) = acceptedAct (k .outcome)
 
 -- the tasks, what is kept for channels, and what is kept for parents, then
-abbrev pub tasksAfter : Verdict → List Task → List Task
+abbrev pub tasksAfter : Verdict → TaskTable → TaskTable
 tasksAfter (Refused q) ts = ts
 tasksAfter (Allowed k) ts = changedTasks k ts
 

@@ -1,11 +1,14 @@
--- What a run lends: five tables of 768 entries, as the rig struct has them, and a board of 1088 numbers: channel c's own entry at c - 1,
+-- What a run lends: five tables of 768 entries, as the rig struct has them, and a board of 1094 numbers: channel c's own entry at c - 1,
 -- task t at 126 + 2 t and behind it its children, its word at 255 + t; what desk d keeps for parent t, entry i of 384, at 320 + 2 i its
--- pointer and behind it the children that are held.
+-- pointer and behind it the children that are held; desk d's set of ready tasks at 1087 + d.
 use mathlib.Core.List.{List}
 use mathlib.Core.Path.{_≡_}
-use Prim.Native.Nat.{ℕ, _+_, _*_, _≤_}
+use Prim.Native.Nat.{ℕ, suc, _+_, _*_, _≤_}
+use lib.Dec.{eqb}
 use lib.ListN.{getD, set, length}
+use Rattle.base.specs.Choice.{pick}
 use Rattle.base.specs.Lists.{table}
+use Rattle.base.specs.Sets.{inserted, removed}
 use Rattle.plan.specs.declared.ProcessorId.{ProcessorId}
 use Rattle.plan.specs.declared.ChannelId.{ChannelId}
 use Rattle.plan.specs.declared.TaskId.{TaskId}
@@ -14,6 +17,7 @@ use Rattle.rules.specs.declared.channel.Channel.{Channel}
 use Rattle.rules.specs.declared.channel.Hint.{Hint}
 use Rattle.rules.specs.declared.channel.Offer.{Offer}
 use Rattle.rules.specs.declared.task.Task.{Task}
+use Rattle.rules.specs.declared.system.TaskTable.{TaskTable}
 use Rattle.rules.specs.declared.system.Channels.{Channels}
 use Rattle.rules.specs.declared.system.Parents.{Parents}
 use Rattle.rules.specs.declared.system.ParentEntry.{ParentEntry}
@@ -40,7 +44,7 @@ lent hintprocessors hintmoves heldprocessors heldnumbers notes board =
 
 -- the board has all its numbers; of the tables no length is needed: they are columns as they are
 abbrev pub Whole : List ℕ → Type 0
-Whole board = length board ≡ 1088
+Whole board = length board ≡ 1094
 
 unfoldable pub channelColumn : {A : Type 0} → (ℕ → A) → List ℕ → List A
 channelColumn f board = table 128 (λ k. f (getD board k 0))
@@ -60,8 +64,18 @@ channelsOn board =
 abbrev pub taskOn : List ℕ → ℕ → Task
 taskOn board k = taskOf (getD board (128 + 2 * k) 0) (getD board (129 + 2 * k) 0) (getD board (256 + k) 0)
 
-unfoldable pub tasksOn : List ℕ → List Task
-tasksOn board = table 64 (taskOn board)
+unfoldable pub recordsOn : List ℕ → List Task
+recordsOn board = table 64 (taskOn board)
+
+-- the set of the desk after k others
+abbrev pub setOn : List ℕ → ℕ → ℕ
+setOn board k = getD board (1088 + k) 0
+
+unfoldable pub readyOn : List ℕ → List ℕ
+readyOn board = table 6 (setOn board)
+
+unfoldable pub tasksOn : List ℕ → TaskTable
+tasksOn board = record { records = recordsOn board; ready = readyOn board }
 
 -- what desks keep for parents, column by column; the held children are a number as it is
 unfoldable pub parentColumn : (ℕ → ℕ) → ℕ → List ℕ → List ℕ
@@ -70,7 +84,7 @@ parentColumn f start board = table 384 (λ k. f (getD board (start + 2 * k) 0))
 unfoldable pub parentsOn : List ℕ → Parents
 parentsOn board = record { hintprocessors = parentColumn byte2 320 board; hintmoves = parentColumn low16 320 board; held = parentColumn (λ v. v) 321 board }
 
-abbrev pub tasksOf : Lent → List Task
+abbrev pub tasksOf : Lent → TaskTable
 tasksOf l = tasksOn (l .board)
 
 abbrev pub storeOf : Lent → Store
@@ -129,6 +143,22 @@ TaskPut t x board board' =
 -- two words differ on level 0 at most
 abbrev pub SameAbove : Word → Word → Type 0
 SameAbove w z = (w .1 ≡ z .1) × (w .2 ≡ z .2) × (w .3 ≡ z .3)
+
+-- two records of a task are in the same state at the same desk
+abbrev pub SameStanding : Task → Task → Type 0
+SameStanding x y = (x .state ≡ y .state) × (x .processor ≡ y .processor)
+
+-- desk d's set of ready tasks, where task t was ready at desk `was` and is at desk `is`
+abbrev pub readyMoved : ℕ → ℕ → ℕ → ℕ → ℕ → ℕ
+readyMoved t was is d s = pick (eqb was d) (pick (eqb is d) s (removed t s)) (pick (eqb is d) (inserted t s) s)
+
+-- f of each desk was done to its set, and nothing else was changed on the board
+pub record SetPut (f : ℕ → ℕ → ℕ) (board board' : List ℕ) : Type 0 where
+  pub whole : Whole board'
+  pub ready : readyOn board' ≡ table 6 (λ k. f (suc k) (setOn board k))
+  pub records : recordsOn board' ≡ recordsOn board
+  pub channels : channelsOn board' ≡ channelsOn board
+  pub parents : parentsOn board' ≡ parentsOn board
 
 abbrev pub ChannelPut : ℕ → Channel → List ℕ → List ℕ → Type 0
 ChannelPut i y board board' =

@@ -1,10 +1,9 @@
 -- The verdict on a step that delivers no letter.
 use Prim.Native.Nat.{ℕ}
-use mathlib.Core.List.{List}
 use Rattle.base.specs.Choice.{unless}
-use Rattle.rules.specs.declared.task.Task.{Task}
 use Rattle.rules.specs.declared.step.Step.{Step}
 use Rattle.rules.specs.declared.step.StepAnswer.the-variants.{NoMessage, BadStep}
+use Rattle.rules.specs.declared.system.TaskTable.{TaskTable}
 use Rattle.rules.specs.Numbers.{taskId, processorId}
 use Rattle.rules.specs.Steps.{byKind, wellFormed}
 use Rattle.rig_parts.specs.declared.kept.Kept.{Kept}
@@ -14,7 +13,7 @@ use Rattle.rig_parts.specs.Facts.{Facts}
 use Rattle.rig_parts.specs.RunVerdicts.{judgedRun}
 use Rattle.rig_parts.specs.MoveVerdicts.{judgedMove}
 
-unfoldable pub stepVerdict : Facts → ℕ → List Task → Kept → ℕ → Step → Verdict
+unfoldable pub stepVerdict : Facts → ℕ → TaskTable → Kept → ℕ → Step → Verdict
 stepVerdict f n ts s used x =
     unless (wellFormed x) (Refused BadStep)
     (byKind x

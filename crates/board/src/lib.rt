@@ -1,4 +1,4 @@
-// What a run lends, five tables and a board of 1088 numbers: what is read of it and stored.
+// What a run lends, five tables and a board of 1094 numbers: what is read of it and stored.
 
 // What a step says: its answer, what it received and what it posts.
 pub mod act;
@@ -8,6 +8,8 @@ pub mod cell;
 pub mod fetch;
 // A channel's own entry and a task as numbers of 64 bits, and back.
 pub mod packing;
+// The sets of ready tasks.
+pub mod ready;
 // A rule for each channel of a task that is born, leaves or arrives.
 pub mod sweeps;
 
@@ -17,7 +19,7 @@ ghost use lib.ListN.{set};
 ghost use Rattle.rules.specs.Starts.{pointing};
 ghost use Rattle.rules.specs.Systems.{entryIndex, parentIndex, readChannel, taskIn};
 ghost use Rattle.rig_parts.specs.Sweeps.{parentIn};
-ghost use Rattle.board.specs.Lent.{Whole, AtCell, AtParent, tasksOn, channelsOn, parentsOn, hintEntry, heldEntry, hintIn, heldIn, noteIn, HintPut, HeldPut, TaskPut, SameAbove, ChannelPut, ParentPut, travels};
+ghost use Rattle.board.specs.Lent.{Whole, AtCell, AtParent, tasksOn, channelsOn, parentsOn, hintEntry, heldEntry, hintIn, heldIn, noteIn, HintPut, HeldPut, TaskPut, SameAbove, SameStanding, ChannelPut, ParentPut, travels};
 use plan::ChannelId;
 use plan::ProcessorId;
 use plan::TaskId;
@@ -28,8 +30,8 @@ use rules::system::ParentEntry;
 use rules::task::Task;
 
 // Channel c's own entry at c - 1, task t at 126 + 2 t and behind it its children, its word at 255 + t. Entry i of what desks keep
-// for parents at 320 + 2 i: a pointer, and behind it the children that are held.
-pub type Board = [u64; 1088];
+// for parents at 320 + 2 i: a pointer, and behind it the children that are held. Desk d's set of ready tasks at 1087 + d.
+pub type Board = [u64; 1094];
 
 // Where channel c's own entry is.
 fn channel_index(c: ChannelId) -> usize
@@ -77,15 +79,19 @@ pub fn put_task(board: &mut Board, t: TaskId, x: Task)
         let n = base::wide8(t.0);
         let at = 126 + 2 * n;
         let word = x.word;
-        board[at] = crate::packing::task_word(x);
+        let old = board[at];
+        let new = crate::packing::task_word(x);
+        board[at] = new;
         board[at + 1] = x.children;
         board[255 + n] = crate::packing::word_number(word);
+        crate::ready::put_ready(board, t, old, new);
     }
 }
 
-// Task t becomes x, whose word is as it was above level 0: of its number the other levels stay where they are.
+// Task t becomes x, which stands as it did, and whose word is as it was above level 0: of its number the other levels stay where they
+// are, and so do the sets of ready tasks.
 pub fn put_first_level(board: &mut Board, t: TaskId, x: Task)
-    requires { ⌜ (1 ≤ t .0) × (t .0 ≤ 64) × Whole (now board) × SameAbove (taskIn (tasksOn (now board)) t .word) (x .word) ⌝ }
+    requires { ⌜ (1 ≤ t .0) × (t .0 ≤ 64) × Whole (now board) × SameAbove (taskIn (tasksOn (now board)) t .word) (x .word) × SameStanding (taskIn (tasksOn (now board)) t) x ⌝ }
     ensures { λ r. ⌜ TaskPut t x (now (board .entry)) (now (board .exit)) ⌝ }
 {
     let n = base::wide8(t.0);

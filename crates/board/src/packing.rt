@@ -3,7 +3,7 @@
 ghost use mathlib.Core.Path.{_≡_};
 ghost use Prim.Native.Nat.{_%_, _<_};
 ghost use lib.Dec.{eqb};
-ghost use Rattle.board.specs.packing.Packed.{hintOf, hintWord, channelOf, channelWord, travellingWord, stateOf, stateNumber, taskOf, taskWord, wordOf, wordNumber, firstNumber, bit};
+ghost use Rattle.board.specs.packing.Packed.{hintOf, hintWord, channelOf, channelWord, travellingWord, stateOf, stateNumber, taskOf, taskWord, wordOf, wordNumber, firstNumber, readyDesk, bit};
 use plan::ProcessorId;
 use plan::Word;
 use rules::channel::Channel;
@@ -197,4 +197,11 @@ pub fn task_word(x: Task) -> u64
         + 16777216 * (toward.0 as u64)
         + 256 * (at.0 as u64)
         + 4294967296 * (origin.moves as u64)
+}
+
+// The desk at which a task is ready, read from its first number; 0 where it is not ready.
+pub fn ready_desk(v: u64) -> u8
+    ensures { λ r. ⌜ r ≡ readyDesk v ⌝ }
+{
+    if v % 128 == 1 { low8(v / 256) } else { 0 }
 }

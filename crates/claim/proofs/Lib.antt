@@ -29,3 +29,20 @@ pub mod Verdicts
 pub mod OneMessage
 -- runs at different desks
 pub mod Commute
+-- lists that mix steps and calls of dispatchers: they are runs
+pub mod Events
+pub mod Dispatch
+pub mod Live
+-- a task that stays ready is chosen in its turn
+pub mod Searches
+pub mod Turns
+-- a letter leaves
+pub mod Positions
+pub mod Earliest
+pub mod Followed
+pub mod Letters
+-- rounds of calls come to rest
+pub mod Idle
+pub mod Waiting
+pub mod Calls
+pub mod Rounds

@@ -1,16 +1,17 @@
 -- Rest: exactly when no run and no delivery would be accepted; and then every ready task is at its finish, with a living child.
 use mathlib.Core.Path.{_≡_, refl, sym, ap, _∙_}
-use mathlib.Core.Logic.{by-cases}
+use mathlib.Core.Logic.{_⊎_, inl, inr, by-cases}
 use mathlib.Core.Bool.{true, false, not, _||_}
 use mathlib.Core.List.{[]}
-use Prim.Native.Nat.{ℕ, suc, _+_, _≤_}
+use Prim.Native.Nat.{ℕ, suc, _+_, _≤_, _<_}
 use native.Mathlib.Omega.{arith}
 use native.Mathlib.Decide.{ℕ-discrete}
 use lib.Dec.{eqb, leb}
 use lib.ListN.{length}
-use borrow.Author.Tests.{eqb-true, eq-eqb, le-leb, not-true}
+use borrow.Author.Tests.{eqb-true, eq-eqb, le-leb, not-true, not-false}
 use Rattle.base.specs.Choice.{within}
-use Rattle.base.proofs.Tests.{and-left, and-right, and-both, or-cases, within-low, within-high, within-both, up-to-at, below-all, is-false, is-true}
+use Rattle.base.specs.Range.{upTo}
+use Rattle.base.proofs.Tests.{below-cases, second-fails, and-left, and-right, and-both, or-cases, within-low, within-high, within-both, up-to-at, below-all, is-false, is-true}
 use Rattle.base.proofs.Tests.{tests-differ}
 use Rattle.plan.specs.declared.TaskId.{TaskId}
 use Rattle.plan.specs.Numbers.{taskId}
@@ -22,6 +23,7 @@ use Rattle.rules.specs.declared.system.System.{System}
 use Rattle.rules.specs.Answers.{isAccepted}
 use Rattle.rules.specs.Deliver.{deliverAnswer}
 use Rattle.rules.specs.Steps.{isRun, isDeliver, wellFormed, kindAnswer, ruledAnswer, stepAnswer, runStep, quiescent}
+use Rattle.rules.specs.Dispatch.{deliverStep}
 use Rattle.rules.specs.Networks.{messages, messagesOf}
 use Rattle.rules.specs.Tasks.{isIn, isChildless}
 use Rattle.rules.specs.Systems.{taskAt}
@@ -34,10 +36,6 @@ use Rattle.rules_laws.proofs.StepKinds.{answer-run, answer-deliver, deliver-pas
 use Rattle.rules_sound.proofs.Answers.{run-passed}
 use Rattle.transitions.specs.Readings.{reading}
 use Rattle.transitions.proofs.Rigs.{processors-few}
-
--- a delivery of position p
-abbrev pub deliverStep : ℕ → Step
-deliverStep p = record { kind = 2; task = 0; number = p }
 
 module _ (r : System) (ok : systemOk r ≡ true) where
   -- where a letter is, its delivery is accepted
@@ -89,6 +87,24 @@ module _ (r : System) (ok : systemOk r ≡ true) where
       (λ e. e)
       (λ ne. absurd (tests-differ (ap isAccepted (deliver-accepted 1 (omega arith) (omega arith))) (none (deliverStep 1) refl)))))
       (below-all (λ k. not (isAccepted (stepAnswer r (runStep (suc k))))) (r .plan .tasks) (λ k l. rw (none (runStep (suc k)) refl) refl))
+
+-- a rig that is not at rest has a letter in its mail, or a run would be accepted
+pub busy-cases : {C : Type 0} (r : System) → quiescent r ≡ false → (1 ≤ r .network .used → C)
+    → ((t : ℕ) → 1 ≤ t → t ≤ r .plan .tasks → stepAnswer r (runStep t) ≡ Accepted → C) → C
+unfolding quiescent
+busy-cases {C = C} r busy letter run =
+    by-cases
+    (ℕ-discrete (r .network .used) 0)
+    (λ e. first (below-cases (λ t. not (isAccepted (stepAnswer r (runStep (suc t))))) (r .plan .tasks))
+    (second-fails (eqb (r .network .used) 0) _ busy (eq-eqb (r .network .used) 0 e)))
+    (λ ne. letter (omega arith))
+  where
+    first : (upTo (r .plan .tasks) (λ t. not (isAccepted (stepAnswer r (runStep t)))) ≡ true)
+        ⊎ ((i : ℕ) × (i < r .plan .tasks) × (not (isAccepted (stepAnswer r (runStep (suc i)))) ≡ false))
+        → upTo (r .plan .tasks) (λ t. not (isAccepted (stepAnswer r (runStep t)))) ≡ false → C
+    first (inl e) f = absurd (tests-differ e f)
+    first (inr (i, l, e)) f =
+        run (suc i) (omega arith) l (accepted-is (stepAnswer r (runStep (suc i))) (not-false (isAccepted (stepAnswer r (runStep (suc i)))) e))
 
 module _ (r : System) (shaped : Shaped r) (ok : systemOk r ≡ true) (quiet : quiescent r ≡ true) where
   pub quiet-messages : reading r .messages ≡ []

@@ -1,18 +1,15 @@
 -- From the start: what holds after any list of steps, how many instructions are left, and a list that brings the rig to rest.
 use mathlib.Core.Path.{_≡_, refl}
-use mathlib.Core.Logic.{_⊎_, inl, inr, by-cases}
-use mathlib.Core.Bool.{true, false, not}
+use mathlib.Core.Logic.{by-cases}
+use mathlib.Core.Bool.{true, false}
 use mathlib.Core.List.{List, [], _∷_}
-use Prim.Native.Nat.{ℕ, zero, suc, _+_, _-_, _≤_, _<_}
+use Prim.Native.Nat.{ℕ, zero, suc, _+_, _-_, _≤_}
 use native.Mathlib.Omega.{arith}
 use native.Mathlib.Decide.{ℕ-discrete}
-use lib.Dec.{eqb}
 use lib.ListN.{length}
-use borrow.Author.Tests.{eq-eqb, not-false}
 use Rattle.base.specs.Choice.{within}
-use Rattle.base.specs.Range.{upTo}
 use Rattle.base.proofs.Folds.{fold-same}
-use Rattle.base.proofs.Tests.{within-both, below-cases, second-fails, tests-differ}
+use Rattle.base.proofs.Tests.{within-both}
 use Rattle.net.specs.Machines.{stop}
 use Rattle.plan.specs.declared.PlanAnswer.the-variants.{Accepted as PlanAccepted}
 use Rattle.plan.specs.declared.Plan.{Plan}
@@ -27,12 +24,11 @@ use Rattle.rules.specs.declared.task.TaskState.the-variants.{Unborn}
 use Rattle.rules.specs.declared.step.Step.{Step}
 use Rattle.rules.specs.declared.step.StepAnswer.the-variants.{Accepted}
 use Rattle.rules.specs.declared.system.System.{System}
-use Rattle.rules.specs.Answers.{isAccepted}
 use Rattle.rules.specs.Tasks.{isIn}
 use Rattle.rules.specs.Starts.{started}
+use Rattle.rules.specs.Dispatch.{deliverStep}
 use Rattle.rules.specs.Steps.{isMove, stepAnswer, stepsBy, steps, runStep, quiescent, receivedOn}
 use Rattle.rules_laws.proofs.Shapes.{started-shaped, started-plan}
-use Rattle.rules_laws.proofs.Steps.{accepted-is}
 use Rattle.rules_sound.proofs.Starts.{started-ok}
 use Rattle.net.specs.States.{startNet}
 use Rattle.transitions.specs.Readings.{reading}
@@ -44,7 +40,7 @@ use Rattle.invariant.proofs.StartViews.{read-started, start-cases}
 use Rattle.invariant.proofs.Starts.{start-running}
 use Rattle.invariant.proofs.Next.{Kept, next}
 use Rattle.claim.proofs.Lists.{kept-steps, either}
-use Rattle.claim.proofs.Quiet.{deliverStep, deliver-accepted}
+use Rattle.claim.proofs.Quiet.{deliver-accepted, busy-cases}
 
 module _ (n : ℕ) (p : Plan) (some : 1 ≤ n) (few : n ≤ 6) (a : planAnswer (programs p) ≡ PlanAccepted) where
   -- the rig at the start
@@ -93,21 +89,10 @@ pub record Goes (r : System) : Type 0 where
   pub still : isMove by ≡ false
 
 goes : {p : Plan} {r : System} {w : ChannelId → List Word} → Kept p r w → quiescent r ≡ false → Goes r
-unfolding quiescent
 goes {p} {r} k busy =
-    by-cases
-    (ℕ-discrete (r .network .used) 0)
-    (λ e. first (below-cases (λ t. not (isAccepted (stepAnswer r (runStep (suc t))))) (r .plan .tasks))
-    (second-fails (eqb (r .network .used) 0) _ busy (eq-eqb (r .network .used) 0 e)))
-    (λ ne. record { by = deliverStep 1; accepted = deliver-accepted r (k .ok) 1 (omega arith) (omega arith); still = refl })
-  where
-    first : (upTo (r .plan .tasks) (λ t. not (isAccepted (stepAnswer r (runStep t)))) ≡ true)
-        ⊎ ((i : ℕ) × (i < r .plan .tasks) × (not (isAccepted (stepAnswer r (runStep (suc i)))) ≡ false))
-        → upTo (r .plan .tasks) (λ t. not (isAccepted (stepAnswer r (runStep t)))) ≡ false → Goes r
-    first (inl e) f = absurd (tests-differ e f)
-    first (inr (i, l, e)) f =
-        let yes = not-false (isAccepted (stepAnswer r (runStep (suc i)))) e in
-        record { by = runStep (suc i); accepted = accepted-is (stepAnswer r (runStep (suc i))) yes; still = refl }
+    busy-cases r busy
+    (λ some. record { by = deliverStep 1; accepted = deliver-accepted r (k .ok) 1 (omega arith) (omega arith); still = refl })
+    (λ t low high yes. record { by = runStep t; accepted = yes; still = refl })
 
 -- and so comes to rest
 pub record Rested (r : System) : Type 0 where

@@ -1,5 +1,7 @@
 -- Demand 3: the statement, what else holds of moves, of parents, of marks, of plans on one level, of runs at different desks and of the two logs, and
 -- what a corollary is stated with.
+-- Demand 3: the statement, what else holds of moves, of parents, of marks and of plans on one level, and what a corollary is stated with; and, of lists
+-- that mix steps and calls of dispatchers, that they are runs, whom they choose, which letters leave and when they rest.
 pub mod Statement
 pub mod Moves
 pub mod Parents
@@ -8,3 +10,8 @@ pub mod OldPlans
 pub mod Commute
 pub mod Logs
 pub mod Corollaries
+pub mod Events
+pub mod Dispatch
+pub mod Turns
+pub mod Letters
+pub mod Rounds

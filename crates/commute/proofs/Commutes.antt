@@ -17,7 +17,7 @@ use Rattle.rules_laws.specs.Shapes.{Shaped}
 use Rattle.rules_laws.proofs.Messages.{enqueuedAll-used, messages-enqueuedAll}
 use Rattle.commute.specs.Footprints.{Footprint, footprint, everything, Alike}
 use Rattle.commute.specs.Pairs.{Runs, afterRun, postedBy, Second, Commuting}
-use Rattle.commute.proofs.Seconds.{after-shaped, after-ok, after-plan, after-processors, after-network, after-alike, apart-of, second}
+use Rattle.commute.proofs.Seconds.{after-shaped, after-ok, after-chosen, after-plan, after-processors, after-network, after-alike, apart-of, second}
 use Rattle.commute.proofs.Parts.{same-rig}
 
 -- one place of a rig: z at first, x and y after one of the runs alone, b after the second run where the first came before, a in the other order; f and g
@@ -131,5 +131,11 @@ runs-commuting r shaped ok t u t-run u-run apart room =
           (after-plan (afterRun r t) t-shaped t-ok u (one .accepted)
           ∙ after-plan r shaped ok t (t-run .accepted)
           ∙ sym (after-plan r shaped ok u (u-run .accepted))
-          ∙ sym (after-plan (afterRun r u) u-shaped u-ok t (other .accepted)));
+          ∙ sym (after-plan (afterRun r u) u-shaped u-ok t (other .accepted)))
+          (after-chosen (afterRun r t) t-shaped t-ok u (one .accepted)
+          ∙ after-chosen r shaped ok t (t-run .accepted)
+          ∙ sym (after-chosen r shaped ok u (u-run .accepted))
+          ∙ sym (after-chosen (afterRun r u) u-shaped u-ok t (other .accepted)))
+          (after-ok (afterRun r t) t-shaped t-ok u (one .accepted))
+          (after-ok (afterRun r u) u-shaped u-ok t (other .accepted));
     }

@@ -1,11 +1,12 @@
 -- Two rigs whose parts are read alike everywhere are the same, but for the mail.
 use mathlib.Core.Path.{_≡_, refl, sym, _∙_, ap}
-use mathlib.Core.Bool.{Bool, false}
+use mathlib.Core.Bool.{Bool, true, false}
 use mathlib.Core.List.{List}
 use Prim.Native.Nat.{ℕ, suc, _+_, _*_, _-_, _/_, _%_, _<_}
 use native.Mathlib.Omega.{arith}
 use lib.ListN.{length, getD}
 use lib.Seq.{ext-getD}
+use Rattle.base.specs.Sets.{setOf}
 use Rattle.rules.specs.Numbers.{taskId, processorId, channelId}
 use Rattle.rules.specs.declared.channel.Entry.{Entry}
 use Rattle.rules.specs.declared.channel.Channel.{Channel}
@@ -15,9 +16,12 @@ use Rattle.rules.specs.declared.system.Parents.{Parents}
 use Rattle.rules.specs.declared.system.ParentEntry.{ParentEntry}
 use Rattle.rules.specs.declared.system.System.{System}
 use Rattle.rules.specs.Tasks.{noTask}
-use Rattle.rules.specs.Systems.{withNetwork, readEntry, entryAt, readChannel, channelAt, readParent, parentAt}
+use Rattle.rules.specs.Sound.{systemOk}
+use Rattle.rules.specs.Systems.{withNetwork, taskIn, isReadyAt, readEntry, entryAt, readChannel, channelAt, readParent, parentAt}
 use Rattle.rules_laws.specs.Shapes.{Shaped}
 use Rattle.rules_laws.proofs.TaskAt.{taskAt-some}
+use Rattle.rules_laws.proofs.Ready.{isReadyIn, ready-set}
+use Rattle.rules_laws.proofs.Sound.{system-passed}
 use Rattle.commute.specs.Footprints.{everything, Alike}
 
 -- two lists of n elements that are the same at each place below n
@@ -42,14 +46,29 @@ column : {A : Type 0} {B : Type 0} {C : Type 0} (n : ℕ) (read : A → ℕ → 
 column n read part of none is x y p q h = same-list n none (of x) (of y) p q (λ i l. sym (is x i) ∙ ap part (h i l) ∙ is y i)
 
 module _ (r q : System) (rs : Shaped r) (qs : Shaped q) (a : Alike everything r q) where
-  same-tasks : r .tasks ≡ q .tasks
-  same-tasks =
-      same-list 64 noTask (r .tasks) (q .tasks) (rs .tasks) (qs .tasks)
+  same-records : r .tasks .records ≡ q .tasks .records
+  same-records =
+      same-list 64 noTask (r .tasks .records) (q .tasks .records) (rs .tasks) (qs .tasks)
       (λ i h.
       let t = taskId (suc i) in
-      let at : getD (r .tasks) (suc i - 1) noTask ≡ getD (q .tasks) (suc i - 1) noTask =
+      let at : getD (r .tasks .records) (suc i - 1) noTask ≡ getD (q .tasks .records) (suc i - 1) noTask =
       sym (taskAt-some r t (omega arith)) ∙ sym (a .tasks t refl) ∙ taskAt-some q t (omega arith) in
       rw (first i) at at)
+
+  -- the sets of ready tasks are those of the records
+  same-sets : r .plan ≡ q .plan → (k : ℕ) → setOf (r .plan .tasks) (isReadyIn (r .tasks) k) ≡ setOf (q .plan .tasks) (isReadyIn (q .tasks) k)
+  unfolding taskIn
+  same-sets plan k =
+      λ i.
+      setOf (plan i .tasks) (λ t. isReadyAt (processorId (suc k)) (taskIn (record { records = same-records i; ready = r .tasks .ready }) (taskId t)))
+
+  same-ready : r .plan ≡ q .plan → systemOk r ≡ true → systemOk q ≡ true → r .tasks .ready ≡ q .tasks .ready
+  same-ready plan ro qo =
+      same-list 6 0 (r .tasks .ready) (q .tasks .ready) (rs .ready) (qs .ready)
+      (λ k h.
+      ready-set (r .plan .tasks) (r .tasks) (system-passed r ro .ready) k h
+      ∙ same-sets plan k
+      ∙ sym (ready-set (q .plan .tasks) (q .tasks) (system-passed q qo .ready) k h))
 
   same-tables : r .tables ≡ q .tables
   unfolding entryAt
@@ -107,15 +126,17 @@ module _ (r q : System) (rs : Shaped r) (qs : Shaped q) (a : Alike everything r 
       λ i. record { hintprocessors = e₁ i; hintmoves = e₂ i; held = e₃ i }
 
   -- the rig r with the mail of q is q
-  pub same-rig : r .processors ≡ q .processors → r .plan ≡ q .plan → withNetwork r (q .network) ≡ q
-  same-rig processors plan =
+  pub same-rig : r .processors ≡ q .processors → r .plan ≡ q .plan → r .chosen ≡ q .chosen → systemOk r ≡ true → systemOk q ≡ true
+      → withNetwork r (q .network) ≡ q
+  same-rig processors plan chosen ro qo =
       λ i.
       record {
         processors = processors i;
         plan = plan i;
-        tasks = same-tasks i;
+        tasks = record { records = same-records i; ready = same-ready plan ro qo i };
         tables = same-tables i;
         channels = same-channels i;
         parents = same-parents i;
         network = q .network;
+        chosen = chosen i;
       }

@@ -26,7 +26,7 @@ use Rattle.rules.specs.Sound.{systemOk}
 use Rattle.rules.specs.Steps.{wellFormed, kindAnswer, ruledAnswer, stepAnswer, step, runStep, accepted}
 use Rattle.rules_laws.specs.Shapes.{Shaped}
 use Rattle.rules_laws.proofs.Messages.{enqueuedAll-used}
-use Rattle.rules_laws.proofs.Shapes.{step-shaped}
+use Rattle.rules_laws.proofs.Shapes.{step-shaped, step-chosen}
 use Rattle.rules_laws.proofs.Steps.{step-accepted, step-passed}
 use Rattle.rules_laws.proofs.StepKinds.{answer-run, performed-run}
 use Rattle.rules_sound.specs.Sound.{Sound}
@@ -107,6 +107,9 @@ module _ (r : System) (shaped : Shaped r) (ok : systemOk r ≡ true) (t : TaskId
   pub after-plan : afterRun r t .plan ≡ r .plan
   unfolding completed
   after-plan = run-stands .plan
+
+  pub after-chosen : afterRun r t .chosen ≡ r .chosen
+  after-chosen = sym (ap (λ (o : Stepped). o .system .chosen) stepped) ∙ step-chosen r (runStep (t .0))
 
   pub after-processors : afterRun r t .processors ≡ r .processors
   unfolding completed

@@ -23,9 +23,11 @@ fn own(what: &[u8], mut r: System, k: usize, desk: u8, moves: u16, number: u8)
     requires { ⌜ k < 64 ⌝ }
 {
     let h = pointer(desk, moves);
-    let mut x = r.tasks[k];
+    let mut tasks = r.tasks;
+    let mut x = tasks.records[k];
     x.origin = h;
-    r.tasks[k] = x;
+    tasks.records[k] = x;
+    r.tasks = tasks;
     let a = take_step(r, 1, 2, 0);
     say(what, a.number == number);
 }

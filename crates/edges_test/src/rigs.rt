@@ -33,9 +33,11 @@ fn single_finish() -> Plan {
 
 // The rig with this move count of task 1.
 fn with_moves(mut r: System, moves: u16) -> System {
-    let mut first = r.tasks[0];
+    let mut tasks = r.tasks;
+    let mut first = tasks.records[0];
     first.moves = moves;
-    r.tasks[0] = first;
+    tasks.records[0] = first;
+    r.tasks = tasks;
     r
 }
 
@@ -56,7 +58,8 @@ pub fn take_step(r: System, kind: u8, task: u8, number: u16) -> After {
     let report = q.report;
     let answer = report.answer;
     let system = q.system;
-    let first = system.tasks[0];
+    let tasks = system.tasks;
+    let first = tasks.records[0];
     After {
         number: trace::answer_number(answer),
         moves: first.moves,
@@ -109,9 +112,11 @@ fn creating() -> Plan {
 
 // The rig with a mark on task 2.
 fn with_mark(mut r: System) -> System {
-    let mut second = r.tasks[1];
+    let mut tasks = r.tasks;
+    let mut second = tasks.records[1];
     second.overflow = true;
-    r.tasks[1] = second;
+    tasks.records[1] = second;
+    r.tasks = tasks;
     r
 }
 

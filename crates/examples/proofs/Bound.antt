@@ -4,11 +4,8 @@ use mathlib.Core.Path.{_≡_, refl}
 use mathlib.Core.List.{List, [], _∷_}
 use Prim.Native.Nat.{_≤_}
 use native.Mathlib.Omega.{arith}
-use Rattle.plan.specs.declared.Plan.{Plan}
 use Rattle.plan.specs.declared.PlanAnswer.the-variants.{Accepted}
-use Rattle.plan.proofs.Edges.{worked}
-use Rattle.plan.specs.Files.{filePrograms}
-use Rattle.plan.specs.Programs.{programs, canonical}
+use Rattle.plan.specs.Programs.{programs}
 use Rattle.plan.specs.Refusals.{planAnswer}
 use Rattle.rules.specs.declared.step.Step.{Step}
 use Rattle.rules.proofs.Scripts.{run, move}
@@ -16,9 +13,7 @@ use Rattle.rules.specs.Steps.{isMove}
 use Rattle.rules.proofs.Evaluated.{evaluated}
 use Rattle.claim.specs.Statement.{acceptedOf, anyStep, from, notExecuted, underWay}
 use Rattle.claim.proofs.Demand3.{demand-3}
-
-abbrev pub workedPlan : Plan
-workedPlan = canonical (filePrograms worked)
+use Rattle.examples.specs.Dispatch.{workedPlan}
 
 abbrev four : List Step
 four = run 1 ∷ run 1 ∷ move 2 2 ∷ run 1 ∷ []

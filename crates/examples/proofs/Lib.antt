@@ -11,3 +11,4 @@ pub mod Overflows
 pub mod OldPlans
 pub mod Commute
 pub mod Logs
+pub mod Dispatch

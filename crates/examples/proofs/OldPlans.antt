@@ -12,7 +12,8 @@ use Rattle.rules.specs.Steps.{ruledSteps, receivedOn}
 use Rattle.rules.proofs.Evaluated.{evaluated}
 use Rattle.claim.specs.OldPlans.{isOld, onLevel0, OnlyLevel0}
 use Rattle.examples.specs.Demand3.{examplePlan, exampleAll, exampleChannel}
-use Rattle.examples.proofs.Bound.{workedPlan, accepted}
+use Rattle.examples.proofs.Bound.{accepted}
+use Rattle.examples.specs.Dispatch.{workedPlan}
 use Rattle.claim.proofs.OldPlans.{old-plans}
 
 old : isOld (programs workedPlan) ≡ true

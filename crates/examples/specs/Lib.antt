@@ -11,3 +11,5 @@ pub mod Overflows
 pub mod Commute
 -- Words that pass directly and by letters.
 pub mod Logs
+-- Steps and calls, mixed.
+pub mod Dispatch

@@ -2,6 +2,7 @@
 use mathlib.Core.Bool.{true}
 use mathlib.Core.List.{List, [], _∷_}
 use Prim.Native.Nat.{ℕ}
+use lib.ListN.{set}
 use Rattle.plan.specs.Programs.{Program, canonical}
 use Rattle.rules.specs.declared.channel.Cell.{Cell}
 use Rattle.rules.specs.declared.message.Message.the-variants.{Migration}
@@ -10,7 +11,7 @@ use Rattle.rules.specs.Numbers.{taskId, processorId, channelId}
 use Rattle.rules.specs.Tasks.{noTask, unborn, born, withOverflow}
 use Rattle.rules.specs.Cells.{offer, withHint, withHeld, withNoted, withGranted, withCarried, withTravelling}
 use Rattle.rules.specs.Networks.{enqueued}
-use Rattle.rules.specs.Systems.{withNetwork, withTask, cellAt, withCell, withParent}
+use Rattle.rules.specs.Systems.{withTasks, withNetwork, withTask, cellAt, withCell, withParent, withChosen}
 use Rattle.rules.specs.Starts.{blank}
 use Rattle.rules.proofs.Scripts.{create, sync, finish, send, receive, startOn}
 use Rattle.rules.proofs.Sites.{small, crowded}
@@ -33,7 +34,15 @@ abbrev withKept : Hint → ℕ → System → System
 withKept h s r = withParent r (processorId 6) (taskId 64) (record { hint = h; held = s })
 
 abbrev withPlan : List Program → System → System
-withPlan m r = record { processors = r .processors; plan = canonical m; tasks = r .tasks; tables = r .tables; channels = r .channels; parents = r .parents; network = r .network }
+withPlan m r =
+    record { processors = r .processors; plan = canonical m; tasks = r .tasks; tables = r .tables; channels = r .channels; parents = r .parents; network = r .network; chosen = r .chosen }
+
+-- another set, or last choice, of the last desk
+abbrev withReady : ℕ → System → System
+withReady s r = withTasks r (record { records = r .tasks .records; ready = set (r .tasks .ready) 5 s })
+
+abbrev withLast : ℕ → System → System
+withLast t r = withChosen r (set (r .chosen) 5 t)
 
 unfoldable pub systemSamples : List (Sample System)
 systemSamples =
@@ -56,6 +65,8 @@ systemSamples =
     ∷ fine (withTask pair (taskId 2) (born (processorId 1) (hint (processorId 2) 1)))
     ∷ wrong (withTask pair (taskId 2) (born (processorId 1) (hint (processorId 3) 1)))
     ∷ fine (withKept (hint (processorId 2) 9999) 3 pair) ∷ wrong (withKept (hint (processorId 3) 1) 0 pair) ∷ wrong (withKept unknown 4 pair)
+    -- the set and the last choice of desk 6
+    ∷ wrong (withReady 1 pair) ∷ fine (withLast 2 pair) ∷ wrong (withLast 3 pair)
     ∷ wrong (withUsed 1 small) ∷ fine (crowded 256 small) ∷ wrong (withUsed 257 (crowded 256 small))
     ∷ fine (withNetwork small (enqueued (small .network) (Migration (processorId 2) (taskId 1))))
     ∷ wrong (withNetwork small (enqueued (small .network) (Migration (processorId 2) (taskId 2))))

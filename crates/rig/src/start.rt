@@ -29,6 +29,7 @@ use rules::system::Channels;
 use rules::system::Parents;
 use rules::system::System;
 use rules::system::Tables;
+use rules::system::TaskTable;
 use rules::task::Task;
 use rules::task::TaskState;
 
@@ -58,15 +59,20 @@ fn first_task() -> Task
     none.birth(ProcessorId(1), nowhere)
 }
 
-// Task 1 is born at desk 1, the others are unborn.
-pub fn start_tasks() -> [Task; 64]
+// Task 1 is born at desk 1, where it is ready; the others are unborn.
+pub fn start_tasks() -> TaskTable
     ensures { λ r. ⌜ r ≡ startTasks ⌝ }
 {
     let none = unborn();
-    let mut tasks = [none; 64];
+    let mut records = [none; 64];
     let first = first_task();
-    tasks[0] = first;
-    tasks
+    records[0] = first;
+    let mut ready = [0u64; 6];
+    ready[0] = 1;
+    TaskTable {
+        records: records,
+        ready: ready,
+    }
 }
 
 // The mail without a letter.
@@ -127,7 +133,7 @@ fn start_parents() -> Parents
 
 // The start on a board: an unborn task is at place 1, and has nothing else; task 1 is born at desk 1, which points to it.
 pub fn start_board(board: &mut Board)
-    requires { ⌜ now board ≡ replicate 1088 0 ⌝ }
+    requires { ⌜ now board ≡ replicate 1094 0 ⌝ }
     ensures { λ r. ⌜ StartsOn (now (board .exit)) ⌝ }
 {
     let mut k: usize = 0;
@@ -193,5 +199,6 @@ pub fn start(processors: u8, p: Plan, e: Ends) -> System
         channels: channels,
         parents: kept,
         network: network,
+        chosen: [0; 6],
     }
 }

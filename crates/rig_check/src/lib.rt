@@ -4,6 +4,8 @@
 pub mod limits;
 // The letters.
 pub mod network;
+// The sets of ready tasks.
+pub mod ready;
 // A whole rig.
 pub mod system;
 // What is kept for channels.

@@ -57,13 +57,14 @@ fn tasks_ok(r: System) -> bool
     requires { ⌜ sizesOk (meaning r) ≡ true ⌝ }
     ensures { λ b. ⌜ b ≡ tasksOk r ⌝ }
 {
+    let ts = r.tasks;
     let n = r.processors;
     let p = r.plan;
     let m = p.tasks;
     let end = base::wide8(m);
     let mut k: usize = 0;
     while k < end {
-        let x = r.tasks[k];
+        let x = ts.records[k];
         let kind = last_kind(&p.lengths, &p.codes, k, x.pc);
         if !task_ok(n, m, p.lengths[k], kind, x) {
             return false;
@@ -78,12 +79,13 @@ fn origins_ok(r: System) -> bool
     requires { ⌜ sizesOk (meaning r) ≡ true ⌝ }
     ensures { λ b. ⌜ b ≡ originsOk r ⌝ }
 {
+    let ts = r.tasks;
     let n = r.processors;
     let p = r.plan;
     let end = base::wide8(p.tasks);
     let mut k: usize = 0;
     while k < end {
-        let x = r.tasks[k];
+        let x = ts.records[k];
         if !origin_ok(n, k + 1, x) {
             return false;
         }
@@ -117,7 +119,11 @@ pub fn system_ok(r: System) -> bool
     let network = r.network;
     let kept = crate::tables::channel_entries_ok(n, c);
     let family = crate::tables::parents_ok(n, p.tasks, parents);
-    let last = base::both(family, crate::network::network_ok(n, p.tasks, network));
+    let tasks = r.tasks;
+    let ready = crate::ready::ready_ok(p.tasks, tasks);
+    let chosen = crate::tables::all_at_most(p.tasks, &r.chosen);
+    let mail = base::both(chosen, crate::network::network_ok(n, p.tasks, network));
+    let last = base::both(family, base::both(ready, mail));
     let rest = base::both(kept, last);
     base::both(crate::tables::tables_ok(n, t), rest)
 }

@@ -15,7 +15,7 @@ use rules::system::Parents;
 use rules::system::Tables;
 
 // Every number of a table is at most the limit.
-fn all_at_most(limit: u8, xs: &[u8]) -> bool
+pub fn all_at_most(limit: u8, xs: &[u8]) -> bool
     ensures { λ b. ⌜ b ≡ every (λ d. leb d limit) (now (xs .entry)) ⌝ }
 {
     let mut i: usize = 0;

@@ -1,7 +1,6 @@
 -- A letter that 9 does not refuse, in the parts of a rig that it does not refuse: what the letter reaches, and that its numbers can go on.
 use mathlib.Core.Path.{_≡_, refl, sym}
 use mathlib.Core.Bool.{Bool, true, _&&_, true≢false}
-use mathlib.Core.List.{List}
 use Prim.Native.Nat.{ℕ}
 use native.Mathlib.Omega.{arith}
 use lib.Dec.{leb}
@@ -12,9 +11,9 @@ use Rattle.plan.specs.declared.TaskId.{TaskId}
 use Rattle.plan.specs.declared.ProcessorId.{ProcessorId}
 use Rattle.plan.specs.declared.ChannelId.{ChannelId}
 use Rattle.plan_laws.proofs.Answers.{and-parts}
-use Rattle.rules.specs.declared.task.Task.{Task}
 use Rattle.rules.specs.declared.message.Message.{Message}
 use Rattle.rules.specs.declared.message.Message.the-variants.{Empty, Offered, Advert, ReadyToReceive, Data, Terminated, Migration}
+use Rattle.rules.specs.declared.system.TaskTable.{TaskTable}
 use Rattle.rules.specs.Numbers.{channelNumberOk, processorOk, taskNumberOk}
 use Rattle.rules.specs.Sound.{knownOk, madeOk, messageOk}
 use Rattle.rules_laws.specs.Children.{childOf}
@@ -29,7 +28,7 @@ use Rattle.rig_parts.proofs.BoundsScope.{Reached, scope-reached}
 channel-named : (c : ChannelId) (b : Bool) → channelNumberOk c && b ≡ true → leb (c .0) 128 ≡ true
 channel-named c b o = and-right (leb 1 (c .0)) (leb (c .0) 128) (and-left (channelNumberOk c) b o)
 
-module _ {f : Facts} {n : ℕ} {ts : List Task} {s : Kept} {used : ℕ} (p : PartsOf f n ts s used) where
+module _ {f : Facts} {n : ℕ} {ts : TaskTable} {s : Kept} {used : ℕ} (p : PartsOf f n ts s used) where
   -- a desk of the rig
   processor-few : (d : ProcessorId) → processorOk n d ≡ true → within 1 6 (d .0) ≡ true
   processor-few d h = within-wider n 6 (processors-few p) (d .0) h

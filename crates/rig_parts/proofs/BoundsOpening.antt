@@ -6,11 +6,11 @@ use Prim.Native.Nat.{ℕ, _-_, _≤_}
 use lib.ListN.{length}
 use Rattle.base.specs.Choice.{within}
 use Rattle.base.proofs.Choices.{pick-either}
-use Rattle.rules.specs.declared.task.Task.{Task}
 use Rattle.rules.specs.declared.task.TaskState.the-variants.{Moving}
 use Rattle.rules.specs.declared.message.Message.{Message}
 use Rattle.rules.specs.declared.message.Message.the-variants.{Empty, Offered, Advert, ReadyToReceive, Data, Terminated, Migration}
 use Rattle.rules.specs.declared.rule.Site.{Site}
+use Rattle.rules.specs.declared.system.TaskTable.{TaskTable}
 use Rattle.rules.specs.declared.system.System.{System}
 use Rattle.rules.specs.declared.system.ParentEntry.{ParentEntry}
 use Rattle.rules.specs.Tasks.{isIn}
@@ -55,7 +55,7 @@ opened-few r z f m o =
     let same : opened r m .posting ≡ k .outcome .posting = ap (λ (e : Effect). e .posting) (open-effect r (f .frame) (f .rig) m o) ∙ effect-posting r k in
     rw same at (open-fine r (f .frame) whole m o .posting .few)
 
-module _ {f : Facts} {n : ℕ} {ts : List Task} {s : Kept} {used : ℕ} (p : PartsOf f n ts s used) (m : Message) (o : messageOk n (f .tasks) m ≡ true) where
+module _ {f : Facts} {n : ℕ} {ts : TaskTable} {s : Kept} {used : ℕ} (p : PartsOf f n ts s used) (m : Message) (o : messageOk n (f .tasks) m ≡ true) where
   opened-placed : Placed (openedIn f ts s m)
   unfolding openedIn
   opened-placed =

@@ -1,7 +1,6 @@
 -- The parts of a rig that 9 does not refuse are within the limits: tasks, desks, mail, the places of tasks, and the tasks that tables name.
 use mathlib.Core.Path.{_≡_}
 use mathlib.Core.Bool.{true}
-use mathlib.Core.List.{List}
 use mathlib.Core.Logic.{by-cases}
 use Prim.Native.Nat.{ℕ, _≤_}
 use native.Mathlib.Omega.{arith}
@@ -10,7 +9,7 @@ use borrow.Author.Tests.{eq-eqb}
 use Rattle.base.specs.Choice.{within}
 use Rattle.base.proofs.Tests.{within-low, within-high, within-both}
 use Rattle.plan.specs.declared.TaskId.{TaskId}
-use Rattle.rules.specs.declared.task.Task.{Task}
+use Rattle.rules.specs.declared.system.TaskTable.{TaskTable}
 use Rattle.rules.specs.declared.system.System.{System}
 use Rattle.rules.specs.Systems.{taskAt, taskIn}
 use Rattle.rules_sound.specs.Sound.{programIn, Sound}
@@ -40,7 +39,7 @@ rig-place r o t h = by-cases (ℕ-discrete (t .0) 0) none some
         let l : 1 ≤ t .0 = omega arith in
         omega (arith, behind-few n (r .plan .tasks) g (taskAt r t) (o .rig .tasks t l h), program-in n (r .plan) (o .frame) t l h .few)
 
-module _ {f : Facts} {n : ℕ} {ts : List Task} {s : Kept} {used : ℕ} (p : PartsOf f n ts s used) where
+module _ {f : Facts} {n : ℕ} {ts : TaskTable} {s : Kept} {used : ℕ} (p : PartsOf f n ts s used) where
   pub rig-sound : Sound (p .system)
   rig-sound = sound (p .system) (p .shaped) (p .sound)
 

@@ -1,7 +1,6 @@
 -- A ready task of the parts of a rig that 9 does not refuse: its place, its desk, its move count, and the argument of its next instruction.
 use mathlib.Core.Path.{_≡_, refl, sym, subst}
 use mathlib.Core.Bool.{true, _||_}
-use mathlib.Core.List.{List}
 use Prim.Native.Nat.{ℕ, _≤_}
 use native.Mathlib.Omega.{arith}
 use lib.Dec.{eqb}
@@ -15,8 +14,8 @@ use Rattle.plan.specs.declared.Instruction.{Instruction}
 use Rattle.plan.specs.Kinds.{opCreate, opSend, opReceive}
 use Rattle.plan.specs.Refusals.{instructionOk}
 use Rattle.plan_laws.proofs.Programs.{create-operand, send-operand, receive-operand}
-use Rattle.rules.specs.declared.task.Task.{Task}
 use Rattle.rules.specs.declared.task.TaskState.the-variants.{Ready}
+use Rattle.rules.specs.declared.system.TaskTable.{TaskTable}
 use Rattle.rules.specs.Tasks.{isIn}
 use Rattle.rules.specs.Systems.{taskAt, taskIn}
 use Rattle.rules_sound.specs.Settled.{Settled}
@@ -50,10 +49,10 @@ argument-fine n few i h =
     (λ e. refl)
 
 -- the next instruction of task t
-abbrev pub nextAt : Facts → List Task → TaskId → Instruction
+abbrev pub nextAt : Facts → TaskTable → TaskId → Instruction
 nextAt f ts t = instructionIn (f .codes) t (taskIn ts t .pc)
 
-module _ {f : Facts} {n : ℕ} {ts : List Task} {s : Kept} {used : ℕ} (p : PartsOf f n ts s used) (t : TaskId) where
+module _ {f : Facts} {n : ℕ} {ts : TaskTable} {s : Kept} {used : ℕ} (p : PartsOf f n ts s used) (t : TaskId) where
   module _ (w : within 1 (f .tasks) (t .0) ≡ true) (ready : isIn Ready (taskIn ts t) ≡ true) where
     -- in the rig
     low : 1 ≤ t .0

@@ -1,7 +1,6 @@
 -- A run of a ready task, in the parts of a rig that 9 does not refuse: what it reaches, and that its numbers can go on.
 use mathlib.Core.Path.{_≡_}
 use mathlib.Core.Bool.{true}
-use mathlib.Core.List.{List}
 use Prim.Native.Nat.{ℕ}
 use native.Mathlib.Omega.{arith}
 use lib.Dec.{eqb}
@@ -13,8 +12,8 @@ use Rattle.plan.specs.declared.TaskId.{TaskId}
 use Rattle.plan.specs.declared.Instruction.{Instruction}
 use Rattle.plan.specs.Kinds.{opCreate, opFinish, opSend, opReceive}
 use Rattle.plan_laws.proofs.Programs.{send-operand, receive-operand}
-use Rattle.rules.specs.declared.task.Task.{Task}
 use Rattle.rules.specs.declared.task.TaskState.the-variants.{Ready}
+use Rattle.rules.specs.declared.system.TaskTable.{TaskTable}
 use Rattle.rules.specs.Tasks.{isIn}
 use Rattle.rules.specs.Systems.{taskIn}
 use Rattle.rig_parts.specs.declared.kept.Kept.{Kept}
@@ -25,7 +24,7 @@ use Rattle.rig_parts.proofs.BoundsParts.{sender-few, receiver-few, pare
 use Rattle.rig_parts.proofs.BoundsScope.{Reached, scope-reached}
 use Rattle.rig_parts.proofs.BoundsReady.{nextAt, processor-in, instruction-ok, child-few}
 
-module _ {f : Facts} {n : ℕ} {ts : List Task} {s : Kept} {used : ℕ} (p : PartsOf f n ts s used) (t : TaskId)
+module _ {f : Facts} {n : ℕ} {ts : TaskTable} {s : Kept} {used : ℕ} (p : PartsOf f n ts s used) (t : TaskId)
     (w : within 1 (f .tasks) (t .0) ≡ true) (ready : isIn Ready (taskIn ts t) ≡ true) where
   -- its next instruction, and the scope of that
   abbrev next : Instruction

@@ -1,15 +1,14 @@
 -- What a scope reaches in the parts of a rig that 9 does not refuse.
 use mathlib.Core.Path.{_≡_}
 use mathlib.Core.Bool.{true, or-true}
-use mathlib.Core.List.{List}
 use Prim.Native.Nat.{ℕ, _≤_}
 use native.Mathlib.Omega.{arith}
 use lib.Dec.{eqb}
 use borrow.Author.Tests.{le-leb, eqb-false}
 use Rattle.base.specs.Choice.{within}
 use Rattle.base.proofs.Choices.{pick-cases}
-use Rattle.rules.specs.declared.task.Task.{Task}
 use Rattle.rules.specs.declared.channel.Cell.{Cell}
+use Rattle.rules.specs.declared.system.TaskTable.{TaskTable}
 use Rattle.rules.specs.Systems.{taskIn, channelAt}
 use Rattle.rig_parts.specs.declared.kept.Kept.{Kept}
 use Rattle.rig_parts.specs.declared.change.Scope.{Scope}
@@ -17,7 +16,7 @@ use Rattle.rig_parts.specs.Facts.{Facts, PartsOf}
 use Rattle.rig_parts.specs.Fetches.{noCell, scopeOk, cellOf}
 use Rattle.rig_parts.proofs.BoundsParts.{rig-sound, count-few, place-few}
 
-pub record Reached (ts : List Task) (s : Kept) (k : Scope) : Type 0 where
+pub record Reached (ts : TaskTable) (s : Kept) (k : Scope) : Type 0 where
   pub ok : scopeOk k ≡ true
   pub processor : within 1 6 (k .processor .0) ≡ true
   pub sender : k .sender .0 ≤ 64
@@ -25,7 +24,7 @@ pub record Reached (ts : List Task) (s : Kept) (k : Scope) : Type 0 where
   pub receiver-place : taskIn ts (k .receiver) .pc ≤ 65
   pub called : cellOf (s .store) k .channel .granted ≤ 64
 
-module _ {f : Facts} {n : ℕ} {ts : List Task} {s : Kept} {used : ℕ} (p : PartsOf f n ts s used) (k : Scope) where
+module _ {f : Facts} {n : ℕ} {ts : TaskTable} {s : Kept} {used : ℕ} (p : PartsOf f n ts s used) (k : Scope) where
   called-few : k .channel .0 ≤ 128 → cellOf (s .store) k .channel .granted ≤ 64
   unfolding cellOf channelAt
   called-few h =

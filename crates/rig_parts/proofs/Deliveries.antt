@@ -18,7 +18,7 @@ use Rattle.rig_parts.proofs.Openings.{open-effect}
 -- another mail
 network-holds : (n : ℕ) (p : Plan) (r : System) (k : Network) → Holds n p r → Holds n p (withNetwork r k)
 unfolding entryAt channelAt parentAt
-network-holds n p r k o = record { tasks = o .tasks; origins = o .origins; entries = o .entries; channels = o .channels; parents = o .parents }
+network-holds n p r k o = record { tasks = o .tasks; origins = o .origins; entries = o .entries; channels = o .channels; parents = o .parents; ready = o .ready; chosen = o .chosen }
 
 pub deliver-effect : (r : System) → Shaped r → Sound r → (p : ℕ) → 1 ≤ p → p ≤ r .network .used
     → delivered r p

@@ -14,6 +14,7 @@ use Rattle.rules.specs.declared.task.TaskState.the-variants.{Ready}
 use Rattle.rules.specs.declared.message.Message.the-variants.{Migration}
 use Rattle.rules.specs.declared.rule.Posting.the-variants.{Single}
 use Rattle.rules.specs.declared.step.StepAnswer.the-variants.{Accepted, NoTask, NotReady, NetworkFull, NoProcessor, AlreadyThere, MovesSpent}
+use Rattle.rules.specs.declared.system.TaskTable.{TaskTable}
 use Rattle.rules.specs.Numbers.{mostMoves}
 use Rattle.rules.specs.Answers.{isAccepted}
 use Rattle.rules.specs.Tasks.{isIn, isAt}
@@ -24,7 +25,7 @@ use Rattle.rig_parts.specs.MoveVerdicts.{moveRefusal}
 use Rattle.rig_parts.proofs.Answers.{passed}
 
 -- a run of task t
-pub run-passed : (codes : List ℕ) (m : ℕ) (ts : List Task) (t : TaskId) → isAccepted (runRefusal codes m ts t) ≡ true
+pub run-passed : (codes : List ℕ) (m : ℕ) (ts : TaskTable) (t : TaskId) → isAccepted (runRefusal codes m ts t) ≡ true
     → (within 1 m (t .0) ≡ true) × (isIn Ready (taskIn ts t) ≡ true)
 unfolding runRefusal
 run-passed codes m ts t h =
@@ -40,7 +41,7 @@ pub record MovePassed (m n used : ℕ) (t : TaskId) (e : ProcessorId) (x : Task)
   pub unspent : (x .moves ≡ mostMoves) → ⊥
   pub fitting : leb (used + length (messagesOf n (Single (Migration e t)))) 256 ≡ true
 
-pub move-passed : (m n : ℕ) (ts : List Task) (used : ℕ) (t : TaskId) (e : ProcessorId) → isAccepted (moveRefusal m n ts used t e) ≡ true
+pub move-passed : (m n : ℕ) (ts : TaskTable) (used : ℕ) (t : TaskId) (e : ProcessorId) → isAccepted (moveRefusal m n ts used t e) ≡ true
     → MovePassed m n used t e (taskIn ts t)
 unfolding moveRefusal
 move-passed m n ts used t e h =

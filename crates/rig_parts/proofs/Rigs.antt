@@ -1,11 +1,10 @@
 -- The parts of a rig that 9 does not refuse: whole, in a step, after it, and at rest.
 use mathlib.Core.Path.{_≡_, refl, _∙_, ap}
 use mathlib.Core.Bool.{true}
-use mathlib.Core.List.{List}
 use Prim.Native.Nat.{ℕ}
-use Rattle.rules.specs.declared.task.Task.{Task}
 use Rattle.rules.specs.declared.message.Network.{Network}
 use Rattle.rules.specs.declared.step.Step.{Step}
+use Rattle.rules.specs.declared.system.TaskTable.{TaskTable}
 use Rattle.rules.specs.declared.system.System.{System}
 use Rattle.rules.specs.Sound.{systemOk}
 use Rattle.rules.specs.Steps.{ruledStep, quiescent}
@@ -28,7 +27,7 @@ own-parts r z o =
     record { parts = record { system = r; shaped = z; sound = o; facts-of = refl; processors = refl; tasks = refl; kept = refl; messages = refl }; network = refl }
 
 -- rest and a step of parts that are those of rig r
-module _ {f : Facts} {n : ℕ} {ts : List Task} {k : Network} {s : Kept} (r : System) (z : Shaped r) (o : systemOk r ≡ true)
+module _ {f : Facts} {n : ℕ} {ts : TaskTable} {k : Network} {s : Kept} (r : System) (z : Shaped r) (o : systemOk r ≡ true)
     (e : f ≡ factsOf (r .plan)) (d : n ≡ r .processors) (t : ts ≡ r .tasks) (m : k ≡ r .network) (c : s ≡ keptIn r) where
   rest-of : restIn f n ts s (k .used) ≡ quiescent r
   rest-of = rw (e, d, t, m, c) (rest-is r z o)
@@ -36,7 +35,7 @@ module _ {f : Facts} {n : ℕ} {ts : List Task} {k : Network} {s : Kept} (r : Sy
   turn-of : (x : Step) → turnOf f n ts k s x ≡ partsOf (ruledStep r x)
   turn-of x = rw (e, d, t, m, c) (turn-is r z o x)
 
-module _ {f : Facts} {n : ℕ} {ts : List Task} {k : Network} {s : Kept} (g : Rig f n ts k s) where
+module _ {f : Facts} {n : ℕ} {ts : TaskTable} {k : Network} {s : Kept} (g : Rig f n ts k s) where
   abbrev pub rig-system : System
   rig-system = g .parts .system
 

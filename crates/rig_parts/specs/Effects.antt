@@ -3,7 +3,7 @@ use mathlib.Core.List.{List}
 use Prim.Native.Nat.{ℕ}
 use Rattle.plan.specs.declared.TaskId.{TaskId}
 use Rattle.plan.specs.declared.Instruction.{Instruction}
-use Rattle.rules.specs.declared.task.Task.{Task}
+use Rattle.rules.specs.declared.system.TaskTable.{TaskTable}
 use Rattle.rules.specs.declared.system.Store.{Store}
 use Rattle.rules.specs.declared.system.System.{System}
 use Rattle.rules.specs.Systems.{withTasks, storeIn, withStore, withParents, taskStored}
@@ -16,7 +16,7 @@ use Rattle.rig_parts.specs.Fetches.{cellPut}
 use Rattle.rig_parts.specs.RunVerdicts.{ranIn}
 
 -- what a change leaves of the tasks, and of what is kept for channels
-abbrev pub changedTasks : Change → List Task → List Task
+abbrev pub changedTasks : Change → TaskTable → TaskTable
 changedTasks k ts = taskStored (taskStored ts (k .scope .sender) (k .outcome .sender)) (k .scope .receiver) (k .outcome .receiver)
 
 abbrev pub changedStore : List ℕ → List ℕ → Change → Store → Store

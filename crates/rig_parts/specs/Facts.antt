@@ -4,7 +4,7 @@ use mathlib.Core.Bool.{true}
 use mathlib.Core.List.{List}
 use Prim.Native.Nat.{ℕ}
 use Rattle.plan.specs.declared.Plan.{Plan}
-use Rattle.rules.specs.declared.task.Task.{Task}
+use Rattle.rules.specs.declared.system.TaskTable.{TaskTable}
 use Rattle.rules.specs.declared.system.System.{System}
 use Rattle.rules.specs.Sound.{systemOk}
 use Rattle.rules.specs.Systems.{storeIn}
@@ -32,7 +32,7 @@ abbrev pub keptIn : System → Kept
 keptIn r = record { store = storeIn r; parents = r .parents }
 
 -- these are the parts of a rig that 9 does not refuse: desks, tasks, what is kept for channels and parents, how many letters
-pub record PartsOf (f : Facts) (n : ℕ) (ts : List Task) (s : Kept) (used : ℕ) : Type 0 where
+pub record PartsOf (f : Facts) (n : ℕ) (ts : TaskTable) (s : Kept) (used : ℕ) : Type 0 where
   pub system : System
   pub shaped : Shaped system
   pub sound : systemOk system ≡ true

@@ -14,6 +14,7 @@ use Rattle.rules.specs.declared.task.TaskState.{TaskState}
 use Rattle.rules.specs.declared.task.TaskState.the-variants.{Sending, Receiving}
 use Rattle.rules.specs.declared.channel.Cell.{Cell}
 use Rattle.rules.specs.declared.rule.Site.{Site}
+use Rattle.rules.specs.declared.system.TaskTable.{TaskTable}
 use Rattle.rules.specs.declared.system.Store.{Store}
 use Rattle.rules.specs.Numbers.{noProcessor}
 use Rattle.rules.specs.Tasks.{isIn}
@@ -56,7 +57,7 @@ cellOf s k = pick (eqb (k .channel .0) 0) noCell (cellIn s (k .processor) (k .ch
 unfoldable pub cellPut : Scope → Cell → Store → Store
 cellPut k x s = pick (eqb (k .channel .0) 0) s (cellStored s (k .processor) (k .channel) x)
 
-unfoldable pub siteIn : List ℕ → List Task → Store → Scope → Site
+unfoldable pub siteIn : List ℕ → TaskTable → Store → Scope → Site
 siteIn codes ts s k =
     record {
       sender = taskIn ts (k .sender);

@@ -1,7 +1,6 @@
 -- The verdict on a move.
 use mathlib.Core.Path.{_≡_}
 use mathlib.Core.Bool.{true}
-use mathlib.Core.List.{List}
 use Prim.Native.Nat.{ℕ, _+_, _≤_}
 use Rattle.base.specs.Choice.{within}
 use Rattle.plan.specs.declared.TaskId.{TaskId}
@@ -12,6 +11,7 @@ use Rattle.rules.specs.declared.message.Message.the-variants.{Migration}
 use Rattle.rules.specs.declared.rule.Posting.the-variants.{Single}
 use Rattle.rules.specs.declared.rule.Received.the-variants.{Nothing as NoWord}
 use Rattle.rules.specs.declared.step.StepAnswer.{StepAnswer}
+use Rattle.rules.specs.declared.system.TaskTable.{TaskTable}
 use Rattle.rules.specs.Numbers.{mostMoves}
 use Rattle.rules.specs.Tasks.{isIn, departed, noTask}
 use Rattle.rules.specs.Cells.{hint}
@@ -34,13 +34,13 @@ moveChange t x e =
     (Departure t (x .processor) (hint e (x .moves + 1)))
 
 -- a ready task has a count that is not over the limit
-abbrev pub readyCounts : ℕ → List Task → TaskId → Type 0
+abbrev pub readyCounts : ℕ → TaskTable → TaskId → Type 0
 readyCounts m ts t = within 1 m (t .0) ≡ true → isIn Ready (taskIn ts t) ≡ true → taskIn ts t .moves ≤ mostMoves
 
 -- the tests of a move in their order, of so many tasks, desks and letters
-unfoldable pub moveRefusal : ℕ → ℕ → List Task → ℕ → TaskId → ProcessorId → StepAnswer
+unfoldable pub moveRefusal : ℕ → ℕ → TaskTable → ℕ → TaskId → ProcessorId → StepAnswer
 moveRefusal m n ts used t e = moveTests m n t (taskIn ts t) e (fitsIn n (Single (Migration e t)) used)
 
 -- the departure, where they refuse nothing
-unfoldable pub judgedMove : ℕ → ℕ → List Task → ℕ → TaskId → ProcessorId → Verdict
+unfoldable pub judgedMove : ℕ → ℕ → TaskTable → ℕ → TaskId → ProcessorId → Verdict
 judgedMove m n ts used t e = verdictOf (moveChange t (taskIn ts t) e) (moveRefusal m n ts used t e)

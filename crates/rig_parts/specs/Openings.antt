@@ -1,14 +1,13 @@
 -- What a letter does where it goes to.
 use mathlib.Core.Path.{_≡_}
 use mathlib.Core.Bool.{true}
-use mathlib.Core.List.{List}
 use Prim.Native.Nat.{_<_}
 use Rattle.base.specs.Choice.{pick, within}
-use Rattle.rules.specs.declared.task.Task.{Task}
 use Rattle.rules.specs.declared.task.TaskState.the-variants.{Moving}
 use Rattle.rules.specs.declared.message.Message.{Message}
 use Rattle.rules.specs.declared.message.Message.the-variants.{Empty, Offered, Advert, ReadyToReceive, Data, Terminated, Migration}
 use Rattle.rules.specs.declared.rule.Site.{Site}
+use Rattle.rules.specs.declared.system.TaskTable.{TaskTable}
 use Rattle.rules.specs.declared.system.ParentEntry.{ParentEntry}
 use Rattle.rules.specs.Tasks.{isIn, arrived, withoutChildren}
 use Rattle.rules.specs.Offers.{offerRule, advertRule}
@@ -45,7 +44,7 @@ messageChange k (Migration d t) x e =
     (record { scope = k; outcome = taskChange k x (withoutChildren (arrived (x .sender) d) (e .held)) .outcome; sweep = Arrival t d (x .sender .moves) })
     (taskChange k x (x .sender))
 
-unfoldable pub openedIn : Facts → List Task → Kept → Message → Change
+unfoldable pub openedIn : Facts → TaskTable → Kept → Message → Change
 openedIn f ts s m =
     let k = messageScope (f .senders) (f .receivers) (f .parents) m in
     messageChange k m (siteIn (f .codes) ts (s .store) k) (parentIn (s .parents) (k .processor) (k .sender))

@@ -16,6 +16,7 @@ use Rattle.rules.specs.declared.rule.Posting.the-variants.{Nothing as NoPosting
 use Rattle.rules.specs.declared.rule.Received.the-variants.{Nothing as NoWord}
 use Rattle.rules.specs.declared.step.StepAnswer.{StepAnswer}
 use Rattle.rules.specs.declared.step.StepAnswer.the-variants.{NetworkFull}
+use Rattle.rules.specs.declared.system.TaskTable.{TaskTable}
 use Rattle.rules.specs.declared.system.ParentEntry.{ParentEntry}
 use Rattle.rules.specs.Numbers.{taskId, channelId}
 use Rattle.rules.specs.Hints.{hint}
@@ -87,20 +88,20 @@ abbrev pub fittingIn : ℕ → ℕ → Change → Verdict
 fittingIn n used k = unless (fitsIn n (k .outcome .posting) used) (Refused NetworkFull) (Accepted k)
 
 -- what instruction i of task t would do
-unfoldable pub ranIn : Facts → List Task → Kept → TaskId → Instruction → Change
+unfoldable pub ranIn : Facts → TaskTable → Kept → TaskId → Instruction → Change
 ranIn f ts s t i =
     let k = runScope (f .senders) (f .receivers) (f .parents) t (taskIn ts t .processor) i in
     let x = siteIn (f .codes) ts (s .store) k in
     runChange k t i (sendIn (f .numbers) t i k x) x (parentIn (s .parents) (k .processor) (k .sender))
 
 -- the tests of a run but the last: 10, 11, 12
-unfoldable pub runRefusal : List ℕ → ℕ → List Task → TaskId → StepAnswer
+unfoldable pub runRefusal : List ℕ → ℕ → TaskTable → TaskId → StepAnswer
 runRefusal codes count ts t =
     let x = taskIn ts t in
     runTests count t x (instructionIn codes t (x .pc)) true
 
 -- what the instruction does, where they refuse nothing and its letters fit
-unfoldable pub judgedRun : Facts → ℕ → List Task → Kept → ℕ → TaskId → Verdict
+unfoldable pub judgedRun : Facts → ℕ → TaskTable → Kept → ℕ → TaskId → Verdict
 judgedRun f n ts s used t =
     unlessRefused (runRefusal (f .codes) (f .tasks) ts t)
     (fittingIn n used (ranIn f ts s t (instructionIn (f .codes) t (taskIn ts t .pc))))

@@ -2,12 +2,12 @@
 use crate::kept::Kept;
 use rules::message::Network;
 use rules::step::Report;
-use rules::task::Task;
+use rules::system::TaskTable;
 
 // What a step leaves: its report, and the parts of the rig then.
 pub struct Turn {
     pub report: Report,
-    pub tasks: [Task; 64],
+    pub tasks: TaskTable,
     pub network: Network,
     pub kept: Kept,
 }

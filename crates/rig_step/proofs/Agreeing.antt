@@ -4,13 +4,17 @@ use mathlib.Core.Path.{_≡_, refl, sym, ap, _∙_}
 use mathlib.Core.Bool.{false}
 use mathlib.Core.List.{List}
 use mathlib.Core.Logic.{by-cases}
-use Prim.Native.Nat.{ℕ, _+_, _-_, _/_, _%_, _<_, _≤_}
+use Prim.Native.Nat.{ℕ, suc, _+_, _-_, _/_, _%_, _<_, _≤_}
 use native.Mathlib.Omega.{arith}
 use native.Mathlib.Decide.{ℕ-discrete}
+use lib.Dec.{eqb}
 use lib.ListN.{length, getD, set, length-set}
 use lib.Seq.{ext-getD, getD-set-same, getD-set-other}
-use Rattle.base.proofs.Tables.{length-table}
+use Rattle.base.specs.Choice.{pick}
+use Rattle.base.specs.Lists.{table}
+use Rattle.base.proofs.Tables.{length-table, set-table}
 use Rattle.rules.specs.declared.channel.Channel.{Channel}
+use Rattle.rules.specs.declared.system.TaskTable.{TaskTable}
 use Rattle.rules.specs.declared.system.Channels.{Channels}
 use Rattle.plan.specs.declared.TaskId.{TaskId}
 use Rattle.plan.specs.declared.ProcessorId.{ProcessorId}
@@ -18,10 +22,11 @@ use Rattle.rules.specs.declared.system.Parents.{Parents}
 use Rattle.rules.specs.declared.system.ParentEntry.{ParentEntry}
 use Rattle.rules.specs.declared.task.Task.{Task}
 use Rattle.rules.specs.Systems.{readChannel, writeChannel, parentIndex, readParent, writeParent, taskIn, taskStored}
-use borrow.Author.Tests.{ne-eqb}
+use borrow.Author.Tests.{eq-eqb, ne-eqb}
 use Rattle.rules.specs.Numbers.{taskId, processorId}
 use Rattle.rules.specs.Tasks.{noTask}
-use Rattle.board.specs.Lent.{AtParent, channelColumn, channelsOn, parentColumn, parentsOn, tasksOn}
+use Rattle.board.specs.Lent.{AtParent, channelColumn, channelsOn, parentColumn, parentsOn, recordsOn, setOn, readyOn, tasksOn, SetPut}
+use Rattle.rules_laws.proofs.TaskAt.{taskIn-some, taskStored-some}
 use Rattle.rig_parts.specs.Sweeps.{parentIn, parentStored}
 
 -- xs and ys have n entries, and their first k agree
@@ -78,9 +83,13 @@ module _ {k : ℕ} {x y : Channels} (a : AgreeOn k x y) where
       refl
 
 -- how many there are on a board
-pub tasks-long : (board : List ℕ) → length (tasksOn board) ≡ 64
-unfolding tasksOn
-tasks-long board = length-table 64 _
+pub records-long : (board : List ℕ) → length (recordsOn board) ≡ 64
+unfolding recordsOn
+records-long board = length-table 64 _
+
+pub sets-long : (board : List ℕ) → length (readyOn board) ≡ 6
+unfolding readyOn
+sets-long board = length-table 6 _
 
 column-long : {A : Type 0} (f : ℕ → A) (board : List ℕ) → length (channelColumn f board) ≡ 128
 unfolding channelColumn
@@ -118,17 +127,32 @@ channels-none p q =
     }
 
 -- the task after the first k
-module _ (ts : List Task) (k : ℕ) where
+module _ (board : List ℕ) (k : ℕ) where
   last : k + 1 - 1 ≡ k
   last = omega arith
 
-  pub task-after : taskIn ts (taskId (k + 1)) ≡ getD ts k noTask
-  unfolding taskIn
-  task-after = rw (ne-eqb (k + 1) 0 (λ e. omega arith), last) refl
+  pub task-after : taskIn (tasksOn board) (taskId (k + 1)) ≡ getD (recordsOn board) k noTask
+  unfolding tasksOn
+  task-after = taskIn-some (tasksOn board) (taskId (k + 1)) (omega arith) ∙ rw last refl
 
-  pub stored-after : (x : Task) → taskStored ts (taskId (k + 1)) x ≡ set ts k x
-  unfolding taskStored
-  stored-after x = rw (ne-eqb (k + 1) 0 (λ e. omega arith), last) refl
+  pub record-stored : (board' : List ℕ) (x : Task) → tasksOn board' ≡ taskStored (tasksOn board) (taskId (k + 1)) x → recordsOn board' ≡ set (recordsOn board) k x
+  unfolding tasksOn
+  record-stored board' x e = ap (λ (ts : TaskTable). ts .records) (e ∙ taskStored-some (tasksOn board) (taskId (k + 1)) x (omega arith)) ∙ rw last refl
+
+  -- the set after the first k
+  pub set-after : getD (tasksOn board .ready) (k + 1 - 1) 0 ≡ getD (readyOn board) k 0
+  unfolding tasksOn
+  set-after = rw last refl
+
+  pub set-stored : (board' : List ℕ) (s : ℕ) → k < 6 → SetPut (λ e x. pick (eqb (k + 1) e) s x) board board' → readyOn board' ≡ set (readyOn board) k s
+  unfolding readyOn
+  set-stored board' s h p =
+      let g : ℕ → ℕ = λ j. pick (eqb (k + 1) (suc j)) s (setOn board j) in
+      let own : g k ≡ s = rw (eq-eqb (k + 1) (suc k) (omega arith)) refl in
+      p .ready
+      ∙ sym
+      (ap (set (table 6 (setOn board)) k) (sym own)
+      ∙ set-table 6 (setOn board) g k 0 h (λ j l ne. rw (ne-eqb (k + 1) (suc j) (λ e. ne (omega arith))) refl))
 
 pub channel-after : (x : Channels) (k : ℕ) → readChannel x (k + 1 - 1) ≡ readChannel x k
 channel-after x k = let e : k + 1 - 1 ≡ k = omega arith in rw e refl

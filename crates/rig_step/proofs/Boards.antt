@@ -5,10 +5,10 @@ use Prim.Native.Nat.{ℕ, _/_, _≤_}
 use native.Mathlib.Omega.{arith}
 use lib.ListN.{length}
 use Rattle.base.proofs.Tables.{length-table}
-use Rattle.rules.specs.declared.task.Task.{Task}
 use Rattle.rules.specs.declared.message.Network.{Network}
 use Rattle.rules.specs.declared.step.Report.{Report}
 use Rattle.rules.specs.declared.step.Step.{Step}
+use Rattle.rules.specs.declared.system.TaskTable.{TaskTable}
 use Rattle.rules.specs.declared.system.Channels.{Channels}
 use Rattle.rules.specs.declared.system.Parents.{Parents}
 use Rattle.rig_parts.specs.declared.kept.Kept.{Kept}
@@ -27,7 +27,7 @@ use Rattle.rig_step.specs.Rigs.{RigWith}
 abbrev pub lentBy : Kept → List ℕ → Lent
 lentBy s board = lent (s .store .tables .hintprocessors) (s .store .tables .hintmoves) (s .store .tables .heldprocessors) (s .store .tables .heldnumbers) (s .store .tables .notes) board
 
-module _ (count : ℕ) (codes numbers senders receivers parents : List ℕ) (n : ℕ) (ts : List Task) (k : Network) (s : Kept) (users board : List ℕ)
+module _ (count : ℕ) (codes numbers senders receivers parents : List ℕ) (n : ℕ) (ts : TaskTable) (k : Network) (s : Kept) (users board : List ℕ)
     (b : Built senders receivers parents users) (et : tasksOn board ≡ ts) (ec : channelsOn board ≡ s .store .channels) (ep : parentsOn board ≡ s .parents) where
   abbrev given : Facts
   given = facts count codes numbers senders receivers parents
@@ -40,7 +40,7 @@ module _ (count : ℕ) (codes numbers senders receivers parents : List ℕ) (n :
   turn-same : (x : Step) → turnOf (factsIn count codes numbers users) n (tasksOn board) k (keptOf (lentBy s board)) x ≡ turnOf given n ts k s x
   turn-same x = rw (b .senders-of, b .receivers-of, b .parents-of, et, ec, ep) refl
 
-  pub packed-turn : (x : Step) (l' : Lent) {q : Report} {us : List Task} {k' : Network} (steps : List ℕ) {before progress after : List ℕ} {c' : Channels} {p' : Parents}
+  pub packed-turn : (x : Step) (l' : Lent) {q : Report} {us : TaskTable} {k' : Network} (steps : List ℕ) {before progress after : List ℕ} {c' : Channels} {p' : Parents}
       → q ≡ turnOf (factsIn count codes numbers users) n (tasksOn board) k (keptOf (lentBy s board)) x .report
       → fileSteps steps ≡ x ∷ []
       → RanTo (turnsOf (factsIn count codes numbers users) n (tasksOn board) k (keptOf (lentBy s board)) (fileSteps steps)) before (tasksOf l') k' (keptOf l') progress after
@@ -55,7 +55,7 @@ module _ (count : ℕ) (codes numbers senders receivers parents : List ℕ) (n :
       all ∙ turn-same x
 
 -- who uses what in the plan of a rig
-pub few-of : {count : ℕ} {codes numbers senders receivers parents : List ℕ} {n : ℕ} {ts : List Task} {s : Kept} {used : ℕ}
+pub few-of : {count : ℕ} {codes numbers senders receivers parents : List ℕ} {n : ℕ} {ts : TaskTable} {s : Kept} {used : ℕ}
     → PartsOf (facts count codes numbers senders receivers parents) n ts s used → Few senders receivers parents
 few-of p =
     let r = p .system in

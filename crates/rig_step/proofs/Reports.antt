@@ -2,9 +2,9 @@
 use mathlib.Core.Path.{_≡_, refl, sym, ap, _∙_, subst}
 use mathlib.Core.List.{List}
 use Prim.Native.Nat.{ℕ}
-use Rattle.rules.specs.declared.task.Task.{Task}
 use Rattle.rules.specs.declared.message.Network.{Network}
 use Rattle.rules.specs.declared.step.Step.{Step}
+use Rattle.rules.specs.declared.system.TaskTable.{TaskTable}
 use Rattle.rig_parts.specs.declared.kept.Kept.{Kept}
 use Rattle.rules.specs.Networks.{messageAt, dequeued}
 use Rattle.rig_parts.specs.declared.change.Verdict.{Verdict}
@@ -23,12 +23,12 @@ use Rattle.board.specs.Acted.{actOf}
 use Rattle.board.specs.Verdicts.{stepVerdict}
 use Rattle.run.proofs.all_steps.Acting.{reportOf, other-turn, message-turn}
 
-settled-says : (ss rs : List ℕ) (n : ℕ) (v : Verdict) (ts : List Task) (k : Network) (s : Kept) → reportOf (actOf v) ≡ settled ss rs n v ts k s .report
+settled-says : (ss rs : List ℕ) (n : ℕ) (v : Verdict) (ts : TaskTable) (k : Network) (s : Kept) → reportOf (actOf v) ≡ settled ss rs n v ts k s .report
 unfolding carriedOut
 settled-says ss rs n (Refused q) ts k s = refl
 settled-says ss rs n (Accepted y) ts k s = refl
 
-module _ (f : Facts) (n : ℕ) (ts : List Task) (k : Network) (s : Kept) (x : Step) where
+module _ (f : Facts) (n : ℕ) (ts : TaskTable) (k : Network) (s : Kept) (x : Step) where
   -- a step that delivers no letter
   pub other-says : positionOf (k .used) x ≡ 0 → {r : Act} → r ≡ actOf (stepVerdict f n ts s (k .used) x) → reportOf r ≡ turnOf f n ts k s x .report
   other-says none e =

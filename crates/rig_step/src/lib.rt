@@ -81,6 +81,7 @@ pub fn step(r: System, s: Step) -> Stepped
     let now_tables = now_store.tables;
     let now_channels = now_store.channels;
     let now_parents = left.parents;
+    let chosen = r.chosen;
     let system = System {
         processors: processors,
         plan: plan,
@@ -89,6 +90,7 @@ pub fn step(r: System, s: Step) -> Stepped
         channels: now_channels,
         parents: now_parents,
         network: network,
+        chosen: chosen,
     };
     Stepped {
         report: report,

@@ -3,13 +3,15 @@ ghost use mathlib.Core.Path.{_≡_};
 ghost use Prim.Native.Nat.{_<_, _/_, _%_, _+_};
 ghost use Rattle.plan.specs.Numbers.{taskId, processorId};
 ghost use Rattle.rules.specs.Systems.{readChannel, readParent};
-ghost use Rattle.board.specs.Lent.{Whole, tasksOn, channelsOn, parentsOn};
+ghost use Rattle.board.specs.Lent.{Whole, recordsOn, readyOn, tasksOn, channelsOn, parentsOn};
 use board::Board;
 use board::channel_at;
 use board::parent_at;
 use board::put_channel;
 use board::put_parent;
 use board::put_task;
+use board::ready::put_set;
+use board::ready::ready_at;
 use board::task_at;
 use plan::ChannelId;
 use plan::ProcessorId;
@@ -20,6 +22,7 @@ use rules::channel::Offer;
 use rules::system::Channels;
 use rules::system::ParentEntry;
 use rules::system::Parents;
+use rules::system::TaskTable;
 use rules::task::Task;
 
 // The entry of the channel after the first k.
@@ -45,18 +48,44 @@ fn channel_of(channels: Channels, k: usize) -> Channel
     }
 }
 
-// The board's tasks become these.
-pub fn put_tasks(board: &mut Board, tasks: [Task; 64])
+// The records of the board's tasks become these.
+fn put_records(board: &mut Board, records: [Task; 64])
     requires { ⌜ Whole (now board) ⌝ }
-    ensures { λ r. ⌜ (Whole (now (board .exit))) × (tasksOn (now (board .exit)) ≡ tasks) × (channelsOn (now (board .exit)) ≡ channelsOn (now (board .entry))) ⌝ }
+    ensures { λ r. ⌜ (Whole (now (board .exit))) × (recordsOn (now (board .exit)) ≡ records) × (channelsOn (now (board .exit)) ≡ channelsOn (now (board .entry))) ⌝ }
 {
     let mut k: u8 = 0;
     while k < 64 {
         let at = base::wide8(k);
-        let x = tasks[at];
+        let x = records[at];
         put_task(board, TaskId(k + 1), x);
         k += 1;
     }
+}
+
+// The board's sets of ready tasks become these.
+fn put_sets(board: &mut Board, ready: [u64; 6])
+    requires { ⌜ Whole (now board) ⌝ }
+    ensures { λ r. ⌜ (Whole (now (board .exit))) × (readyOn (now (board .exit)) ≡ ready) × (recordsOn (now (board .exit)) ≡ recordsOn (now (board .entry)))
+        × (channelsOn (now (board .exit)) ≡ channelsOn (now (board .entry))) ⌝ }
+{
+    let mut k: u8 = 0;
+    while k < 6 {
+        let at = base::wide8(k);
+        let s = ready[at];
+        put_set(board, ProcessorId(k + 1), s);
+        k += 1;
+    }
+}
+
+// The board's tasks become these.
+pub fn put_tasks(board: &mut Board, tasks: TaskTable)
+    requires { ⌜ Whole (now board) ⌝ }
+    ensures { λ r. ⌜ (Whole (now (board .exit))) × (tasksOn (now (board .exit)) ≡ tasks) × (channelsOn (now (board .exit)) ≡ channelsOn (now (board .entry))) ⌝ }
+{
+    let records = tasks.records;
+    let ready = tasks.ready;
+    put_records(board, records);
+    put_sets(board, ready);
 }
 
 // The board's channels become these.
@@ -72,20 +101,47 @@ pub fn put_channels(board: &mut Board, channels: Channels)
     }
 }
 
-// The tasks of a board.
-pub fn tasks_on(board: &Board) -> [Task; 64]
-    ensures { λ r. ⌜ r ≡ tasksOn (now (board .entry)) ⌝ }
+// The records of the tasks of a board.
+fn records_on(board: &Board) -> [Task; 64]
+    ensures { λ r. ⌜ r ≡ recordsOn (now (board .entry)) ⌝ }
 {
     let first = task_at(board, TaskId(1));
-    let mut tasks = [first; 64];
+    let mut records = [first; 64];
     let mut k: u8 = 0;
     while k < 64 {
         let x = task_at(board, TaskId(k + 1));
         let at = base::wide8(k);
-        tasks[at] = x;
+        records[at] = x;
         k += 1;
     }
-    tasks
+    records
+}
+
+// The sets of ready tasks of a board.
+fn sets_on(board: &Board) -> [u64; 6]
+    ensures { λ r. ⌜ r ≡ readyOn (now (board .entry)) ⌝ }
+{
+    let mut ready = [0u64; 6];
+    let mut k: u8 = 0;
+    while k < 6 {
+        let s = ready_at(board, ProcessorId(k + 1));
+        let at = base::wide8(k);
+        ready[at] = s;
+        k += 1;
+    }
+    ready
+}
+
+// The tasks of a board.
+pub fn tasks_on(board: &Board) -> TaskTable
+    ensures { λ r. ⌜ r ≡ tasksOn (now (board .entry)) ⌝ }
+{
+    let records = records_on(board);
+    let ready = sets_on(board);
+    TaskTable {
+        records: records,
+        ready: ready,
+    }
 }
 
 // The channels of a board.

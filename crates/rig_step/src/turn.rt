@@ -24,7 +24,7 @@ use rules::step::Report;
 use rules::step::Step;
 use rules::system::Store;
 use rules::system::Tables;
-use rules::task::Task;
+use rules::system::TaskTable;
 use run::all_steps::run_steps;
 use steps::message::message_decided;
 use steps::step_decided;
@@ -114,7 +114,7 @@ pub fn turn<'a>(
     receivers: &'a [u8; 129],
     parents: &'a [u8; 129],
     processors: u8,
-    tasks: [Task; 64],
+    tasks: TaskTable,
     network: Network,
     kept: Kept,
     s: Step,
@@ -127,7 +127,7 @@ pub fn turn<'a>(
 {
     let mut users = [0u8; 1024];
     build(senders, receivers, parents, &mut users);
-    let mut board = [0u64; 1088];
+    let mut board = [0u64; 1094];
     put_tasks(&mut board, tasks);
     let store = kept.store;
     let channels = store.channels;

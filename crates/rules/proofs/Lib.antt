@@ -22,6 +22,8 @@ pub mod TaskCases
 pub mod StepCases
 -- two runs at different desks, in either order
 pub mod OrderCases
+-- sets of ready tasks, and calls of a dispatcher
+pub mod DispatchCases
 -- the four levels of a word
 pub mod LevelCases
 -- the mark of a sum over the top

@@ -2,8 +2,8 @@
 use mathlib.Core.Path.{_≡_, refl}
 use mathlib.Core.Bool.{true}
 use Rattle.base.specs.Lists.{every}
-use Rattle.rules.specs.Sound.{hintOk, offerOk, messageOk, taskOk, originOk, tablesOk, channelEntriesOk, parentsOk, networkOk}
-use Rattle.rules.proofs.SoundEdges.{judged, program, hintSamples, offerSamples, messageSamples, taskSamples, originSamples, firstSamples, tablesSamples, channelsSamples, parentsSamples, networkSamples}
+use Rattle.rules.specs.Sound.{hintOk, offerOk, messageOk, taskOk, originOk, tablesOk, channelEntriesOk, parentsOk, readyOk, chosenOk, networkOk}
+use Rattle.rules.proofs.SoundEdges.{judged, program, hintSamples, offerSamples, messageSamples, taskSamples, originSamples, firstSamples, tablesSamples, channelsSamples, parentsSamples, readySamples, chosenSamples, networkSamples}
 use Rattle.rules.proofs.Evaluated.{evaluated}
 
 all-hints : every (judged (hintOk 2)) hintSamples ≡ true
@@ -41,6 +41,14 @@ all-channels = refl
 all-parents : every (judged (parentsOk 2 3)) parentsSamples ≡ true
 unfolding evaluated parentsSamples
 all-parents = refl
+
+all-ready : every (judged (readyOk 3)) readySamples ≡ true
+unfolding evaluated readySamples
+all-ready = refl
+
+all-chosen : every (judged (chosenOk 3)) chosenSamples ≡ true
+unfolding evaluated chosenSamples
+all-chosen = refl
 
 all-networks : every (judged (networkOk 2 3)) networkSamples ≡ true
 unfolding evaluated networkSamples

@@ -17,6 +17,7 @@ use Rattle.rules.specs.declared.message.Network.{Network}
 use Rattle.rules.specs.declared.system.Tables.{Tables}
 use Rattle.rules.specs.declared.system.Channels.{Channels}
 use Rattle.rules.specs.declared.system.Parents.{Parents}
+use Rattle.rules.specs.declared.system.TaskTable.{TaskTable}
 use Rattle.rules.specs.Numbers.{taskId, processorId, channelId}
 use Rattle.rules.specs.Tasks.{unborn, born, withState, withProcessor, withPc, withWord, withMoves, withChildren}
 use Rattle.rules.specs.Cells.{hint, unknown, offer, noOffer}
@@ -135,6 +136,22 @@ parentsSamples =
     fine (parents (hint (processorId 2) 9999) 7) ∷ fine (parents unknown 7)
     ∷ wrong (parents (hint (processorId 3) 1) 0) ∷ wrong (parents (hint (processorId 1) 0) 0) ∷ wrong (parents (hint (processorId 0) 1) 0)
     ∷ wrong (parents (hint (processorId 1) 10000) 0) ∷ wrong (parents unknown 8) ∷ []
+
+-- tasks ready at desk 2, unborn and ready at desk 1, and a fourth record that is no task of the rig; with the sets of the first two desks and the last
+abbrev tasks : ℕ → ℕ → ℕ → TaskTable
+tasks one two six =
+    record {
+      records = born (processorId 2) unknown ∷ unborn ∷ born (processorId 1) unknown ∷ born (processorId 1) unknown ∷ [];
+      ready = one ∷ two ∷ 0 ∷ 0 ∷ 0 ∷ six ∷ [];
+    }
+
+-- "a stored set that differs from the rig": a task too few, too many, at another desk, above T, at a desk that the rig has not
+unfoldable pub readySamples : List (Sample TaskTable)
+readySamples = fine (tasks 4 1 0) ∷ wrong (tasks 0 1 0) ∷ wrong (tasks 6 1 0) ∷ wrong (tasks 5 0 0) ∷ wrong (tasks 12 1 0) ∷ wrong (tasks 4 1 1) ∷ []
+
+-- "a last choice above T (0 at first)"
+unfoldable pub chosenSamples : List (Sample (List ℕ))
+chosenSamples = fine (0 ∷ 0 ∷ 0 ∷ 0 ∷ 0 ∷ 0 ∷ []) ∷ fine (3 ∷ 1 ∷ 0 ∷ 0 ∷ 0 ∷ 3 ∷ []) ∷ wrong (4 ∷ 0 ∷ 0 ∷ 0 ∷ 0 ∷ 0 ∷ []) ∷ wrong (0 ∷ 0 ∷ 0 ∷ 0 ∷ 0 ∷ 4 ∷ []) ∷ []
 
 -- one pointer, one held offer and one note, behind an entry with none
 abbrev tables : Hint → Offer → ℕ → Tables

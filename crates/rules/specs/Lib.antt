@@ -1,5 +1,6 @@
 -- What the paper says of the rig: first what it is made of and how it is read and changed, then start, run, deliver, move, refusal 9, steps,
 -- trace and step file, what is sent and the logs.
+-- the dispatcher, trace and step file.
 pub mod Numbers
 pub mod Answers
 pub mod Hints
@@ -21,6 +22,7 @@ pub mod Deliver
 pub mod Moves
 pub mod Sound
 pub mod Steps
+pub mod Dispatch
 pub mod Trace
 pub mod StepFiles
 pub mod Logs

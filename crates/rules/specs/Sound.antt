@@ -1,14 +1,17 @@
 -- When a rig is not refused by 9: "a number in the rig outside the limits above (desks and tasks are the rig's own; 0 stands only where this
 -- paper names it), an unborn or moving task not as said above, a place 0 or past the last instruction (of a done task, more than one past), a
 -- sending or receiving task that has executed no instruction or whose last executed one is of another kind, or a plan in the rig that 2 to 6
--- would refuse". Every table entry is looked at, every letter in use, and tasks 1 to T.
+-- would refuse"; "which now everywhere also covers a stored set that differs from the rig and a last choice above T". Every table entry is looked
+-- at, every letter in use, tasks 1 to T, and the sets and last choices of all six desks.
 use mathlib.Core.Bool.{Bool, false, not, _&&_, _||_}
-use Prim.Native.Nat.{ℕ, _+_, _^_}
-use lib.ListN.{length}
+use mathlib.Core.List.{List}
+use Prim.Native.Nat.{ℕ, suc, _+_, _^_}
+use lib.ListN.{length, getD}
 use lib.Dec.{eqb, ltb, leb}
 use Rattle.base.specs.Choice.{pick, within}
-use Rattle.base.specs.Range.{upTo}
+use Rattle.base.specs.Range.{below, upTo}
 use Rattle.base.specs.Lists.{every, everyPair}
+use Rattle.base.specs.Sets.{setOf}
 use Rattle.plan.specs.Answers.{isAccepted}
 use Rattle.plan.specs.Kinds.{opSend, opReceive}
 use Rattle.plan.specs.Words.{wordNumbers}
@@ -24,13 +27,14 @@ use Rattle.rules.specs.declared.message.Network.{Network}
 use Rattle.rules.specs.declared.system.Tables.{Tables}
 use Rattle.rules.specs.declared.system.Channels.{Channels}
 use Rattle.rules.specs.declared.system.Parents.{Parents}
+use Rattle.rules.specs.declared.system.TaskTable.{TaskTable}
 use Rattle.rules.specs.declared.system.System.{System}
 use Rattle.rules.specs.Numbers.{taskId, processorId, isNone, processorOk, taskNumberOk, channelNumberOk, networkSize, mostMoves}
 use Rattle.rules.specs.Tasks.{isIn}
 use Rattle.rules.specs.Cells.{hint, isUnknown, offer}
 use Rattle.rules.specs.Networks.{messages}
 use Rattle.rules.specs.Places.{lastIn}
-use Rattle.rules.specs.Systems.{taskAt, taskProgram, meaning}
+use Rattle.rules.specs.Systems.{taskIn, taskAt, isReadyAt, taskProgram, meaning}
 
 -- a move count of a task that was born; "Offers are numbered 1 to 64"
 abbrev pub movesOk : ℕ → Bool
@@ -112,6 +116,14 @@ parentsOk n m x =
     everyPair (λ d k. hintOk n (hint (processorId d) k)) (x .hintprocessors) (x .hintmoves)
     && every (λ s. ltb s (2 ^ m)) (x .held)
 
+-- "a stored set that differs from the rig": of each of six desks, in a rig of m tasks
+unfoldable pub readyOk : ℕ → TaskTable → Bool
+readyOk m ts = below 6 (λ k. eqb (getD (ts .ready) k 0) (setOf m (λ t. isReadyAt (processorId (suc k)) (taskIn ts (taskId t)))))
+
+-- "and a last choice above T"
+unfoldable pub chosenOk : ℕ → List ℕ → Bool
+chosenOk m x = every (λ t. leb t m) x
+
 unfoldable pub systemOk : System → Bool
 systemOk r =
     within 1 6 (r .processors)
@@ -121,4 +133,6 @@ systemOk r =
     && (tablesOk (r .processors) (r .tables)
     && (channelEntriesOk (r .processors) (r .channels)
     && (parentsOk (r .processors) (r .plan .tasks) (r .parents)
-    && networkOk (r .processors) (r .plan .tasks) (r .network)))))))
+    && (readyOk (r .plan .tasks) (r .tasks)
+    && (chosenOk (r .plan .tasks) (r .chosen)
+    && networkOk (r .processors) (r .plan .tasks) (r .network)))))))))

@@ -14,6 +14,7 @@ use Rattle.rules.specs.declared.system.Tables.{Tables}
 use Rattle.rules.specs.declared.system.Channels.{Channels}
 use Rattle.rules.specs.declared.system.Parents.{Parents}
 use Rattle.rules.specs.declared.system.ParentEntry.{ParentEntry}
+use Rattle.rules.specs.declared.system.TaskTable.{TaskTable}
 use Rattle.rules.specs.declared.system.System.{System}
 use Rattle.rules.specs.Numbers.{taskId, processorId}
 use Rattle.rules.specs.Tasks.{unborn, born}
@@ -39,9 +40,9 @@ pointed r d t h = withParent r d t (pointing (parentAt r d t) h)
 unfoldable pub birth : System → TaskId → ProcessorId → Hint → System
 birth r t d own = forReceiving (pointed (withTask r t (born d own)) d t (hint d 1)) t d (located d 1)
 
--- "the rest are unborn"
-abbrev pub unbornTasks : List Task
-unbornTasks = replicate 64 unborn
+-- "the rest are unborn"; so none is ready
+abbrev pub unbornTasks : TaskTable
+unbornTasks = record { records = replicate 64 unborn; ready = replicate 6 0 }
 
 -- "a pointer .., a held offer and a noted advert: .. 768 entries each, none at the start"
 abbrev pub noTables : Tables
@@ -74,9 +75,14 @@ noParents = record { hintprocessors = replicate 384 0; hintmoves = replicate 384
 abbrev pub noMessages : Network
 noMessages = record { slots = replicate 256 noSlot; used = 0 }
 
+-- "a last choice .. (0 at first)"
+abbrev pub noneChosen : List ℕ
+noneChosen = replicate 6 0
+
 -- a rig before the birth of task 1
 unfoldable pub blank : ℕ → Plan → System
-blank n p = record { processors = n; plan = p; tasks = unbornTasks; tables = noTables; channels = noChannels; parents = noParents; network = noMessages }
+blank n p =
+    record { processors = n; plan = p; tasks = unbornTasks; tables = noTables; channels = noChannels; parents = noParents; network = noMessages; chosen = noneChosen }
 
 -- "Task 1 is ready at desk 1"; "its start is a birth at desk 1"; its own pointer is both 0 "always for task 1, which has no parent"
 unfoldable pub started : ℕ → Plan → System

@@ -1,16 +1,18 @@
--- The rig read and changed: a task, a cell, what a desk keeps for a parent, the mail; each in the part of the rig that it is in, then in the rig. Nothing above looks into
+-- The rig read and changed: a task, with the sets of ready tasks, a cell, what a desk keeps for a parent, the mail; each in the part of the rig that it is in, then in the rig. Nothing above looks into
 -- an array.
-use mathlib.Core.Bool.{false}
-use mathlib.Core.List.{List}
-use Prim.Native.Nat.{ℕ, _+_, _-_, _*_}
+use mathlib.Core.Bool.{Bool, false, _&&_}
+use mathlib.Core.List.{List, [], _∷_}
+use Prim.Native.Nat.{ℕ, suc, _+_, _-_, _*_}
 use lib.Dec.{eqb}
 use lib.ListN.{getD, set}
 use Rattle.base.specs.Choice.{pick}
+use Rattle.base.specs.Sets.{inserted, removed}
 use Rattle.plan.specs.declared.TaskId.{TaskId}
 use Rattle.plan.specs.declared.ProcessorId.{ProcessorId}
 use Rattle.plan.specs.declared.ChannelId.{ChannelId}
 use Rattle.plan.specs.Programs.{Program, Programs, programAt, programs}
 use Rattle.rules.specs.declared.task.Task.{Task}
+use Rattle.rules.specs.declared.task.TaskState.the-variants.{Ready}
 use Rattle.rules.specs.declared.channel.Entry.{Entry}
 use Rattle.rules.specs.declared.channel.Channel.{Channel}
 use Rattle.rules.specs.declared.channel.Cell.{Cell}
@@ -20,9 +22,10 @@ use Rattle.rules.specs.declared.system.Channels.{Channels}
 use Rattle.rules.specs.declared.system.Store.{Store}
 use Rattle.rules.specs.declared.system.Parents.{Parents}
 use Rattle.rules.specs.declared.system.ParentEntry.{ParentEntry}
+use Rattle.rules.specs.declared.system.TaskTable.{TaskTable}
 use Rattle.rules.specs.declared.system.System.{System}
 use Rattle.rules.specs.Numbers.{processorId}
-use Rattle.rules.specs.Tasks.{noTask}
+use Rattle.rules.specs.Tasks.{noTask, isIn, isAt}
 use Rattle.rules.specs.Cells.{hint, offer}
 
 -- what a rig keeps for channels, at desks and for the channels themselves
@@ -33,26 +36,50 @@ abbrev pub storeIn : System → Store
 storeIn r = store (r .tables) (r .channels)
 
 -- the rig with one part changed
-abbrev pub withTasks : System → List Task → System
-withTasks r x = record { processors = r .processors; plan = r .plan; tasks = x; tables = r .tables; channels = r .channels; parents = r .parents; network = r .network }
+abbrev pub withTasks : System → TaskTable → System
+withTasks r x = record { processors = r .processors; plan = r .plan; tasks = x; tables = r .tables; channels = r .channels; parents = r .parents; network = r .network; chosen = r .chosen }
 
 abbrev pub withStore : System → Store → System
 withStore r s =
-    record { processors = r .processors; plan = r .plan; tasks = r .tasks; tables = s .tables; channels = s .channels; parents = r .parents; network = r .network }
+    record { processors = r .processors; plan = r .plan; tasks = r .tasks; tables = s .tables; channels = s .channels; parents = r .parents; network = r .network; chosen = r .chosen }
 
 abbrev pub withNetwork : System → Network → System
-withNetwork r x = record { processors = r .processors; plan = r .plan; tasks = r .tasks; tables = r .tables; channels = r .channels; parents = r .parents; network = x }
+withNetwork r x = record { processors = r .processors; plan = r .plan; tasks = r .tasks; tables = r .tables; channels = r .channels; parents = r .parents; network = x; chosen = r .chosen }
 
 abbrev pub withParents : System → Parents → System
 withParents r x =
-    record { processors = r .processors; plan = r .plan; tasks = r .tasks; tables = r .tables; channels = r .channels; parents = x; network = r .network }
+    record { processors = r .processors; plan = r .plan; tasks = r .tasks; tables = r .tables; channels = r .channels; parents = x; network = r .network; chosen = r .chosen }
+
+abbrev pub withChosen : System → List ℕ → System
+withChosen r x =
+    record { processors = r .processors; plan = r .plan; tasks = r .tasks; tables = r .tables; channels = r .channels; parents = r .parents; network = r .network; chosen = x }
 
 -- task t of the tasks; "0 means none"
-unfoldable pub taskIn : List Task → TaskId → Task
-taskIn ts t = pick (eqb (t .0) 0) noTask (getD ts (t .0 - 1) noTask)
+unfoldable pub taskIn : TaskTable → TaskId → Task
+taskIn ts t = pick (eqb (t .0) 0) noTask (getD (ts .records) (t .0 - 1) noTask)
 
-unfoldable pub taskStored : List Task → TaskId → Task → List Task
-taskStored ts t x = pick (eqb (t .0) 0) ts (set ts (t .0 - 1) x)
+-- "the ready tasks of a desk": a task of desk d's set
+abbrev pub isReadyAt : ProcessorId → Task → Bool
+isReadyAt d x = isIn Ready x && isAt d x
+
+-- "Every accepted step updates the sets.": desk d's set, where the record of task t was x and becomes y. A task that becomes ready there joins it,
+-- one that was leaves it
+unfoldable pub readyThen : TaskId → Task → Task → ProcessorId → ℕ → ℕ
+readyThen t x y d s =
+    pick (isReadyAt d x)
+    (pick (isReadyAt d y) s (removed (t .0) s))
+    (pick (isReadyAt d y) (inserted (t .0) s) s)
+
+-- the sets of desks d, d + 1 and so on likewise
+unfoldable pub readySets : ℕ → TaskId → Task → Task → List ℕ → List ℕ
+readySets d t x y [] = []
+readySets d t x y (s ∷ ss) = readyThen t x y (processorId d) s ∷ readySets (suc d) t x y ss
+
+-- a task is stored, and with it its place in the sets of all six desks, which change nowhere else
+unfoldable pub taskStored : TaskTable → TaskId → Task → TaskTable
+taskStored ts t y =
+    pick (eqb (t .0) 0) ts
+    (record { records = set (ts .records) (t .0 - 1) y; ready = readySets 1 t (taskIn ts t) y (ts .ready) })
 
 -- of the rig
 abbrev pub taskAt : System → TaskId → Task
@@ -60,6 +87,13 @@ taskAt r t = taskIn (r .tasks) t
 
 unfoldable pub withTask : System → TaskId → Task → System
 withTask r t x = withTasks r (taskStored (r .tasks) t x)
+
+-- desk d's set, and the last task that its dispatcher chose
+abbrev pub readyAt : System → ProcessorId → ℕ
+readyAt r d = getD (r .tasks .ready) (d .0 - 1) 0
+
+abbrev pub chosenAt : System → ProcessorId → ℕ
+chosenAt r d = getD (r .chosen) (d .0 - 1) 0
 
 -- "six desks by 128 channels, 768 entries each": where the entry of desk d and channel c is, both from 1
 abbrev pub entryIndex : ProcessorId → ChannelId → ℕ

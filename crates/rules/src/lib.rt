@@ -4,6 +4,8 @@
 pub mod channel;
 // What two logs are answered.
 pub mod log;
+// What a call of a dispatcher gives.
+pub mod dispatch;
 // A letter, and the mail.
 pub mod message;
 // What a rule about one channel sees, leaves and posts.

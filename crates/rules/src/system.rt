@@ -53,13 +53,22 @@ pub struct ParentEntry {
     pub held: u64,
 }
 
-// The rig: how many desks, the plan, task t at t - 1, the tables, the channels, the parents, the mail.
+// The tasks: the record of task t at t - 1; and for each of six desks "the ready tasks of a desk as a 64-bit set", desk d's at d - 1,
+// bit t - 1 for task t.
+pub struct TaskTable {
+    pub records: [Task; 64],
+    pub ready: [u64; 6],
+}
+
+// The rig: how many desks, the plan, the tasks, the tables, the channels, the parents, the mail; and for each of six desks "the last
+// one chosen" by its dispatcher, a task's number or 0, desk d's at d - 1.
 pub struct System {
     pub processors: u8,
     pub plan: Plan,
-    pub tasks: [Task; 64],
+    pub tasks: TaskTable,
     pub tables: Tables,
     pub channels: Channels,
     pub parents: Parents,
     pub network: Network,
+    pub chosen: [u8; 6],
 }

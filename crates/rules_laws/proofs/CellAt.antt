@@ -36,6 +36,10 @@ module _ (r : System) (d : ProcessorId) (c : ChannelId) (x : Cell) where
   unfolding withCell
   withCell-tasks = refl
 
+  pub withCell-chosen : withCell r d c x .chosen ≡ r .chosen
+  unfolding withCell
+  withCell-chosen = refl
+
   pub withCell-network : withCell r d c x .network ≡ r .network
   unfolding withCell
   withCell-network = refl

@@ -28,6 +28,14 @@ module _ (r : System) (d : ProcessorId) (t : TaskId) (e : ParentEntry) where
   unfolding withParent
   withParent-plan = refl
 
+  pub withParent-tasks : withParent r d t e .tasks ≡ r .tasks
+  unfolding withParent
+  withParent-tasks = refl
+
+  pub withParent-chosen : withParent r d t e .chosen ≡ r .chosen
+  unfolding withParent
+  withParent-chosen = refl
+
   pub withParent-network : withParent r d t e .network ≡ r .network
   unfolding withParent
   withParent-network = refl

@@ -1,4 +1,4 @@
--- The arrays of a rig have their sizes from its start on, and its plan and its number of desks stay.
+-- The arrays of a rig have their sizes from its start on, and its plan and its number of desks stay; so do the last choices.
 use mathlib.Core.Path.{_≡_, refl, _∙_}
 use mathlib.Core.List.{List}
 use Prim.Native.Nat.{ℕ}
@@ -17,9 +17,9 @@ use Rattle.rules.specs.Systems.{withNetwork}
 use Rattle.rules.specs.Starts.{birth, blank, started}
 use Rattle.rules.specs.Steps.{step, steps}
 use Rattle.rules_laws.specs.Shapes.{Shaped}
-use Rattle.rules_laws.proofs.TaskAt.{withTask-processors, withTask-plan, withTask-shaped}
-use Rattle.rules_laws.proofs.CellAt.{withCell-processors, withCell-plan, withCell-shaped}
-use Rattle.rules_laws.proofs.ParentAt.{withParent-processors, withParent-plan, withParent-shaped}
+use Rattle.rules_laws.proofs.TaskAt.{withTask-processors, withTask-plan, withTask-chosen, withTask-shaped}
+use Rattle.rules_laws.proofs.CellAt.{withCell-processors, withCell-plan, withCell-chosen, withCell-shaped}
+use Rattle.rules_laws.proofs.ParentAt.{withParent-processors, withParent-plan, withParent-chosen, withParent-shaped}
 use Rattle.rules_laws.proofs.Messages.{enqueuedAll-size, dequeued-size}
 use Rattle.rules_laws.proofs.Changes.{Kept, written, birth-keeps, step-keeps, steps-keep}
 
@@ -74,6 +74,16 @@ module _ (r : System) where
         leave = λ q p some there few h. h;
       }
 
+  chosen-kept : Kept (λ q. q .chosen ≡ r .chosen)
+  chosen-kept =
+      record {
+        task = λ q t x h. withTask-chosen q t x ∙ h;
+        cell = λ q d c x h. withCell-chosen q d c x ∙ h;
+        parent = λ q d t e h. withParent-chosen q d t e ∙ h;
+        join = λ q ms h. h;
+        leave = λ q p some there few h. h;
+      }
+
   pub birth-plan : (t : TaskId) (d : ProcessorId) (own : Hint) → birth r t d own .plan ≡ r .plan
   birth-plan t d own = birth-keeps _ (written plan-kept) r t d own refl
 
@@ -86,8 +96,14 @@ module _ (r : System) where
   pub step-processors : (s : Step) → step r s .system .processors ≡ r .processors
   step-processors s = step-keeps _ processors-kept r s refl
 
+  pub step-chosen : (s : Step) → step r s .system .chosen ≡ r .chosen
+  step-chosen s = step-keeps _ chosen-kept r s refl
+
   pub steps-plan : (ss : List Step) → steps r ss .system .plan ≡ r .plan
   steps-plan ss = steps-keep _ plan-kept r ss refl
+
+  pub steps-chosen : (ss : List Step) → steps r ss .system .chosen ≡ r .chosen
+  steps-chosen ss = steps-keep _ chosen-kept r ss refl
 
   pub steps-processors : (ss : List Step) → steps r ss .system .processors ≡ r .processors
   steps-processors ss = steps-keep _ processors-kept r ss refl

@@ -12,7 +12,7 @@ use Rattle.plan.specs.Refusals.{planAnswer}
 use Rattle.rules.specs.declared.system.System.{System}
 use Rattle.rules.specs.Numbers.{taskId}
 use Rattle.rules.specs.Systems.{taskAt, taskProgram, meaning}
-use Rattle.rules.specs.Sound.{taskOk, originOk, tablesOk, channelEntriesOk, parentsOk, networkOk, systemOk}
+use Rattle.rules.specs.Sound.{taskOk, originOk, tablesOk, channelEntriesOk, parentsOk, readyOk, chosenOk, networkOk, systemOk}
 
 -- task t is in order
 abbrev pub taskOkIn : System → ℕ → Bool
@@ -30,6 +30,8 @@ pub record SystemPassed (r : System) : Type 0 where
   pub tables : tablesOk (r .processors) (r .tables) ≡ true
   pub channels : channelEntriesOk (r .processors) (r .channels) ≡ true
   pub parents : parentsOk (r .processors) (r .plan .tasks) (r .parents) ≡ true
+  pub ready : readyOk (r .plan .tasks) (r .tasks) ≡ true
+  pub chosen : chosenOk (r .plan .tasks) (r .chosen) ≡ true
   pub network : networkOk (r .processors) (r .plan .tasks) (r .network) ≡ true
 
 pub system-passed : (r : System) → systemOk r ≡ true → SystemPassed r
@@ -41,6 +43,8 @@ system-passed r h =
     let h₄ = and-right (upTo (r .plan .tasks) (originOkIn r)) _ h₃ in
     let h₅ = and-right (tablesOk (r .processors) (r .tables)) _ h₄ in
     let h₆ = and-right (channelEntriesOk (r .processors) (r .channels)) _ h₅ in
+    let h₇ = and-right (parentsOk (r .processors) (r .plan .tasks) (r .parents)) _ h₆ in
+    let h₈ = and-right (readyOk (r .plan .tasks) (r .tasks)) _ h₇ in
     record {
       processors = and-left (within 1 6 (r .processors)) _ h;
       plan = and-left (isAccepted (planAnswer (meaning r))) _ h₁;
@@ -49,7 +53,9 @@ system-passed r h =
       tables = and-left (tablesOk (r .processors) (r .tables)) _ h₄;
       channels = and-left (channelEntriesOk (r .processors) (r .channels)) _ h₅;
       parents = and-left (parentsOk (r .processors) (r .plan .tasks) (r .parents)) _ h₆;
-      network = and-right (parentsOk (r .processors) (r .plan .tasks) (r .parents)) _ h₆;
+      ready = and-left (readyOk (r .plan .tasks) (r .tasks)) _ h₇;
+      chosen = and-left (chosenOk (r .plan .tasks) (r .chosen)) _ h₈;
+      network = and-right (chosenOk (r .plan .tasks) (r .chosen)) _ h₈;
     }
 
 pub system-ok : (r : System) → SystemPassed r → systemOk r ≡ true
@@ -61,7 +67,9 @@ system-ok r h =
     (and-both (upTo (r .plan .tasks) (originOkIn r)) _ (h .origins)
     (and-both (tablesOk (r .processors) (r .tables)) _ (h .tables)
     (and-both (channelEntriesOk (r .processors) (r .channels)) _ (h .channels)
-    (and-both (parentsOk (r .processors) (r .plan .tasks) (r .parents)) _ (h .parents) (h .network)))))))
+    (and-both (parentsOk (r .processors) (r .plan .tasks) (r .parents)) _ (h .parents)
+    (and-both (readyOk (r .plan .tasks) (r .tasks)) _ (h .ready)
+    (and-both (chosenOk (r .plan .tasks) (r .chosen)) _ (h .chosen) (h .network)))))))))
 
 -- "256 letters in the mail"
 pub messages-fit : (r : System) → systemOk r ≡ true → r .network .used ≤ 256

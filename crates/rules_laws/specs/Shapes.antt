@@ -4,7 +4,10 @@ use lib.ListN.{length}
 use Rattle.rules.specs.declared.system.System.{System}
 
 pub record Shaped (r : System) : Type 0 where
-  pub tasks : length (r .tasks) ≡ 64
+  pub tasks : length (r .tasks .records) ≡ 64
+  -- six desks
+  pub ready : length (r .tasks .ready) ≡ 6
+  pub chosen : length (r .chosen) ≡ 6
   -- six desks by 128 channels
   pub hintprocessors : length (r .tables .hintprocessors) ≡ 768
   pub hintmoves : length (r .tables .hintmoves) ≡ 768

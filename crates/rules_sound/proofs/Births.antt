@@ -36,7 +36,7 @@ birth-stands n p k s r w t h d o own fine =
     let high : d .0 ≤ 6 = omega (arith, s .few, within-high 1 n (d .0) o) in
     let known = and-both (processorOk n d) _ o refl in
     let here =
-    task-stands n p k r w few t (born d own) (λ l. birth-ok n (p .tasks) (programIn p t) d own o (pow-pos (p .tasks)) (program-in n p s t l h .some))
+    task-stands n p k r w few t (born d own) h (λ l. birth-ok n (p .tasks) (programIn p t) d own o (pow-pos (p .tasks)) (program-in n p s t l h .some))
     (λ l. fine) in
     let e = parentAt q d t in
     let kept = parent-stands n p k q here d t high (omega arith) (pointing e (hint d 1))

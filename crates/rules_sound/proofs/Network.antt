@@ -72,6 +72,8 @@ network-stands n p k r s q size =
             entries = s .holds .entries;
             channels = s .holds .channels;
             parents = s .holds .parents;
+            ready = s .holds .ready;
+            chosen = s .holds .chosen;
           };
     }
 

@@ -18,23 +18,24 @@ use Rattle.rules.specs.Numbers.{taskId, processorId, channelId}
 use Rattle.rules.specs.Systems.{withTask, cellAt, withCell, meaning, taskAt, parentIndex, withParent}
 use Rattle.rules.specs.Effects.{forChannels, receivesOn, sendsOn, forReceiving, forSending}
 use Rattle.rules.specs.Sound.{taskOk, originOk}
-use Rattle.rules_laws.proofs.TaskAt.{withTask-processors, withTask-plan, withTask-network, withTask-entryAt, withTask-channelAt, withTask-shaped, taskAt-same, taskAt-other}
+use Rattle.rules_laws.proofs.TaskAt.{withTask-tasks, withTask-processors, withTask-plan, withTask-network, withTask-chosen, withTask-entryAt, withTask-channelAt, withTask-shaped, taskAt-same, taskAt-other}
+use Rattle.rules_laws.proofs.Ready.{ready-stored}
 use Rattle.rules_laws.proofs.ForChannels.{forChannels-zero, forChannels-suc}
-use Rattle.rules_laws.proofs.CellAt.{withCell-processors, withCell-plan, withCell-network, withCell-taskAt, withCell-shaped, entryAt-same, entryAt-other-processor, entryAt-other-channel, channelAt-same, channelAt-other}
+use Rattle.rules_laws.proofs.CellAt.{withCell-processors, withCell-plan, withCell-tasks, withCell-network, withCell-chosen, withCell-taskAt, withCell-shaped, entryAt-same, entryAt-other-processor, entryAt-other-channel, channelAt-same, channelAt-other}
 use Rattle.rules_sound.specs.Fine.{FineCell, FineParent}
 use Rattle.rules_sound.specs.Sound.{programIn}
 use Rattle.rules_sound.specs.Stands.{Stands}
 use Rattle.rules.specs.declared.system.ParentEntry.{ParentEntry}
-use Rattle.rules_laws.proofs.ParentAt.{withParent-processors, withParent-plan, withParent-network, withParent-taskAt, withParent-entryAt, withParent-channelAt, withParent-shaped, parentAt-index, parentAt-place, withTask-parentAt, withCell-parentAt}
+use Rattle.rules_laws.proofs.ParentAt.{withParent-processors, withParent-plan, withParent-tasks, withParent-network, withParent-chosen, withParent-taskAt, withParent-entryAt, withParent-channelAt, withParent-shaped, parentAt-index, parentAt-place, withTask-parentAt, withCell-parentAt}
 use Rattle.rules_sound.specs.Sites.{SameOrigin}
 use Rattle.rules_sound.proofs.Origins.{origin-kept}
 
 module _ (n : ℕ) (p : Plan) (k : Network) where
   module _ (r : System) (s : Stands n p k r) where
     -- task 0 is none, so nothing is asked of what is written there
-    pub task-stands : p .tasks ≤ 64 → (t : TaskId) (x : Task) → (1 ≤ t .0 → taskOk n (p .tasks) (programIn p t) x ≡ true)
+    pub task-stands : p .tasks ≤ 64 → (t : TaskId) (x : Task) → t .0 ≤ p .tasks → (1 ≤ t .0 → taskOk n (p .tasks) (programIn p t) x ≡ true)
         → (1 ≤ t .0 → originOk n (t .0) x ≡ true) → Stands n p k (withTask r t x)
-    task-stands few t x f own =
+    task-stands few t x high f own =
         record {
           processors = withTask-processors r t x ∙ s .processors;
           plan = withTask-plan r t x ∙ s .plan;
@@ -61,13 +62,15 @@ module _ (n : ℕ) (p : Plan) (k : Network) where
                 entries = λ d c dl dh cl ch. rw (withTask-entryAt r t x d c) (s .holds .entries d c dl dh cl ch);
                 channels = λ c cl ch. rw (withTask-channelAt r t x c) (s .holds .channels c cl ch);
                 parents = λ d u dh uh. rw (withTask-parentAt r t x d u) (s .holds .parents d u dh uh);
+                ready = rw (withTask-tasks r t x) (ready-stored (p .tasks) (r .tasks) t x (s .shaped .tasks) (s .shaped .ready) high few (s .holds .ready));
+                chosen = rw (withTask-chosen r t x) (s .holds .chosen);
               };
         }
 
     -- a task that keeps its own pointer
     pub same-stands : p .tasks ≤ 64 → (t : TaskId) (x : Task) → t .0 ≤ p .tasks → (1 ≤ t .0 → taskOk n (p .tasks) (programIn p t) x ≡ true)
         → SameOrigin (taskAt r t) x → Stands n p k (withTask r t x)
-    same-stands few t x h f e = task-stands few t x f (λ l. origin-kept n (t .0) (taskAt r t) x e (s .holds .origins t l h))
+    same-stands few t x h f e = task-stands few t x h f (λ l. origin-kept n (t .0) (taskAt r t) x e (s .holds .origins t l h))
 
     -- what a desk keeps for a parent
     pub parent-stands : (d : ProcessorId) (t : TaskId) → d .0 ≤ 6 → t .0 ≤ 64 → (e : ParentEntry) → FineParent n (p .tasks) e → Stands n p k (withParent r d t e)
@@ -89,6 +92,8 @@ module _ (n : ℕ) (p : Plan) (k : Network) where
                     (ℕ-discrete (parentIndex a u) (parentIndex d t))
                     (λ (i : parentIndex a u ≡ parentIndex d t). rw (parentAt-index r d t e (s .shaped) dh th a u i) f)
                     (λ i. rw (parentAt-place r d t e a u i) (s .holds .parents a u ah uh));
+                ready = rw (withParent-tasks r d t e) (s .holds .ready);
+                chosen = rw (withParent-chosen r d t e) (s .holds .chosen);
               };
         }
 
@@ -108,6 +113,8 @@ module _ (n : ℕ) (p : Plan) (k : Network) where
                   tasks = λ t l h. rw (withCell-taskAt r d c x t) (s .holds .tasks t l h);
                   origins = λ t l h. rw (withCell-taskAt r d c x t) (s .holds .origins t l h);
                   parents = λ a t ah th. rw (withCell-parentAt r d c x a t) (s .holds .parents a t ah th);
+                  ready = rw (withCell-tasks r d c x) (s .holds .ready);
+                  chosen = rw (withCell-chosen r d c x) (s .holds .chosen);
                   entries =
                       λ e b el eh bl bh.
                       by-cases

@@ -137,7 +137,7 @@ module _ (r : System) (s : Startable (r .processors) (r .plan)) (w : Whole r) (t
       let first = withTask r v (o .parent) in
       let left = same-stands _ _ _ r w few v (o .parent) vh (λ z. f .parent (w .holds .tasks v z vh)) (f .parent-origin) in
       let both =
-      task-stands _ _ _ first left few t (o .task) (λ z. f .task)
+      task-stands _ _ _ first left few t (o .task) h (λ z. f .task)
       (λ z. origin-kept (r .processors) (t .0) (taskAt r t) (o .task) (f .task-origin) (w .holds .origins t l h)) in
       record { system = parent-stands _ _ _ (withTask first t (o .task)) both d v dh (omega arith) (o .entry) (f .entry); posting = f .posting }
 

@@ -64,7 +64,7 @@ module _ (r : System) (w : Whole r) where
           let k = r .network in
           let first = same-stands n p k r w few s (o .sender) sh (λ l. f .sender (w .holds .tasks s l sh)) (f .sender-origin) in
           let both =
-          task-stands n p k (withTask r s (o .sender)) first few u (o .receiver) (λ l. f .receiver (w .holds .tasks u l uh))
+          task-stands n p k (withTask r s (o .sender)) first few u (o .receiver) uh (λ l. f .receiver (w .holds .tasks u l uh))
           (λ l. origin-kept n (u .0) (taskAt r u) (o .receiver) (f .receiver-origin) (w .holds .origins u l uh)) in
           record { system = cell-stands n p k (withTask (withTask r s (o .sender)) u (o .receiver)) both d c dl dh cl ch (o .cell) (f .cell); posting = f .posting }
 

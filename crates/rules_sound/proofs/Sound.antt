@@ -41,6 +41,8 @@ module _ (r : System) (s : Shaped r) where
               entries = tables-fine n r s (b .tables);
               channels = channels-fine n r s (b .channels);
               parents = parents-fine n r s (r .plan .tasks) (b .parents);
+              ready = b .ready;
+              chosen = b .chosen;
             };
         network = record { messages = all; used = leb-true (r .network .used) 256 used };
       }
@@ -58,5 +60,7 @@ module _ (r : System) (s : Shaped r) where
         tables = fine-tables n r s (f .rig .entries);
         channels = fine-channels n r s (f .rig .channels);
         parents = fine-parents n r s (r .plan .tasks) (f .rig .parents);
+        ready = f .rig .ready;
+        chosen = f .rig .chosen;
         network = and-both (leb (r .network .used) 256) _ (le-leb (r .network .used) 256 (f .network .used)) (f .network .messages);
       })

@@ -1,15 +1,17 @@
 -- The rig at the start of an accepted plan is not refused by 9, and no step from there on is answered so.
-use mathlib.Core.Path.{_≡_, refl}
+use mathlib.Core.Path.{_≡_, refl, sym, _∙_, ap}
 use mathlib.Core.Bool.{true}
 use mathlib.Core.List.{List}
 use mathlib.Core.Logic.{_≢_}
-use Prim.Native.Nat.{ℕ, _-_, _≤_}
+use Prim.Native.Nat.{ℕ, suc, _-_, _≤_}
 use native.Mathlib.Omega.{arith}
 use lib.Pow.{pow-pos}
 use lib.ListN.{getD-replicate}
-use borrow.Author.Tests.{ne-eqb}
+use borrow.Author.Tests.{ne-eqb, le-leb}
 use Rattle.base.specs.Lists.{every}
 use Rattle.base.proofs.Tests.{within-both}
+use Rattle.base.proofs.SetsOf.{set-is}
+use Rattle.base.proofs.Sets.{none-member}
 use Rattle.plan.specs.declared.Plan.{Plan}
 use Rattle.plan.specs.declared.TaskId.{TaskId}
 use Rattle.plan.specs.declared.ProcessorId.{ProcessorId}
@@ -22,10 +24,11 @@ use Rattle.rules.specs.declared.step.StepAnswer.the-variants.{BadSystem}
 use Rattle.rules.specs.Numbers.{taskId, processorId}
 use Rattle.rules.specs.Tasks.{noTask, unborn}
 use Rattle.rules.specs.Networks.{messages}
-use Rattle.rules.specs.Systems.{taskAt, entryIndex, entryAt, channelAt, taskIn, parentIndex, parentAt}
+use Rattle.rules.specs.Systems.{isReadyAt, taskAt, entryIndex, entryAt, channelAt, taskIn, parentIndex, parentAt}
 use Rattle.rules.specs.Starts.{blank, started}
-use Rattle.rules.specs.Sound.{systemOk, originOk}
+use Rattle.rules.specs.Sound.{systemOk, originOk, readyOk, chosenOk}
 use Rattle.rules.specs.Steps.{stepAnswer, steps}
+use Rattle.rules_laws.proofs.Ready.{isReadyIn, ready-all}
 use Rattle.rules_laws.proofs.Shapes.{blank-shaped, started-shaped}
 use Rattle.rules_sound.specs.Fine.{FineEntry, FineChannel, FineParent}
 use Rattle.rules_sound.specs.Sound.{programIn, HoldsNetwork, Startable, Sound}
@@ -62,6 +65,20 @@ module _ (n : ℕ) (p : Plan) (s : Startable n p) where
       let z = getD-replicate {A = ℕ} 384 (parentIndex d t) 0 0 (omega arith) in
       record { hint = rw z refl; held = rw z (pow-pos (p .tasks)) }
 
+  -- no task is ready, and none was chosen
+  blank-ready : readyOk (p .tasks) (blank n p .tasks) ≡ true
+  unfolding blank
+  blank-ready =
+      ready-all (p .tasks) (blank n p .tasks)
+      (λ k l.
+      rw (getD-replicate {A = ℕ} 6 k 0 0 l)
+      (set-is (isReadyIn (blank n p .tasks) k) (p .tasks) 0 (pow-pos (p .tasks))
+      (λ t low high. none-member t ∙ sym (ap (isReadyAt (processorId (suc k))) (blank-tasks (taskId t) low high)))))
+
+  blank-chosen : chosenOk (p .tasks) (blank n p .chosen) ≡ true
+  unfolding blank chosenOk every
+  blank-chosen = rw (le-leb 0 (p .tasks) (omega arith)) refl
+
   blank-stands : Stands n p (blank n p .network) (blank n p)
   unfolding blank originOk
   blank-stands =
@@ -77,6 +94,8 @@ module _ (n : ℕ) (p : Plan) (s : Startable n p) where
               entries = λ d c dl dh cl ch. blank-entries d c dh ch;
               channels = λ c cl ch. blank-channels c ch;
               parents = λ d t dh th. blank-parents d t dh th;
+              ready = blank-ready;
+              chosen = blank-chosen;
             };
       }
 

@@ -64,7 +64,7 @@ module _ (good : WordOf → Bool) where
   -- the words of a rig; a task that is born, and one that there is not, have the zero word
   pub record GoodSystem (r : System) : Type 0 where
     pub zero : good zeroWord ≡ true
-    pub tasks : every taskGood (r .tasks) ≡ true
+    pub tasks : every taskGood (r .tasks .records) ≡ true
     pub slots : every slotGood (r .network .slots) ≡ true
 
   pub record GoodOutcome (o : Outcome) : Type 0 where

@@ -6,6 +6,7 @@ use Prim.Native.Nat.{ℕ}
 use Rattle.base.specs.Choice.{within}
 use Rattle.rules.specs.declared.task.Task.{Task}
 use Rattle.rules.specs.declared.step.StepAnswer.{StepAnswer}
+use Rattle.rules.specs.declared.system.TaskTable.{TaskTable}
 use Rattle.rules.specs.Numbers.{taskId}
 use Rattle.rules.specs.Answers.{isAccepted}
 use Rattle.rules.specs.Systems.{taskStored}
@@ -19,7 +20,7 @@ pub tested : {r : Bool} {w v a b : ℕ} → r ≡ within 1 w v → w ≡ a → v
 tested h p q = h ∙ rw (p, q) refl
 
 -- no task is stored
-pub stored-none : (ts : List Task) (z : Task) → taskStored ts (taskId 0) z ≡ ts
+pub stored-none : (ts : TaskTable) (z : Task) → taskStored ts (taskId 0) z ≡ ts
 unfolding taskStored
 stored-none ts z = refl
 

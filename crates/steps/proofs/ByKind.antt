@@ -1,14 +1,13 @@
 -- The verdict on a step, by its kind.
 use mathlib.Core.Path.{_≡_, refl}
 use mathlib.Core.Bool.{Bool, true, false}
-use mathlib.Core.List.{List}
 use Prim.Native.Nat.{ℕ}
 use borrow.Author.Tests.{ne-eqb}
 use lib.Dec.{eqb}
 use Rattle.base.specs.Choice.{pick, unless}
-use Rattle.rules.specs.declared.task.Task.{Task}
 use Rattle.rules.specs.declared.step.Step.{Step}
 use Rattle.rules.specs.declared.step.StepAnswer.the-variants.{NoMessage, BadStep}
+use Rattle.rules.specs.declared.system.TaskTable.{TaskTable}
 use Rattle.rig_parts.specs.declared.kept.Kept.{Kept}
 use Rattle.rules.specs.Numbers.{taskId, processorId}
 use Rattle.rules.specs.Steps.{wellFormed}
@@ -26,7 +25,7 @@ under true true v = refl
 under true false v = refl
 under false b v = refl
 
-module _ (f : Facts) (n : ℕ) (ts : List Task) (s : Kept) (used : ℕ) (x : Step) where
+module _ (f : Facts) (n : ℕ) (ts : TaskTable) (s : Kept) (used : ℕ) (x : Step) where
   abbrev verdict : Verdict
   verdict = stepVerdict f n ts s used x
 

@@ -14,6 +14,7 @@ use Rattle.rules.specs.declared.task.Task.{Task}
 use Rattle.rules.specs.declared.message.Message.{Message}
 use Rattle.rules.specs.declared.rule.Posting.the-variants.{Single}
 use Rattle.rules.specs.declared.step.StepAnswer.{StepAnswer}
+use Rattle.rules.specs.declared.system.TaskTable.{TaskTable}
 use Rattle.rules.specs.declared.system.Channels.{Channels}
 use Rattle.rules.specs.Answers.{isAccepted}
 use Rattle.rules.specs.Tasks.{departed}
@@ -58,7 +59,7 @@ module _ (k : Change) (a : StepAnswer) where
   said-of = said (isAccepted a) refl
 
 -- a move, by its answer
-module _ (m n : ℕ) (ts : List Task) (used : ℕ) (t : TaskId) (e : ProcessorId) where
+module _ (m n : ℕ) (ts : TaskTable) (used : ℕ) (t : TaskId) (e : ProcessorId) where
   abbrev answer : StepAnswer
   answer = moveRefusal m n ts used t e
 

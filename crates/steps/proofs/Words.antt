@@ -15,6 +15,7 @@ use Rattle.plan.specs.Words.{withLevel, setWord, addWord}
 use Rattle.rules.specs.declared.task.Task.{Task}
 use Rattle.rules.specs.declared.task.TaskState.the-variants.{Ready}
 use Rattle.rules.specs.declared.step.Step.{Step}
+use Rattle.rules.specs.declared.system.TaskTable.{TaskTable}
 use Rattle.rules.specs.declared.system.Channels.{Channels}
 use Rattle.rules.specs.declared.system.Store.{Store}
 use Rattle.rig_parts.specs.declared.kept.Kept.{Kept}
@@ -32,7 +33,7 @@ use Rattle.rig_parts.specs.Scopes.{alone, runScope}
 use Rattle.rig_parts.specs.RunVerdicts.{runRefusal, judgedRun, ranIn, runChange, sendIn, taskChange}
 use Rattle.rig_parts.proofs.BoundsReady.{nextAt}
 use Rattle.steps.specs.Words.{wordChanged}
-use Rattle.board.specs.Lent.{lent, Whole, tasksOn, channelsOn, storeOf, parentsOn, SameAbove}
+use Rattle.board.specs.Lent.{lent, Whole, tasksOn, channelsOn, storeOf, parentsOn, SameAbove, SameStanding}
 use Rattle.board.specs.Acted.{Acted, plainAct}
 use Rattle.board.specs.Verdicts.{stepVerdict}
 use Rattle.steps.proofs.Acting.{stored-none}
@@ -52,7 +53,11 @@ unfolding setWord addWord withLevel
 above-kept x i e =
     by-bool (eqb (i .opcode) 6) (λ q. rw (q, e) (refl, refl, refl)) (λ q. rw (q, e) (refl, refl, refl))
 
-module _ (f : Facts) (n : ℕ) (ts : List Task) (s : Kept) (used : ℕ) (x : Step) where
+-- and the task in its state at its desk
+pub standing-kept : (x : Task) (i : Instruction) → SameStanding x (wordChanged x i)
+standing-kept x i = by-bool (eqb (i .opcode) 6) (λ q. rw q (refl, refl)) (λ q. rw q (refl, refl))
+
+module _ (f : Facts) (n : ℕ) (ts : TaskTable) (s : Kept) (used : ℕ) (x : Step) where
   -- the task of the step, alone
   abbrev t : TaskId
   t = taskId (x .task)

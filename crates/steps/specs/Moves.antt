@@ -6,8 +6,8 @@ use Prim.Native.Nat.{ℕ, _≤_}
 use Rattle.base.specs.Choice.{within}
 use Rattle.plan.specs.declared.TaskId.{TaskId}
 use Rattle.plan.specs.declared.ProcessorId.{ProcessorId}
-use Rattle.rules.specs.declared.task.Task.{Task}
 use Rattle.rules.specs.declared.task.TaskState.the-variants.{Ready}
+use Rattle.rules.specs.declared.system.TaskTable.{TaskTable}
 use Rattle.rules.specs.Tasks.{isIn}
 use Rattle.rules.specs.Systems.{taskIn}
 use Rattle.rig_parts.specs.MoveVerdicts.{readyCounts, judgedMove}
@@ -18,7 +18,7 @@ use Rattle.board.specs.Lent.{lent, Whole, tasksOn}
 use Rattle.board.specs.Acted.{Acted}
 
 -- a ready task is at a desk
-abbrev pub readyPlaced : ℕ → List Task → TaskId → Type 0
+abbrev pub readyPlaced : ℕ → TaskTable → TaskId → Type 0
 readyPlaced m ts t = within 1 m (t .0) ≡ true → isIn Ready (taskIn ts t) ≡ true → within 1 6 (taskIn ts t .processor .0) ≡ true
 
 -- what a move supposes

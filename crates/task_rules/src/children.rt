@@ -1,7 +1,8 @@
 // The living children of a task, a set in the bits of one number.
 ghost use mathlib.Core.Path.{_≡_};
 ghost use Prim.Native.Nat.{_≤_};
-ghost use Rattle.base.specs.Sets.{member};
+ghost use lib.Dec.{eqb};
+ghost use Rattle.base.specs.Sets.{member, size};
 ghost use Rattle.rules.specs.Tasks.{isChildless, withChild, woken, withoutChild, withoutChildren};
 use crate::change;
 use crate::set;
@@ -15,6 +16,13 @@ pub fn is_childless(x: Task) -> bool
     ensures { λ r. ⌜ r ≡ isChildless x ⌝ }
 {
     x.children == 0
+}
+
+// How many children live, by a count of ones; 0 exactly when none does.
+pub fn living(x: Task) -> u32
+    ensures { λ r. ⌜ (r ≡ size 64 (x .children)) × (eqb r 0 ≡ isChildless x) ⌝ }
+{
+    u64::count_ones(x.children)
 }
 
 // t is a living child.

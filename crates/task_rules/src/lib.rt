@@ -8,7 +8,9 @@ pub mod children;
 pub mod instructions;
 // What a desk keeps for a parent.
 pub mod parents;
+// Ready tasks at a desk.
+pub mod ready;
 // Sets of tasks in the bits of a number.
-mod set;
+pub mod set;
 // Its state and desk.
 pub mod state;

@@ -1,6 +1,8 @@
 // Compares the library with records of an independent model: the plan check, every byte of the run's
 // output, and that each accepted plan is written back and read again.
 
+// Steps and calls: what each gives, and the rig at the end.
+mod calls;
 // A plan: checked, written back, read again.
 mod plans;
 // A record of a file, and where the next one is.
@@ -8,6 +10,7 @@ mod record;
 // A run: its answer and every byte of the output.
 mod runs;
 
+ghost use Rattle.io.specs.Counts.{Counts};
 use libc::STDOUT_FILENO;
 use plan_file::fields::byte_at;
 use std::num::wrapping_add_u64;
@@ -94,20 +97,71 @@ fn compare_all(file: &[u8]) -> Tally {
     t
 }
 
+// How many records of a file of steps and calls there are, and how many agree.
+pub struct Agreed {
+    pub records: u64,
+    pub agree: u64,
+}
+
+fn compare_calls(file: &[u8]) -> Agreed {
+    let mut t = Agreed {
+        records: 0,
+        agree: 0,
+    };
+    let mut at: usize = 0;
+    while at < file.len() {
+        let p = record::parts_at(file, at);
+        let plan = p.plan;
+        let events = p.steps;
+        let expected = p.output;
+        let next = p.next;
+        if file.len() < next {
+            return t;
+        }
+        let ok = calls::agrees(
+            byte_at(file, at),
+            &file[plan..events],
+            &file[events..expected],
+            &file[expected..next],
+        );
+        t.records = wrapping_add_u64(t.records, 1);
+        t.agree = wrapping_add_u64(t.agree, one_if(ok));
+        at = next;
+    }
+    t
+}
+
 fn say(number: u64, what: &[u8]) {
     io::print_decimal(STDOUT_FILENO, number);
     io::write_all(STDOUT_FILENO, what);
 }
 
-fn report(name: &[u8]) {
-    let mut file = [0u8; 400000];
+// Reads a file and answers how many bytes.
+fn load(name: &[u8], file: &mut [u8]) -> usize
+    ensures { λ r. ⌜ Counts r (now (file .exit)) ⌝ }
+{
     let fd = os::open_read(name);
     if fd < 0 {
         os::fail(name);
-        return;
     }
-    let size = io::read_full(fd, &mut file);
+    let size = io::read_full(fd, file);
     libc::close(fd);
+    size
+}
+
+fn report_calls(name: &[u8]) {
+    let mut file = [0u8; 400000];
+    let size = load(name, &mut file);
+    let t = compare_calls(&file[..size]);
+    io::write_all(STDOUT_FILENO, name);
+    io::write_all(STDOUT_FILENO, b": ");
+    say(t.records, b" records, ");
+    say(t.agree, b" agree\n");
+}
+
+fn report(name: &[u8]) {
+    let mut file = [0u8; 400000];
+    let size = load(name, &mut file);
     let t = compare_all(&file[..size]);
     io::write_all(STDOUT_FILENO, name);
     io::write_all(STDOUT_FILENO, b": ");
@@ -119,6 +173,7 @@ fn report(name: &[u8]) {
 }
 
 fn main() {
-    report(b"s108.bin");
+    report(b"s103.bin");
     report(b"edges.bin");
+    report_calls(b"calls.bin");
 }

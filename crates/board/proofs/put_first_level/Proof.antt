@@ -1,14 +1,14 @@
 -- `put_first_level`: task t becomes x, whose word is as it was above level 0.
-use mathlib.Core.Path.{_≡_, subst, _∙_}
+use mathlib.Core.Path.{_≡_, subst, sym, _∙_}
 use native.Mathlib.Omega.{arith}
 use lib.ListN.{length-set}
 use borrow.Author.Needs.{needs}
-use borrow.Author.Tests.{ne-eqb}
-use Rattle.board.proofs.Stores.{NarrowTask, word-read, first-number, task-written, channels-kept, parents-kept}
+use Rattle.board.proofs.Stores.{NarrowTask, word-read, first-number, task-written, ready-kept, channels-kept, parents-kept}
+use Rattle.board.proofs.Readies.{standing, table-stored}
 use Rattle.board.proofs.put_first_level.Statement.{statement}
 use Rattle.plan.specs.declared.Word.{Word}
-use Rattle.rules.specs.Systems.{taskStored}
-use Rattle.board.specs.Lent.{SameAbove}
+use Rattle.rules.specs.Systems.{taskIn}
+use Rattle.board.specs.Lent.{readyOn, tasksOn, SameAbove}
 use Rattle.board.proofs.put_first_level.Tie as tie
 
 wide8-requires : tie.Need-wide8-requires
@@ -65,7 +65,6 @@ small s =
     (omega (arith, g), omega (arith, g), omega (arith, g), omega (arith, g), omega (arith, g), (omega (arith, g), omega (arith, g), omega (arith, g), omega (arith, g)))
 
 returns : tie.Need-returns
-unfolding taskStored
 returns c =
     let z = c .before .before .before .before in
     let s = z .before in
@@ -77,7 +76,10 @@ returns c =
     let w = c .before .task-word .ensures in
     let same = subst (λ (u : Word). SameAbove u (x .word)) (word-read board t m (omega arith) (omega arith)) (s .pre .3) in
     let v = c .with-first-level .ensures ∙ first-number _ (x .word) same in
-    (simp (length-set, long), rw (ne-eqb (t .0) 0 (λ q. omega arith)) (task-written board (t .0) x m (omega arith) (omega arith) long w v (small s)), channels-kept board (t .0) x m (omega arith) (omega arith) long w v (small s), parents-kept board (t .0) x m (omega arith) (omega arith) long w v (small s))
+    let y = taskIn (tasksOn board) t in
+    let records = task-written board (t .0) x m (omega arith) (omega arith) long w v (small s) in
+    let sets = ready-kept board (t .0) x m (omega arith) (omega arith) long w v (small s) ∙ sym (standing 1 t y x (readyOn board) (s .pre .4)) in
+    (simp (length-set, long), table-stored board _ t x (omega arith) records sets, channels-kept board (t .0) x m (omega arith) (omega arith) long w v (small s), parents-kept board (t .0) x m (omega arith) (omega arith) long w v (small s))
 
 pub put-first-level-spec : {M : Type 1} → statement M
 put-first-level-spec =

@@ -3,8 +3,8 @@ use mathlib.Core.Path.{_≡_, refl}
 use native.Mathlib.Omega.{arith}
 use lib.ListN.{length-set}
 use borrow.Author.Needs.{needs}
-use borrow.Author.Tests.{ne-eqb}
-use Rattle.board.proofs.Stores.{NarrowTask, task-written, channels-kept, parents-kept}
+use Rattle.board.proofs.Stores.{NarrowTask}
+use Rattle.board.proofs.Readies.{task-put}
 use Rattle.board.proofs.put_task.Statement.{statement}
 use Rattle.rules.specs.Systems.{taskStored}
 use Rattle.board.proofs.put_task.Tie as tie
@@ -17,6 +17,12 @@ mul-at c = search needs
 
 add-at : tie.Need-add-at
 add-at c = search needs
+
+mul-old : tie.Need-mul-old
+mul-old c = search needs
+
+element-copy-out-old : tie.Need-element-copy-out-old
+element-copy-out-old c = search needs
 
 task-word-requires : tie.Need-task-word-requires
 task-word-requires c κs = search needs
@@ -48,20 +54,24 @@ mul-board-3 c = search needs
 element-write-board-3 : tie.Need-element-write-board-3
 element-write-board-3 c = search needs
 
+put-ready-requires : tie.Need-put-ready-requires
+put-ready-requires c κs = (omega arith, omega arith, simp (length-set, c .before .before .before .before .before .before .before .before .pre .1))
+
 returns : tie.Need-returns
-unfolding taskStored
 returns c =
-    let s = c .before .before .before .before .before .before in
-    let n = s .args .t .0 in
+    let b = c .before .before in
+    let i = b .before .before .before .before in
+    let s = i .before .before .before in
+    let t = s .args .t in
     let board = s .args .board .now in
     let x = s .args .x in
-    let m = c .before .before .before .wide8 .ensures in
+    let m = i .wide8 .ensures in
     let long = s .pre .1 in
-    let w = c .before .task-word .ensures in
-    let v = c .word-number .ensures in
+    let w = b .before .task-word .ensures in
+    let v = b .word-number .ensures in
     let g = s .good .1 .1 in
     let small : NarrowTask x = (omega (arith, g), omega (arith, g), omega (arith, g), omega (arith, g), omega (arith, g), (omega (arith, g), omega (arith, g), omega (arith, g), omega (arith, g))) in
-    (simp (length-set, long), rw (ne-eqb n 0 (λ q. omega arith)) (task-written board n x m (omega arith) (omega arith) long w v small), channels-kept board n x m (omega arith) (omega arith) long w v small, parents-kept board n x m (omega arith) (omega arith) long w v small)
+    task-put board t x m (omega arith) (omega arith) long w v small (c .put-ready .last .0) (c .put-ready .ensures)
 
 returns-2 : tie.Need-returns-2
 unfolding taskStored
@@ -76,6 +86,8 @@ put-task-spec =
     wide8-requires
     mul-at
     add-at
+    mul-old
+    element-copy-out-old
     task-word-requires
     mul-board
     element-write-board
@@ -86,5 +98,6 @@ put-task-spec =
     add-board-2
     mul-board-3
     element-write-board-3
+    put-ready-requires
     returns
     returns-2)

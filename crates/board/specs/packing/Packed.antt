@@ -102,3 +102,7 @@ taskOf v children word =
 abbrev pub taskWord : Task → ℕ
 taskWord x =
     stateNumber (x .state) + 128 * bit (x .overflow) + 256 * (x .processor .0) + 65536 * (x .pc) + 16777216 * (x .origin .processor .0) + 4294967296 * (x .origin .moves) + 281474976710656 * (x .moves)
+
+-- the desk at which a task is ready, by its first number; 0 where it is not ready
+abbrev pub readyDesk : ℕ → ℕ
+readyDesk v = pick (eqb (v % 128) 1) (v / 256 % 256) 0

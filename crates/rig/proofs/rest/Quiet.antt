@@ -7,13 +7,13 @@ use native.Mathlib.Numerals.{add-one}
 use borrow.Author.Tests.{ne-eqb}
 use Rattle.base.specs.Range.{below}
 use Rattle.base.proofs.Tests.{below-more, below-fails}
-use Rattle.rules.specs.declared.task.Task.{Task}
+use Rattle.rules.specs.declared.system.TaskTable.{TaskTable}
 use Rattle.rules.specs.Numbers.{taskId}
 use Rattle.rules.specs.Answers.{isAccepted}
 use Rattle.rig_parts.specs.RunVerdicts.{runRefusal}
 use Rattle.rig.specs.rest.Rests.{quietIn}
 
-module _ (count : ℕ) (codes : List ℕ) (ts : List Task) where
+module _ (count : ℕ) (codes : List ℕ) (ts : TaskTable) where
   -- a run of task k + 1 is refused
   abbrev pub stuckAfter : ℕ → Bool
   stuckAfter k = not (isAccepted (runRefusal codes count ts (taskId (suc k))))

@@ -1,7 +1,6 @@
 -- The parts of a rig that 9 does not refuse are at rest where no run is accepted.
 use mathlib.Core.Path.{_≡_, refl}
 use mathlib.Core.Bool.{true, false, not, _&&_}
-use mathlib.Core.List.{List}
 use mathlib.Core.Logic.{by-cases}
 use Prim.Native.Nat.{ℕ, suc, _+_, _≤_}
 use native.Mathlib.Omega.{arith}
@@ -10,7 +9,7 @@ use lib.ListN.{length}
 use borrow.Author.Tests.{ne-eqb, le-leb}
 use Rattle.base.proofs.Folds.{fold-same}
 use Rattle.plan.specs.declared.TaskId.{TaskId}
-use Rattle.rules.specs.declared.task.Task.{Task}
+use Rattle.rules.specs.declared.system.TaskTable.{TaskTable}
 use Rattle.rig_parts.specs.declared.kept.Kept.{Kept}
 use Rattle.rules.specs.Numbers.{taskId}
 use Rattle.rules.specs.Answers.{isAccepted}
@@ -33,14 +32,14 @@ fits n few k =
     rw (le-leb (0 + m) 256 (omega (arith, few-messages n (k .outcome .posting)))) refl
 
 -- so the first tests alone refuse
-run-stuck : (f : Facts) (n : ℕ) (ts : List Task) (s : Kept) → n ≤ 6 → (t : TaskId)
+run-stuck : (f : Facts) (n : ℕ) (ts : TaskTable) (s : Kept) → n ≤ 6 → (t : TaskId)
     → isRefused (judgedRun f n ts s 0 t) ≡ not (isAccepted (runRefusal (f .codes) (f .tasks) ts t))
 unfolding judgedRun
 run-stuck f n ts s few t =
     let k = ranIn f ts s t (nextAt f ts t) in
     refused-by (runRefusal (f .codes) (f .tasks) ts t) (fittingIn n 0 k) (fits n few k)
 
-pub rest-quiet : {f : Facts} {n : ℕ} {ts : List Task} {s : Kept} {used : ℕ} → PartsOf f n ts s used
+pub rest-quiet : {f : Facts} {n : ℕ} {ts : TaskTable} {s : Kept} {used : ℕ} → PartsOf f n ts s used
     → restIn f n ts s used ≡ quietIn (f .tasks) (f .codes) ts used
 unfolding restIn quietIn
 rest-quiet {f} {n} {ts} {s} {used} p =

@@ -10,30 +10,32 @@ use lib.Seq.{getD-set-same, getD-set-other}
 use Rattle.base.proofs.Tables.{all-same}
 use Rattle.board.specs.packing.Packed.{low16, byte2, byte3, byte4, byte5, mark6, taskOf, wordOf}
 use Rattle.rules.specs.Tasks.{unborn}
-use Rattle.rules.specs.Starts.{noChannels, noParents}
-use Rattle.board.specs.Lent.{channelColumn, channelsOn, taskOn, tasksOn, parentColumn, parentsOn}
+use Rattle.rules.specs.Starts.{unbornTasks, noChannels, noParents}
+use Rattle.board.specs.Lent.{channelColumn, channelsOn, taskOn, recordsOn, setOn, readyOn, tasksOn, parentColumn, parentsOn}
 
 -- nothing is on the board but the places of the first n tasks
 pub record Unborn (n : ℕ) (board : List ℕ) : Type 0 where
-  pub whole : length board ≡ 1088
+  pub whole : length board ≡ 1094
   pub channel : (k : ℕ) → k < 128 → getD board k 0 ≡ 0
   pub place : (k : ℕ) → k < n → getD board (128 + 2 * k) 0 ≡ 65536
   pub children : (k : ℕ) → k < 64 → getD board (129 + 2 * k) 0 ≡ 0
   pub word : (k : ℕ) → k < 64 → getD board (256 + k) 0 ≡ 0
   pub parent : (k : ℕ) → k < 768 → getD board (320 + k) 0 ≡ 0
+  pub ready : (k : ℕ) → k < 6 → getD board (1088 + k) 0 ≡ 0
 
 abbrev pub zeros : List ℕ
-zeros = replicate 1088 0
+zeros = replicate 1094 0
 
 pub unborn-none : Unborn 0 zeros
 unborn-none =
     record {
-      whole = length-replicate {A = ℕ} 1088 0;
-      channel = λ k h. getD-replicate 1088 k 0 0 (omega arith);
+      whole = length-replicate {A = ℕ} 1094 0;
+      channel = λ k h. getD-replicate 1094 k 0 0 (omega arith);
       place = λ k h. absurd (omega arith);
-      children = λ k h. getD-replicate 1088 (129 + 2 * k) 0 0 (omega arith);
-      word = λ k h. getD-replicate 1088 (256 + k) 0 0 (omega arith);
-      parent = λ k h. getD-replicate 1088 (320 + k) 0 0 (omega arith);
+      children = λ k h. getD-replicate 1094 (129 + 2 * k) 0 0 (omega arith);
+      word = λ k h. getD-replicate 1094 (256 + k) 0 0 (omega arith);
+      parent = λ k h. getD-replicate 1094 (320 + k) 0 0 (omega arith);
+      ready = λ k h. getD-replicate 1094 (1088 + k) 0 0 (omega arith);
     }
 
 pub unborn-more : (n : ℕ) (board : List ℕ) → n < 64 → Unborn n board → Unborn (n + 1) (set board (128 + 2 * n) 65536)
@@ -50,6 +52,7 @@ unborn-more n board h u =
       children = λ k l. getD-set-other board (128 + 2 * n) (129 + 2 * k) 65536 0 (omega arith) ∙ u .children k l;
       word = λ k l. getD-set-other board (128 + 2 * n) (256 + k) 65536 0 (omega arith) ∙ u .word k l;
       parent = λ k l. getD-set-other board (128 + 2 * n) (320 + k) 65536 0 (omega arith) ∙ u .parent k l;
+      ready = λ k l. getD-set-other board (128 + 2 * n) (1088 + k) 65536 0 (omega arith) ∙ u .ready k l;
     }
 
 module _ (n : ℕ) (board : List ℕ) (u : Unborn n board) where
@@ -76,7 +79,15 @@ module _ (n : ℕ) (board : List ℕ) (u : Unborn n board) where
   unfolding parentsOn
   unborn-parents = rw (kept-none byte2 0 (omega arith) refl, kept-none low16 0 (omega arith) refl, kept-none (λ v. v) 1 (omega arith) refl) refl
 
-pub unborn-tasks : (board : List ℕ) → Unborn 64 board → tasksOn board ≡ replicate 64 unborn
-unfolding tasksOn taskOf wordOf
-unborn-tasks board u =
-    sym (all-same 64 (taskOn board) unborn (λ k h. rw (u .place k h, u .children k h, u .word k h) refl))
+module _ (board : List ℕ) (u : Unborn 64 board) where
+  unborn-records : recordsOn board ≡ replicate 64 unborn
+  unfolding recordsOn taskOf wordOf
+  unborn-records = sym (all-same 64 (taskOn board) unborn (λ k h. rw (u .place k h, u .children k h, u .word k h) refl))
+
+  none-ready : readyOn board ≡ replicate 6 0
+  unfolding readyOn
+  none-ready = sym (all-same 6 (setOn board) 0 (u .ready))
+
+  pub unborn-tasks : tasksOn board ≡ unbornTasks
+  unfolding tasksOn
+  unborn-tasks = rw (unborn-records, none-ready) refl

@@ -2,7 +2,7 @@
 use mathlib.Core.Path.{_≡_, sym, _∙_, ap}
 use mathlib.Core.List.{List}
 use Prim.Native.Nat.{ℕ}
-use lib.ListN.{set, replicate}
+use lib.ListN.{replicate}
 use Rattle.plan.specs.declared.Plan.{Plan}
 use Rattle.rules.specs.declared.system.System.{System}
 use Rattle.rules.specs.declared.system.Store.{Store}
@@ -10,7 +10,7 @@ use Rattle.rules.specs.Numbers.{taskId, processorId}
 use Rattle.rules.specs.Hints.{unknown}
 use Rattle.rules.specs.Tasks.{born}
 use Rattle.rules.specs.Systems.{withTasks, withTask, taskStored, store}
-use Rattle.rules.specs.Starts.{birth, blank, started, noMessages, noChannels}
+use Rattle.rules.specs.Starts.{birth, blank, started, noMessages, noChannels, noneChosen}
 use Rattle.plan_index.specs.ends.Derived.{endsOf}
 use Rattle.rig_parts.specs.Facts.{keptIn}
 use Rattle.rig_parts.specs.Sweeps.{forEnds}
@@ -23,9 +23,9 @@ use Rattle.rig.specs.start.Parts.{startTasks, startParents, startStore}
 use Rattle.rig.proofs.start.Boards.{zeros, unborn-none, unborn-channels}
 
 -- task 1 is stored, and then the pointers for the channels that it receives on
-first-birth : (r : System) → birth r (taskId 1) (processorId 1) unknown ≡ sweptIn (withTasks r (set (r .tasks) 0 (born (processorId 1) unknown))) (Birth (taskId 1) (processorId 1))
-unfolding birth withTask taskStored
-first-birth r = birth-swept (withTasks r (set (r .tasks) 0 (born (processorId 1) unknown))) (taskId 1) (processorId 1)
+first-birth : (r : System) → birth r (taskId 1) (processorId 1) unknown ≡ sweptIn (withTasks r (taskStored (r .tasks) (taskId 1) (born (processorId 1) unknown))) (Birth (taskId 1) (processorId 1))
+unfolding birth withTask
+first-birth r = birth-swept (withTasks r (taskStored (r .tasks) (taskId 1) (born (processorId 1) unknown))) (taskId 1) (processorId 1)
 
 -- an empty table
 abbrev pub none : List ℕ
@@ -34,7 +34,7 @@ none = replicate 768 0
 module _ (n : ℕ) (p : Plan) where
   -- the rig with this for the channels
   abbrev made : Store → System
-  made s = record { processors = n; plan = p; tasks = startTasks; tables = s .tables; channels = s .channels; parents = startParents; network = noMessages }
+  made s = record { processors = n; plan = p; tasks = startTasks; tables = s .tables; channels = s .channels; parents = startParents; network = noMessages; chosen = noneChosen }
 
   started-is : made (startStore (endsOf p .receivers)) ≡ started n p
   unfolding started blank

@@ -2,22 +2,21 @@
 use mathlib.Core.List.{List}
 use mathlib.Core.Path.{_≡_}
 use Prim.Native.Nat.{ℕ}
-use lib.ListN.{set}
-use Rattle.rules.specs.declared.task.Task.{Task}
+use Rattle.rules.specs.declared.system.TaskTable.{TaskTable}
 use Rattle.rules.specs.declared.system.Store.{Store}
 use Rattle.rules.specs.Numbers.{taskId, processorId}
 use Rattle.rules.specs.declared.system.Parents.{Parents}
 use Rattle.rules.specs.Hints.{hint, unknown}
 use Rattle.rules.specs.Tasks.{born}
-use Rattle.rules.specs.Systems.{store}
+use Rattle.rules.specs.Systems.{taskStored, store}
 use Rattle.rules.specs.Starts.{unbornTasks, noTables, noChannels, noParents}
 use Rattle.rig_parts.specs.declared.sweep.CellRule.the-variants.{Locate}
 use Rattle.rig_parts.specs.Sweeps.{forEnds, parentPointed}
 use Rattle.board.specs.Lent.{Whole, tasksOn, channelsOn, parentsOn}
 
--- task 1 is born at desk 1, the rest are unborn
-abbrev pub startTasks : List Task
-startTasks = set unbornTasks 0 (born (processorId 1) unknown)
+-- task 1 is born at desk 1, where it is ready; the rest are unborn
+abbrev pub startTasks : TaskTable
+startTasks = taskStored unbornTasks (taskId 1) (born (processorId 1) unknown)
 
 -- desk 1 points to task 1; nothing else is kept for parents
 abbrev pub startParents : Parents

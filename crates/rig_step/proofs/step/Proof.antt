@@ -15,12 +15,15 @@ use Rattle.rig_step.proofs.step.Tie as tie
 shaped : (c : tie.Start) → Shaped (c .args .r)
 shaped c =
     let f = c .good .0 .1 .1 in
+    let tasks = f .1 .1 .0 .1 .1 in
     let tables = f .1 .1 .1 .0 .1 .1 in
     let channels = f .1 .1 .1 .1 .0 .1 .1 in
     let parents = f .1 .1 .1 .1 .1 .0 .1 .1 in
     let network = f .1 .1 .1 .1 .1 .1 .0 .1 .1 in
     record {
-      tasks = simp length-map at (f .1 .1 .0 .1 .0 .1);
+      tasks = simp length-map at (tasks .0 .1 .0 .1);
+      ready = simp length-map at (tasks .1 .0 .1 .0 .1);
+      chosen = simp length-map at (f .1 .1 .1 .1 .1 .1 .1 .0 .1 .0 .1);
       hintprocessors = simp length-map at (tables .0 .1 .0 .1);
       hintmoves = simp length-map at (tables .1 .0 .1 .0 .1);
       heldprocessors = simp length-map at (tables .1 .1 .0 .1 .0 .1);
@@ -69,7 +72,7 @@ turn-requires c κs =
 
 returns-2 : tie.Need-returns-2
 returns-2 c =
-    let t = c .before .before .before .before .before .before .before .before in
+    let t = c .before .before .before .before .before .before .before .before .before in
     let d = t .before .before .before .before .before .before .before .before .before .before .before .before .before .before .before .before in
     let w = d .before .before in
     let b = w .before .before in

@@ -4,7 +4,7 @@ use mathlib.Core.Bool.{Bool, true}
 use mathlib.Core.List.{List, [], _∷_, _++_}
 use Prim.Native.Nat.{ℕ, suc, _-_}
 use lib.Dec.{eqb}
-use lib.ListN.{set, take, drop}
+use lib.ListN.{take, drop}
 use Rattle.base.specs.Lists.{every}
 use Rattle.base.proofs.Choices.{pick-either}
 use Rattle.base.proofs.Tests.{and-left, and-right, and-both, every-append}
@@ -22,6 +22,7 @@ use Rattle.rules.specs.declared.message.Message.{Message}
 use Rattle.rules.specs.declared.message.Network.{Network}
 use Rattle.rules.specs.declared.rule.Outcome.{Outcome}
 use Rattle.rules.specs.declared.system.ParentEntry.{ParentEntry}
+use Rattle.rules.specs.declared.system.TaskTable.{TaskTable}
 use Rattle.rules.specs.declared.system.System.{System}
 use Rattle.rules.specs.Numbers.{taskId, processorId, channelId}
 use Rattle.rules.specs.Hints.{unknown}
@@ -47,7 +48,7 @@ module _ {good : WordOf → Bool} where
     pub task-good : (t : TaskId) → taskGood good (taskAt r t) ≡ true
     unfolding taskIn
     task-good t = pick-either (λ x. taskGood good x ≡ true) (eqb (t .0) 0) noTask _ (h .zero)
-        (every-any (taskGood good) (r .tasks) (t .0 - 1) noTask (h .zero) (h .tasks))
+        (every-any (taskGood good) (r .tasks .records) (t .0 - 1) noTask (h .zero) (h .tasks))
 
     pub message-there : (p : ℕ) → messageGood good (messageAt (r .network) p) ≡ true
     unfolding messageAt messageGood
@@ -56,11 +57,10 @@ module _ {good : WordOf → Bool} where
     pub put-task : (t : TaskId) (x : Task) → taskGood good x ≡ true → GoodSystem good (withTask r t x)
     unfolding withTask taskStored
     put-task t x k =
-        let ys = set (r .tasks) (t .0 - 1) x in
-        let each = every-set (taskGood good) (r .tasks) (t .0 - 1) x (h .tasks) k in
+        let each = every-set (taskGood good) (r .tasks .records) (t .0 - 1) x (h .tasks) k in
         record {
           zero = h .zero;
-          tasks = pick-either (λ (l : List Task). every (taskGood good) l ≡ true) (eqb (t .0) 0) (r .tasks) ys (h .tasks) each;
+          tasks = pick-either (λ (l : TaskTable). every (taskGood good) (l .records) ≡ true) (eqb (t .0) 0) (r .tasks) _ (h .tasks) each;
           slots = h .slots;
         }
 

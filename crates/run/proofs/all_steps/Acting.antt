@@ -10,10 +10,10 @@ use borrow.Author.Tests.{eqb-true}
 use Rattle.base.specs.Choice.{unless, within}
 use Rattle.base.proofs.Choices.{pick-either}
 use Rattle.base.proofs.Tests.{within-low}
-use Rattle.rules.specs.declared.task.Task.{Task}
 use Rattle.rules.specs.declared.message.Network.{Network}
 use Rattle.rules.specs.declared.step.Report.{Report}
 use Rattle.rules.specs.declared.step.Step.{Step}
+use Rattle.rules.specs.declared.system.TaskTable.{TaskTable}
 use Rattle.rules.specs.declared.system.Store.{Store}
 use Rattle.rules.specs.declared.system.Parents.{Parents}
 use Rattle.rig_parts.specs.declared.kept.Kept.{Kept}
@@ -41,11 +41,11 @@ abbrev pub reportOf : Act → Report
 reportOf r = record { answer = r .answer; received = r .received }
 
 -- what is said, the tasks, the mail and the store then
-turned-as : (n : ℕ) (k : Network) {r q : Act} {ts us : List Task} {s v : Kept} → r ≡ q → ts ≡ us → s ≡ v
+turned-as : (n : ℕ) (k : Network) {r q : Act} {ts us : TaskTable} {s v : Kept} → r ≡ q → ts ≡ us → s ≡ v
     → turned (reportOf r) ts (enqueuedAll k (messagesOf n (r .posting))) s ≡ turned (reportOf q) us (enqueuedAll k (messagesOf n (q .posting))) v
 turned-as n k {r} {q} {ts} {us} {s} {v} e p d =
-    let g : Act → List Task → Kept → Turn = λ z y w. turned (reportOf z) y (enqueuedAll k (messagesOf n (z .posting))) w in
-    ap (λ (z : Act). g z ts s) e ∙ ap (λ (z : List Task). g q z s) p ∙ ap (λ (z : Kept). g q us z) d
+    let g : Act → TaskTable → Kept → Turn = λ z y w. turned (reportOf z) y (enqueuedAll k (messagesOf n (z .posting))) w in
+    ap (λ (z : Act). g z ts s) e ∙ ap (λ (z : TaskTable). g q z s) p ∙ ap (λ (z : Kept). g q us z) d
 
 -- what is kept for channels, and for parents
 pub both-kept : {s v : Store} {ps us : Parents} → s ≡ v → ps ≡ us → _≡_ {A = Kept} (record { store = s; parents = ps }) (record { store = v; parents = us })
@@ -65,7 +65,7 @@ by-bool true p q = p refl
 by-bool false p q = q refl
 
 -- a step that delivers no letter
-module _ (f : Facts) (n : ℕ) (ts : List Task) (k : Network) (s : Kept) (x : Step) where
+module _ (f : Facts) (n : ℕ) (ts : TaskTable) (k : Network) (s : Kept) (x : Step) where
   pub other-turn : positionOf (k .used) x ≡ 0 → settled (f .senders) (f .receivers) n (stepVerdict f n ts s (k .used) x) ts k s ≡ turnOf f n ts k s x
   unfolding turnOf stepVerdict wellFormed deliveredTurn positionOf
   other-turn none =
@@ -112,7 +112,7 @@ room-of n used (Refused q) few ok = omega arith
 room-of n used (Accepted y) few ok = change-room n used y ok
 
 -- a step that delivers nothing has room for its letters
-pub step-room : {f : Facts} {n : ℕ} {ts : List Task} {s : Kept} {used : ℕ} (p : PartsOf f n ts s used) (x : Step) {r : Act}
+pub step-room : {f : Facts} {n : ℕ} {ts : TaskTable} {s : Kept} {used : ℕ} (p : PartsOf f n ts s used) (x : Step) {r : Act}
     → r ≡ actOf (stepVerdict f n ts s used x) → used + length (messagesOf n (r .posting)) ≤ 256
 unfolding stepVerdict
 step-room {f} {n} {ts} {s} {used} p x e =

@@ -7,9 +7,9 @@ use native.Mathlib.Numerals.{add-one}
 use lib.ListN.{length}
 use Rattle.base.specs.Lists.{table, tableBefore}
 use Rattle.base.proofs.Tables.{table-more, length-table}
-use Rattle.rules.specs.declared.task.Task.{Task}
 use Rattle.rules.specs.declared.message.Network.{Network}
 use Rattle.rules.specs.declared.step.Step.{Step}
+use Rattle.rules.specs.declared.system.TaskTable.{TaskTable}
 use Rattle.rig_parts.specs.declared.kept.Kept.{Kept}
 use Rattle.rules.specs.Trace.{stepLine, stepLines}
 use Rattle.rules.specs.StepFiles.{text}
@@ -23,7 +23,7 @@ use Rattle.run.specs.all_steps.Writes.{Turns, turnsOf, RanTo, WrittenBy,
 use Rattle.run.proofs.all_steps.Fits.{filled-written, written-room, written-length}
 use Rattle.run.proofs.all_steps.Turns.{turns-append, turns-reports}
 
-module _ (f : Facts) (n : ℕ) (ts : List Task) (k : Network) (s : Kept) (at : ℕ → Step) where
+module _ (f : Facts) (n : ℕ) (ts : TaskTable) (k : Network) (s : Kept) (at : ℕ → Step) where
   -- what the first j steps leave
   abbrev pub firstTurns : ℕ → Turns
   firstTurns j = turnsOf f n ts k s (table j at)
@@ -33,7 +33,7 @@ module _ (f : Facts) (n : ℕ) (ts : List Task) (k : Network) (s : Kept) (at : �
   firstLines j = stepLines 0 (firstTurns j .reports)
 
   -- the parts then are a rig's, and the lines of those steps are written into o
-  pub record Going (o : List ℕ) (j : ℕ) (all : List Task) (messages : Network) (store : Kept) (progress out : List ℕ) : Type 0 where
+  pub record Going (o : List ℕ) (j : ℕ) (all : TaskTable) (messages : Network) (store : Kept) (progress out : List ℕ) : Type 0 where
     pub rig : Rig f n all messages store
     pub tasks : all ≡ firstTurns j .tasks
     pub network : messages ≡ firstTurns j .network
@@ -45,7 +45,7 @@ module _ (f : Facts) (n : ℕ) (ts : List Task) (k : Network) (s : Kept) (at : �
   unfolding table tableBefore turnsOf stepLines text
   going-start o progress e g = rw e (record { rig = g; tasks = refl; network = refl; kept = refl; lines = filled-written [] (filled-none o); two = refl })
 
-  module _ {o : List ℕ} {j : ℕ} {all : List Task} {messages : Network} {store : Kept} {progress out : List ℕ} (g : Going o j all messages store progress out) where
+  module _ {o : List ℕ} {j : ℕ} {all : TaskTable} {messages : Network} {store : Kept} {progress out : List ℕ} (g : Going o j all messages store progress out) where
     pub going-room : filledBy progress ≤ length out
     going-room = written-room (g .lines)
 

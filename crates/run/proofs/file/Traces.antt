@@ -3,10 +3,10 @@ use mathlib.Core.Path.{_≡_, refl, sym, _∙_, ap}
 use mathlib.Core.Bool.{Bool}
 use mathlib.Core.List.{List, [], _∷_, _++_, append-assoc}
 use Prim.Native.Nat.{ℕ, _≤_}
-use Rattle.rules.specs.declared.task.Task.{Task}
 use Rattle.rules.specs.declared.message.Network.{Network}
 use Rattle.rules.specs.declared.step.Report.{Report}
 use Rattle.rules.specs.declared.step.Step.{Step}
+use Rattle.rules.specs.declared.system.TaskTable.{TaskTable}
 use Rattle.rules.specs.declared.system.System.{System}
 use Rattle.rig_parts.specs.declared.kept.Kept.{Kept}
 use Rattle.rules.specs.Steps.{History, stepsBy, steps, ruledSteps, quiescent}
@@ -29,7 +29,7 @@ pub record Stood (f : Facts) (n : ℕ) (h : Turns) (w : History) : Type 0 where
   pub system : rig .parts .system ≡ w .system
   pub reports : h .reports ≡ w .reports
 
-stood : (f : Facts) (n : ℕ) {ts : List Task} {k : Network} {s : Kept} (g : Rig f n ts k s) (xs : List Step)
+stood : (f : Facts) (n : ℕ) {ts : TaskTable} {k : Network} {s : Kept} (g : Rig f n ts k s) (xs : List Step)
     → Stood f n (turnsOf f n ts k s xs) (ruledSteps (g .parts .system) xs)
 unfolding turnsOf stepsBy
 stood f n g [] = record { rig = g; system = refl; reports = refl }
@@ -39,11 +39,11 @@ stood f n g (x ∷ xs) =
     record { rig = i .rig; system = i .system ∙ rw e refl; reports = rw (i .reports, e, rig-turn g x) refl }
 
 -- the mail is never over-full
-pub rig-messages : {f : Facts} {n : ℕ} {ts : List Task} {k : Network} {s : Kept} → Rig f n ts k s → k .used ≤ 256
+pub rig-messages : {f : Facts} {n : ℕ} {ts : TaskTable} {k : Network} {s : Kept} → Rig f n ts k s → k .used ≤ 256
 rig-messages g = rw (g .network) (sound (g .parts .system) (g .parts .shaped) (g .parts .sound) .network .used)
 
 -- the lines of reports, of the marked tasks and the last line, of a rig
-lines-of : {hs ps : List Report} {ts : List Task} {m used : ℕ} {b : Bool} (r : System)
+lines-of : {hs ps : List Report} {ts : TaskTable} {m used : ℕ} {b : Bool} (r : System)
     → hs ≡ ps → ts ≡ r .tasks → m ≡ r .plan .tasks → b ≡ quiescent r → used ≡ r .network .used
     → (stepLines 0 hs ++ markLines ts m) ++ (endText b used ∷ []) ≡ stepLines 0 ps ++ (overLines r ++ (endLine r ∷ []))
 unfolding overLines markLines
@@ -51,7 +51,7 @@ lines-of {ps = ps} r eh et em eb eu =
     rw (eh, et, em, eb, eu, end-of r) (append-assoc (stepLines 0 ps) (overLines r) (endText (quiescent r) (r .network .used) ∷ []))
 
 -- the trace of a rig, by its parts
-module _ {f : Facts} {n : ℕ} {ts : List Task} {k : Network} {s : Kept} (g : Rig f n ts k s) (xs : List Step) where
+module _ {f : Facts} {n : ℕ} {ts : TaskTable} {k : Network} {s : Kept} (g : Rig f n ts k s) (xs : List Step) where
   abbrev ranIn : Turns
   ranIn = turnsOf f n ts k s xs
 
@@ -70,7 +70,7 @@ module _ {f : Facts} {n : ℕ} {ts : List Task} {k : Network} {s : Kept} (g : Ri
       (e ∙ rig-rest (w .rig) ∙ ap quiescent (w .system))
       (ap (λ (q : Network). q .used) (w .rig .network) ∙ ap (λ (r : System). r .network .used) (w .system)))
 
-  module _ {before : List ℕ} {all : List Task} {network : Network} {kept : Kept} {progress mid : List ℕ} (h : RanTo ranIn before all network kept progress mid) where
+  module _ {before : List ℕ} {all : TaskTable} {network : Network} {kept : Kept} {progress mid : List ℕ} (h : RanTo ranIn before all network kept progress mid) where
     pub ran-rig : Rig f n (all) (network) kept
     ran-rig = rw (h .tasks, h .network, h .kept) (stood-in .rig)
 

@@ -6,10 +6,10 @@ use Prim.Native.Nat.{ℕ, _+_, _≤_}
 use lib.Dec.{leb, eqb}
 use lib.ListN.{length, drop, getD, set}
 use Rattle.base.specs.Choice.{pick}
-use Rattle.rules.specs.declared.task.Task.{Task}
 use Rattle.rules.specs.declared.message.Network.{Network}
 use Rattle.rules.specs.declared.step.Step.{Step}
 use Rattle.rules.specs.declared.step.Report.{Report}
+use Rattle.rules.specs.declared.system.TaskTable.{TaskTable}
 use Rattle.rig_parts.specs.declared.kept.Kept.{Kept}
 use Rattle.rules.specs.Trace.{stepLines}
 use Rattle.rules.specs.StepFiles.{text, fitting, fileSteps}
@@ -26,11 +26,11 @@ pub record Written (lines : List (List ℕ)) (before : List ℕ) (filled : ℕ) 
 -- steps on the parts of a rig: their reports, and the parts then
 pub record Turns : Type 0 where
   pub reports : List Report
-  pub tasks : List Task
+  pub tasks : TaskTable
   pub network : Network
   pub kept : Kept
 
-unfoldable pub turnsOf : Facts → ℕ → List Task → Network → Kept → List Step → Turns
+unfoldable pub turnsOf : Facts → ℕ → TaskTable → Network → Kept → List Step → Turns
 turnsOf f n ts k s [] = record { reports = []; tasks = ts; network = k; kept = s }
 turnsOf f n ts k s (x ∷ xs) =
     let t = turnOf f n ts k s x in
@@ -63,7 +63,7 @@ abbrev pub LineNext : List ℕ → List ℕ → List ℕ → List ℕ → List �
 LineNext line progress out progress' out' = LinesNext (line ∷ []) progress out progress' out'
 
 -- the steps are carried out, and their lines written as far as they fit
-pub record RanTo (h : Turns) (before : List ℕ) (ts : List Task) (k : Network) (s : Kept) (progress after : List ℕ) : Type 0 where
+pub record RanTo (h : Turns) (before : List ℕ) (ts : TaskTable) (k : Network) (s : Kept) (progress after : List ℕ) : Type 0 where
   pub lines : WrittenBy (stepLines 0 (h .reports)) before progress after
   pub two : length progress ≡ 2
   pub tasks : ts ≡ h .tasks

@@ -6,8 +6,8 @@ use lib.ListN.{length}
 use Rattle.base.specs.Choice.{pick}
 use Rattle.base.specs.Range.{joined}
 use Rattle.plan.specs.declared.Plan.{Plan}
-use Rattle.rules.specs.declared.task.Task.{Task}
 use Rattle.rules.specs.declared.step.RunAnswer.{RunAnswer}
+use Rattle.rules.specs.declared.system.TaskTable.{TaskTable}
 use Rattle.rules.specs.Numbers.{taskId}
 use Rattle.rules.specs.Starts.{started}
 use Rattle.rules.specs.Systems.{taskIn}
@@ -19,10 +19,10 @@ use Rattle.run.specs.declared.file.drive.Driven.{Driven}
 use Rattle.run.specs.file.Begins.{Begins}
 
 -- the line of task t, if it is marked; those of tasks 1 to n, by rising number
-abbrev pub markLine : List Task → ℕ → List (List ℕ)
+abbrev pub markLine : TaskTable → ℕ → List (List ℕ)
 markLine ts t = pick (taskIn ts (taskId t) .overflow) (overLine t ∷ []) []
 
-unfoldable pub markLines : List Task → ℕ → List (List ℕ)
+unfoldable pub markLines : TaskTable → ℕ → List (List ℕ)
 markLines ts n = joined n (λ k. markLine ts (suc k))
 
 -- the trace of the plan that f is derived of, on n desks from its start

@@ -1,7 +1,6 @@
 -- The verdict on what instruction i of task t does, by its kind.
 use mathlib.Core.Path.{_≡_, refl, ap}
 use mathlib.Core.Bool.{true, false}
-use mathlib.Core.List.{List}
 use mathlib.Core.Logic.{_≢_, by-cases}
 use Prim.Native.Nat.{ℕ, _+_, _≤_}
 use native.Mathlib.Omega.{arith}
@@ -16,6 +15,7 @@ use Rattle.rules.specs.declared.task.Task.{Task}
 use Rattle.rules.specs.Numbers.{taskId}
 use Rattle.rules.specs.Networks.{messagesOf}
 use Rattle.rules.specs.declared.rule.Posting.the-variants.{Nothing as NoPosting}
+use Rattle.rules.specs.declared.system.TaskTable.{TaskTable}
 use Rattle.rig_parts.specs.declared.kept.Kept.{Kept}
 use Rattle.rules.specs.Local.{syncRule, setRule, addRule}
 use Rattle.rules.specs.Systems.{taskIn}
@@ -31,7 +31,7 @@ none-fit : (n used : ℕ) → used ≤ 256 → leb (used + length (messagesOf n 
 unfolding messagesOf
 none-fit n used few = le-leb (used + 0) 256 (omega arith)
 
-module _ (f : Facts) (n : ℕ) (ts : List Task) (s : Kept) (used : ℕ) (few : used ≤ 256) (t : TaskId) (x : Task) (is : x ≡ taskIn ts t) (i : Instruction) where
+module _ (f : Facts) (n : ℕ) (ts : TaskTable) (s : Kept) (used : ℕ) (few : used ≤ 256) (t : TaskId) (x : Task) (is : x ≡ taskIn ts t) (i : Instruction) where
   -- a create, a sync, a finish, a set
   pub create-is : i .opcode ≡ opCreate → fittingIn n used (ranIn f ts s t i) ≡ createVerdict t x (taskId (i .operand))
   unfolding ranIn runScope runChange siteIn cellOf

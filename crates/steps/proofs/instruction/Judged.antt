@@ -1,15 +1,14 @@
 -- The verdict on a run whose instruction is a send or a receive is the verdict on that, which can be carried out.
 use mathlib.Core.Path.{_≡_, refl}
 use mathlib.Core.Bool.{true}
-use mathlib.Core.List.{List}
 use Prim.Native.Nat.{ℕ, _-_, _≤_, _<_}
 use native.Mathlib.Omega.{arith}
 use borrow.Author.Tests.{ne-eqb}
 use Rattle.base.specs.Choice.{within}
 use Rattle.base.proofs.Tests.{within-low, within-high}
 use Rattle.plan.specs.declared.TaskId.{TaskId}
-use Rattle.rules.specs.declared.task.Task.{Task}
 use Rattle.rules.specs.declared.task.TaskState.the-variants.{Ready}
+use Rattle.rules.specs.declared.system.TaskTable.{TaskTable}
 use Rattle.rig_parts.specs.declared.kept.Kept.{Kept}
 use Rattle.rules.specs.Numbers.{channelId}
 use Rattle.rules.specs.Tasks.{isIn}
@@ -25,7 +24,7 @@ use Rattle.board.specs.Lent.{AtCell}
 use Rattle.steps.specs.instruction.Sends.{CanSend, sendVerdict}
 use Rattle.steps.specs.instruction.Receives.{CanReceive, receiveScope, receiveVerdict}
 
-module _ {f : Facts} {n : ℕ} {ts : List Task} {s : Kept} {used : ℕ} (p : PartsOf f n ts s used) (t : TaskId)
+module _ {f : Facts} {n : ℕ} {ts : TaskTable} {s : Kept} {used : ℕ} (p : PartsOf f n ts s used) (t : TaskId)
     (w : within 1 (f .tasks) (t .0) ≡ true) (ready : isIn Ready (taskIn ts t) ≡ true) where
   -- the argument of the next instruction
   abbrev c : ℕ

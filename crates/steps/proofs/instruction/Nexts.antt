@@ -12,6 +12,7 @@ use Rattle.rules.specs.declared.task.Task.{Task}
 use Rattle.rules.specs.declared.task.TaskState.the-variants.{Ready}
 use Rattle.rules.specs.declared.step.StepAnswer.{StepAnswer}
 use Rattle.rules.specs.declared.step.StepAnswer.the-variants.{Accepted, NoTask, NotReady, FinishWithChildren}
+use Rattle.rules.specs.declared.system.TaskTable.{TaskTable}
 use Rattle.rig_parts.specs.declared.kept.Kept.{Kept}
 use Rattle.rules.specs.Answers.{isAccepted}
 use Rattle.rules.specs.Tasks.{isIn, isChildless}
@@ -33,7 +34,7 @@ abbrev pub answerTo : Next → StepAnswer
 answerTo (Refused q) = q
 answerTo (Runs x i) = Accepted
 
-module _ (codes : List ℕ) (count : ℕ) (ts : List Task) (t : TaskId) where
+module _ (codes : List ℕ) (count : ℕ) (ts : TaskTable) (t : TaskId) where
   -- the answer by what is found
   pub next-answer : answerTo (nextOf codes count ts t) ≡ runRefusal codes count ts t
   unfolding nextOf
@@ -65,7 +66,7 @@ module _ (codes : List ℕ) (count : ℕ) (ts : List Task) (t : TaskId) where
       can-run e = rw (w, ready, e) refl
 
 -- in the parts of a rig task t is ready, with record x and next instruction i, which 12 does not refuse
-pub record ReadyWith (f : Facts) (n : ℕ) (ts : List Task) (s : Kept) (used : ℕ) (t : TaskId) (x : Task) (i : Instruction) : Type 0 where
+pub record ReadyWith (f : Facts) (n : ℕ) (ts : TaskTable) (s : Kept) (used : ℕ) (t : TaskId) (x : Task) (i : Instruction) : Type 0 where
   pub parts : PartsOf f n ts s used
   pub counted : within 1 (f .tasks) (t .0) ≡ true
   pub ready : isIn Ready (taskIn ts t) ≡ true
@@ -73,7 +74,7 @@ pub record ReadyWith (f : Facts) (n : ℕ) (ts : List Task) (s : Kept) (used : �
   pub next : i ≡ nextAt f ts t
   pub judged : judgedRun f n ts s used t ≡ fittingIn n used (ranIn f ts s t i)
 
-module _ (f : Facts) (n : ℕ) (ts : List Task) (s : Kept) (used : ℕ) (t : TaskId) where
+module _ (f : Facts) (n : ℕ) (ts : TaskTable) (s : Kept) (used : ℕ) (t : TaskId) where
   -- what is found
   abbrev found : Next
   found = nextOf (f .codes) (f .tasks) ts t

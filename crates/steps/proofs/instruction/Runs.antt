@@ -1,7 +1,6 @@
 -- A run of a ready task: by the kind of its next instruction, the verdict on it, and that it can be carried out.
 use mathlib.Core.Path.{_≡_, refl, sym, ap, _∙_, subst}
 use mathlib.Core.Bool.{true, _||_}
-use mathlib.Core.List.{List}
 use mathlib.Core.Logic.{_≢_}
 use Prim.Native.Nat.{ℕ, _≤_, _<_}
 use native.Mathlib.Omega.{arith}
@@ -13,6 +12,7 @@ use Rattle.plan.specs.declared.TaskId.{TaskId}
 use Rattle.plan.specs.declared.Instruction.{Instruction}
 use Rattle.plan.specs.Kinds.{opCreate, opSync, opFinish, opSend, opReceive, opSet}
 use Rattle.rules.specs.declared.task.Task.{Task}
+use Rattle.rules.specs.declared.system.TaskTable.{TaskTable}
 use Rattle.rig_parts.specs.declared.kept.Kept.{Kept}
 use Rattle.rules.specs.Numbers.{taskId, channelId}
 use Rattle.rules.specs.Local.{syncRule, setRule, addRule}
@@ -30,7 +30,7 @@ use Rattle.steps.proofs.instruction.Nexts.{ReadyWith}
 use Rattle.steps.proofs.instruction.ByKind.{create-is, sync-is, finish-is, set-is, add-is, plain-is}
 use Rattle.steps.proofs.instruction.Judged.{send-judged, send-can, receive-judged, receive-can}
 
-module _ {f : Facts} {n : ℕ} {ts : List Task} {s : Kept} {used : ℕ} {t : TaskId} {x : Task} {i : Instruction} (g : ReadyWith f n ts s used t x i) where
+module _ {f : Facts} {n : ℕ} {ts : TaskTable} {s : Kept} {used : ℕ} {t : TaskId} {x : Task} {i : Instruction} (g : ReadyWith f n ts s used t x i) where
   -- the number of the task, and its place
   task-low : 1 ≤ t .0
   task-low = within-low 1 (f .tasks) (t .0) (g .counted)

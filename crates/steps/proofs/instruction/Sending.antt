@@ -17,6 +17,7 @@ use Rattle.rules.specs.declared.channel.Channel.{Channel}
 use Rattle.rules.specs.declared.channel.Cell.{Cell}
 use Rattle.rules.specs.declared.rule.Site.{Site}
 use Rattle.rules.specs.declared.rule.Outcome.{Outcome}
+use Rattle.rules.specs.declared.system.TaskTable.{TaskTable}
 use Rattle.rules.specs.Numbers.{noProcessor, sameProcessor}
 use Rattle.rules.specs.Tasks.{isAt}
 use Rattle.rules.specs.Cells.{isUnknown, withNoted}
@@ -42,7 +43,7 @@ send-keeps x c w =
 
 module _ (codes numbers receivers hp hm op on board : List ℕ) (t : TaskId) (c : ChannelId) (some : 1 ≤ c .0) where
   -- the tasks
-  abbrev ts : List Task
+  abbrev ts : TaskTable
   ts = tasksOn board
 
   -- with these notes

@@ -6,9 +6,9 @@ use lib.ListN.{set}
 use Rattle.plan.specs.declared.TaskId.{TaskId}
 use Rattle.plan.specs.declared.ChannelId.{ChannelId}
 use Rattle.plan.specs.declared.ProcessorId.{ProcessorId}
-use Rattle.rules.specs.declared.task.Task.{Task}
 use Rattle.rules.specs.declared.channel.Cell.{Cell}
 use Rattle.rules.specs.declared.rule.Outcome.{Outcome}
+use Rattle.rules.specs.declared.system.TaskTable.{TaskTable}
 use Rattle.rules.specs.declared.system.Channels.{Channels}
 use Rattle.rules.specs.Cells.{withHint, withHeld}
 use Rattle.rules.specs.Systems.{entryIndex, writeChannel, cellStored, taskStored}
@@ -16,7 +16,7 @@ use Rattle.board.specs.Lent.{lent, channelsOn, storeOf, hintIn, heldIn}
 use Rattle.board.proofs.Stores.{note-stored as note-kept}
 
 -- the tasks, where their numbers are known by equations
-pub both-stored : (ts : List Task) (o : Outcome) {one two : List Task} {s s' u u' : TaskId} → s' ≡ s → u' ≡ u → one ≡ taskStored ts s' (o .sender) → two ≡ taskStored one u' (o .receiver)
+pub both-stored : (ts : TaskTable) (o : Outcome) {one two : TaskTable} {s s' u u' : TaskId} → s' ≡ s → u' ≡ u → one ≡ taskStored ts s' (o .sender) → two ≡ taskStored one u' (o .receiver)
     → two ≡ taskStored (taskStored ts s (o .sender)) u (o .receiver)
 both-stored ts o es eu e f = rw (f, e, eu, es) refl
 

@@ -10,6 +10,7 @@ use Rattle.rules.specs.declared.rule.Posting.the-variants.{Nothing as NoPosting
 use Rattle.rules.specs.declared.rule.Received.the-variants.{Nothing as NoWord}
 use Rattle.rules.specs.Numbers.{channelId}
 use Rattle.rules.specs.declared.rule.Finished.{Finished}
+use Rattle.rules.specs.declared.system.TaskTable.{TaskTable}
 use Rattle.rules.specs.declared.system.Parents.{Parents}
 use Rattle.rules.specs.Hints.{hint}
 use Rattle.rules.specs.Tasks.{noTask, born}
@@ -44,19 +45,19 @@ pub record CanCreate (t : TaskId) (x : Task) (u : TaskId) : Type 0 where
   pub processor : x .processor .0 ≤ 6
 
 -- what a finish leaves of its parent, of the task and of what its desk keeps for the parent
-abbrev pub finishedIn : List ℕ → List Task → Parents → TaskId → Task → Finished
+abbrev pub finishedIn : List ℕ → TaskTable → Parents → TaskId → Task → Finished
 finishedIn parents ts ps t x =
     let u = namedIn parents (t .0) in
     finishRule t x (taskIn ts u) (parentIn ps (x .processor) u)
 
-abbrev pub finishChange : List ℕ → List Task → Parents → TaskId → Task → Change
+abbrev pub finishChange : List ℕ → TaskTable → Parents → TaskId → Task → Change
 finishChange parents ts ps t x =
     let u = namedIn parents (t .0) in
     let o = finishedIn parents ts ps t x in
     change (scope u t (channelId 0) (x .processor)) (twoTasks (o .parent) (o .task) (o .posting)) (Ending u (x .processor) (o .entry))
 
 -- it is refused where its letter does not fit
-abbrev pub finishVerdict : List ℕ → ℕ → ℕ → List Task → Parents → TaskId → Task → Verdict
+abbrev pub finishVerdict : List ℕ → ℕ → ℕ → TaskTable → Parents → TaskId → Task → Verdict
 finishVerdict parents n used ts ps t x = fittingIn n used (finishChange parents ts ps t x)
 
 -- what it supposes

@@ -7,8 +7,8 @@ use Rattle.plan.specs.declared.TaskId.{TaskId}
 use Rattle.rules.specs.declared.message.Message.{Message}
 use Rattle.rules.specs.declared.message.Message.the-variants.{Migration}
 use Rattle.rules.specs.declared.channel.Hint.{Hint}
-use Rattle.rules.specs.declared.task.Task.{Task}
 use Rattle.rules.specs.declared.rule.Ended.{Ended}
+use Rattle.rules.specs.declared.system.TaskTable.{TaskTable}
 use Rattle.rules.specs.declared.system.Parents.{Parents}
 use Rattle.rules.specs.Systems.{taskIn}
 use Rattle.rules.specs.Arrivals.{terminatedRule}
@@ -25,7 +25,7 @@ pub record IsMover (m : Message) : Type 0 where
   pub is : m ≡ Migration processor task
 
 -- what an ended letter for child t along h leaves: of the parent, of what the letter's desk keeps for it, and the letter
-abbrev pub endedIn : List ℕ → List Task → Parents → Hint → TaskId → Ended
+abbrev pub endedIn : List ℕ → TaskTable → Parents → Hint → TaskId → Ended
 endedIn parents ts ps h t =
     let u = namedIn parents (t .0) in
     terminatedRule (taskIn ts u) (parentIn ps (h .processor) u) h t

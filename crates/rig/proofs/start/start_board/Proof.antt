@@ -5,7 +5,6 @@ use native.Mathlib.Omega.{arith}
 use borrow.Author.Needs.{needs}
 use Rattle.rig.proofs.start.Boards.{Unborn, unborn-none, unborn-more, unborn-channels, unborn-parents, unborn-tasks}
 use Rattle.rig.proofs.start.start_board.Statement.{statement}
-use Rattle.rules.specs.Systems.{taskStored}
 use Rattle.rig.proofs.start.start_board.Tie as tie
 
 abbrev Inv-loop : tie.InvT-loop
@@ -50,7 +49,6 @@ point-parent-requires : tie.Need-point-parent-requires Inv-loop μ-loop
 point-parent-requires c κs = (record { processor-low = omega arith; processor = omega arith; task = omega arith }, c .before .put-task .ensures .0)
 
 returns : tie.Need-returns Inv-loop μ-loop
-unfolding taskStored
 returns c =
     let first = c .before .before in
     let b = first .before .before in

@@ -12,10 +12,10 @@ use Rattle.rig_check.proofs.system.origins_ok.Statement.{statement}
 use Rattle.rig_check.proofs.system.origins_ok.Tie as tie
 
 abbrev Inv-loop : tie.InvT-loop
-Inv-loop r n end k₀ k = (k ≤ r .plan .tasks) × (below k (pointerOk r) ≡ true)
+Inv-loop ts n end k₀ k = (k ≤ end) × (below k (pointerOk n ts) ≡ true)
 
 abbrev μ-loop : tie.MeasureT-loop
-μ-loop r n end k₀ k = r .plan .tasks - k
+μ-loop ts n end k₀ k = end - k
 
 wide8-requires : tie.Need-wide8-requires Inv-loop μ-loop
 wide8-requires c κs = search needs
@@ -24,13 +24,13 @@ loop-holds : tie.Need-loop-holds Inv-loop μ-loop
 loop-holds c = (omega arith, below-none _)
 
 mul-x : tie.Need-mul-x Inv-loop μ-loop
-mul-x c = let s = c .before .before .before .before in omega (arith, few-tasks (s .args .t1) (s .pre))
+mul-x c = let s = c .before .before .before .before .before in omega (arith, few-tasks (s .args .r) (s .pre))
 
 element-copy-out-x : tie.Need-element-copy-out-x Inv-loop μ-loop
-element-copy-out-x c = let s = c .before .before .before .before in omega (arith, few-tasks (s .args .t1) (s .pre))
+element-copy-out-x c = let s = c .before .before .before .before .before in omega (arith, few-tasks (s .args .r) (s .pre))
 
 add-origin-ok : tie.Need-add-origin-ok Inv-loop μ-loop
-add-origin-ok c = let s = c .before .before .before .before .before in omega (arith, few-tasks (s .args .t1) (s .pre))
+add-origin-ok c = let s = c .before .before .before .before .before .before in omega (arith, few-tasks (s .args .r) (s .pre))
 
 origin-ok-requires : tie.Need-origin-ok-requires Inv-loop μ-loop
 origin-ok-requires c κs = search needs
@@ -39,10 +39,10 @@ returns : tie.Need-returns Inv-loop μ-loop
 returns c =
     let i = c .before .before .before in
     let l = i .before in
-    let r = l .before .before .before .args .t1 in
+    let r = l .before .before .before .before .args .r in
     let w = l .before .wide8 .ensures in
     let q : l .loop .k < r .plan .tasks = omega (arith, i .loop-test .taken) in
-    sym (origins-places r ∙ below-fails (pointerOk r) (r .plan .tasks) (l .loop .k) q (sym (c .before .origin-ok .ensures) ∙ not-true (c .before .origin-ok .result) (c .if1 .taken)))
+    sym (origins-places r ∙ below-fails (pointerOk (r .processors) (r .tasks)) (r .plan .tasks) (l .loop .k) q (sym (c .before .origin-ok .ensures) ∙ not-true (c .before .origin-ok .result) (c .if1 .taken)))
 
 add-k : tie.Need-add-k Inv-loop μ-loop
 add-k c = omega (arith, c .before .before .before .loop-test .taken)
@@ -61,7 +61,7 @@ loop-again c =
 returns-2 : tie.Need-returns-2 Inv-loop μ-loop
 returns-2 c =
     let l = c .before in
-    let r = l .before .before .before .args .t1 in
+    let r = l .before .before .before .before .args .r in
     let e : l .loop .k ≡ r .plan .tasks = omega (arith, l .before .wide8 .ensures) in
     sym (origins-places r ∙ (rw e at (l .loop .inv .1)))
 

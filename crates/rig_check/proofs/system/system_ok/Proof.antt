@@ -2,8 +2,8 @@
 use mathlib.Core.Path.{refl, sym, _∙_}
 use borrow.Author.Tests.{not-true, not-false}
 use Rattle.plan.specs.Programs.{programs}
-use Rattle.rules.specs.Sound.{systemOk}
-use Rattle.rig_check.proofs.system.EachTask.{sizes-passed}
+use Rattle.rules.specs.Sound.{systemOk, chosenOk}
+use Rattle.rig_check.proofs.system.EachTask.{few-tasks, sizes-passed}
 use borrow.Author.Needs.{needs}
 use Rattle.rig_check.proofs.system.system_ok.Statement.{statement}
 use Rattle.rig_check.proofs.system.system_ok.Tie as tie
@@ -33,7 +33,7 @@ returns-2 c =
 tasks-ok-requires : tie.Need-tasks-ok-requires
 tasks-ok-requires c κs =
     let d = c .before .before .before in
-    sizes-passed (programs (d .before .before .args .r .plan)) (sym (c .before .plan-ok .ensures) ∙ not-false (c .before .plan-ok .result) (c .if2 .left))
+    sizes-passed (programs (d .before .before .args .t1 .plan)) (sym (c .before .plan-ok .ensures) ∙ not-false (c .before .plan-ok .result) (c .if2 .left))
 
 returns-3 : tie.Need-returns-3
 unfolding systemOk
@@ -54,7 +54,7 @@ origins-ok-requires : tie.Need-origins-ok-requires
 origins-ok-requires c κs =
     let e = c .before .before in
     let d = e .before .before .before in
-    sizes-passed (programs (d .before .before .args .r .plan)) (sym (e .before .plan-ok .ensures) ∙ not-false (e .before .plan-ok .result) (e .if2 .left))
+    sizes-passed (programs (d .before .before .args .t1 .plan)) (sym (e .before .plan-ok .ensures) ∙ not-false (e .before .plan-ok .result) (e .if2 .left))
 
 returns-4 : tie.Need-returns-4
 unfolding systemOk
@@ -80,6 +80,15 @@ channel-entries-ok-requires c κs = search needs
 parents-ok-requires : tie.Need-parents-ok-requires
 parents-ok-requires c κs = search needs
 
+ready-ok-requires : tie.Need-ready-ok-requires
+ready-ok-requires c κs =
+    let e = c .before .before .before .before .before .before .before .before .before .before .before in
+    let r = e .before .before .before .before .before .args .t1 in
+    few-tasks r (sizes-passed (programs (r .plan)) (sym (e .before .plan-ok .ensures) ∙ not-false (e .before .plan-ok .result) (e .if2 .left)))
+
+all-at-most-requires : tie.Need-all-at-most-requires
+all-at-most-requires c κs = search needs
+
 network-ok-requires : tie.Need-network-ok-requires
 network-ok-requires c κs = search needs
 
@@ -89,16 +98,24 @@ both-requires c κs = search needs
 both-requires-2 : tie.Need-both-requires-2
 both-requires-2 c κs = search needs
 
-tables-ok-requires : tie.Need-tables-ok-requires
-tables-ok-requires c κs = search needs
-
 both-requires-3 : tie.Need-both-requires-3
 both-requires-3 c κs = search needs
 
+both-requires-4 : tie.Need-both-requires-4
+both-requires-4 c κs = search needs
+
+tables-ok-requires : tie.Need-tables-ok-requires
+tables-ok-requires c κs = search needs
+
+both-requires-5 : tie.Need-both-requires-5
+both-requires-5 c κs = search needs
+
 returns-5 : tie.Need-returns-5
-unfolding systemOk
+unfolding systemOk chosenOk
 returns-5 c =
-    let o = c .before .before .before .before .before .before .before .before .before .before .before in
+    let n = c .before .before .before .before .before .before in
+    let k = n .before .before .before .before .before in
+    let o = k .before .before .before .before .before .before .before .before in
     let f = o .before .before in
     let e = f .before .before in
     let d = e .before .before .before in
@@ -112,14 +129,18 @@ returns-5 c =
       ← o .before .origins-ok .ensures,
       not-false (o .before .origins-ok .result) (o .if4 .left),
     )
-    (c .both3 .ensures
+    (c .both5 .ensures
     ∙ rw (
       c .before .tables-ok .ensures,
-      c .before .before .both2 .ensures,
-      c .before .before .before .both .ensures,
-      c .before .before .before .before .network-ok .ensures,
-      c .before .before .before .before .before .parents-ok .ensures,
-      c .before .before .before .before .before .before .channel-entries-ok .ensures,
+      c .before .before .both4 .ensures,
+      c .before .before .before .both3 .ensures,
+      c .before .before .before .before .both2 .ensures,
+      c .before .before .before .before .before .both .ensures,
+      n .network-ok .ensures,
+      n .before .all-at-most .ensures,
+      k .ready-ok .ensures,
+      k .before .before .parents-ok .ensures,
+      k .before .before .before .channel-entries-ok .ensures,
     )
     refl)
 
@@ -137,9 +158,13 @@ system-ok-spec =
     returns-4
     channel-entries-ok-requires
     parents-ok-requires
+    ready-ok-requires
+    all-at-most-requires
     network-ok-requires
     both-requires
     both-requires-2
-    tables-ok-requires
     both-requires-3
+    both-requires-4
+    tables-ok-requires
+    both-requires-5
     returns-5)

@@ -1,71 +1,19 @@
 -- `tasks_on`: the tasks of a board.
-use mathlib.Core.Path.{refl, _∙_}
-use Prim.Native.Nat.{_-_, _≤_}
-use native.Mathlib.Omega.{arith}
+use mathlib.Core.Path.{refl}
 use borrow.Author.Needs.{needs}
-use Rattle.rules.specs.Tasks.{noTask}
 use Rattle.board.specs.Lent.{tasksOn}
-use Rattle.rig_step.proofs.Agreeing.{Agree, agree-none, agree-more, agree-all, tasks-long, task-after}
 use Rattle.rig_step.proofs.pack.tasks_on.Statement.{statement}
 use Rattle.rig_step.proofs.pack.tasks_on.Tie as tie
 
-abbrev Inv-loop : tie.InvT-loop
-Inv-loop board tasks₀ k₀ tasks k =
-    (k ≤ 64) × Agree noTask 64 k tasks (tasksOn board)
+records-on-requires : tie.Need-records-on-requires
+records-on-requires c κs = search needs
 
-abbrev μ-loop : tie.MeasureT-loop
-μ-loop board tasks₀ k₀ tasks k = 64 - k
+sets-on-requires : tie.Need-sets-on-requires
+sets-on-requires c κs = search needs
 
-task-at-requires : tie.Need-task-at-requires Inv-loop μ-loop
-task-at-requires c κs = search needs
-
-loop-holds : tie.Need-loop-holds Inv-loop μ-loop
-loop-holds c = (omega arith, agree-none refl (tasks-long (c .before .args .board .now)))
-
-add-t9 : tie.Need-add-t9 Inv-loop μ-loop
-add-t9 c = search needs
-
-task-at-requires-2 : tie.Need-task-at-requires-2 Inv-loop μ-loop
-task-at-requires-2 c κs = search needs
-
-wide8-requires : tie.Need-wide8-requires Inv-loop μ-loop
-wide8-requires c κs = search needs
-
-mul-tasks : tie.Need-mul-tasks Inv-loop μ-loop
-mul-tasks c = search needs
-
-array-set-from-tasks : tie.Need-array-set-from-tasks Inv-loop μ-loop
-array-set-from-tasks c = search needs
-
-add-k : tie.Need-add-k Inv-loop μ-loop
-add-k c = search needs
-
-loop-less : tie.Need-loop-less Inv-loop μ-loop
-loop-less c = search needs
-
-loop-again : tie.Need-loop-again Inv-loop μ-loop
-loop-again c =
-    let l = c .before .before .before in
-    let ts = tasksOn (l .before .before .args .board .now) in
-    (omega arith, rw (c .wide8 .ensures) (agree-more (l .loop .inv .1) (omega arith) (c .before .task-at2 .result) (c .before .task-at2 .ensures ∙ task-after ts (l .loop .k))))
-
-returns : tie.Need-returns Inv-loop μ-loop
-returns c = agree-all (omega arith) (c .before .loop .inv .1)
+returns : tie.Need-returns
+unfolding tasksOn
+returns c = rw (c .sets-on .ensures, c .before .records-on .ensures) refl
 
 pub tasks-on-spec : {M : Type 1} → statement M
-tasks-on-spec =
-    tie.close
-    (tie.spec
-    Inv-loop
-    μ-loop
-    task-at-requires
-    loop-holds
-    add-t9
-    task-at-requires-2
-    wide8-requires
-    mul-tasks
-    array-set-from-tasks
-    add-k
-    loop-less
-    loop-again
-    returns)
+tasks-on-spec = tie.close (tie.spec records-on-requires sets-on-requires returns)

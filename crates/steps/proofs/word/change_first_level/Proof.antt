@@ -6,7 +6,7 @@ use Rattle.plan.specs.declared.Word.{Word}
 use Rattle.rules.specs.declared.task.Task.{Task}
 use Rattle.rules.specs.Systems.{taskIn, taskStored}
 use Rattle.board.specs.Lent.{tasksOn, SameAbove}
-use Rattle.steps.proofs.Words.{above-kept}
+use Rattle.steps.proofs.Words.{above-kept, standing-kept}
 use Rattle.steps.proofs.word.change_first_level.Statement.{statement}
 use Rattle.steps.proofs.word.change_first_level.Tie as tie
 
@@ -17,7 +17,9 @@ put-first-level-requires : tie.Need-put-first-level-requires
 put-first-level-requires c κs =
     let s = c .before .before in
     let p = s .pre in
-    (p .0, p .1, p .3, rw (c .before .word-changed .ensures, ← p .5) (above-kept (s .args .x) (s .args .i) (p .4)))
+    let x = s .args .x in
+    let i = s .args .i in
+    (p .0, p .1, p .3, rw (c .before .word-changed .ensures, ← p .5) (above-kept x i (p .4)), rw (c .before .word-changed .ensures, ← p .5) (standing-kept x i))
 
 returns : tie.Need-returns
 returns c =

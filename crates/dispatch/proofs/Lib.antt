@@ -1,0 +1,3 @@
+-- Laws that the code's proofs cite.
+mod Letters
+mod Turns
