@@ -46,3 +46,4 @@ pub mod Idle
 pub mod Waiting
 pub mod Calls
 pub mod Rounds
+pub mod Tablets

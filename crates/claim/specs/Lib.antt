@@ -9,6 +9,7 @@ pub mod Overflows
 pub mod OldPlans
 pub mod Commute
 pub mod Logs
+pub mod Tablets
 pub mod Corollaries
 pub mod Events
 pub mod Dispatch

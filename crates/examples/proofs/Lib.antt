@@ -3,6 +3,8 @@ pub mod Edges
 -- Each run has its trace.
 pub mod Scenes
 -- What demand 3 says of two runs, that its test of letters tells rigs apart, and what is said of moves, of marks, of plans on level 0 and of logs.
+-- What demand 3 says of two runs, that its test of letters tells rigs apart, and what is said of moves, of marks, of plans on level 0 and of
+-- tablets.
 pub mod Demand3
 pub mod Bound
 pub mod Suppositions
@@ -12,3 +14,4 @@ pub mod OldPlans
 pub mod Commute
 pub mod Logs
 pub mod Dispatch
+pub mod Tablets

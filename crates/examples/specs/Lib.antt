@@ -13,3 +13,5 @@ pub mod Commute
 pub mod Logs
 -- Steps and calls, mixed.
 pub mod Dispatch
+-- Plans that differ in an argument.
+pub mod Tablets

@@ -1,3 +1,3 @@
 -- What the loop over the tasks computes is what the definition asks.
 mod Programs
-mod EachTask
+pub mod EachTask

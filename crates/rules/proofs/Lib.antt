@@ -24,6 +24,8 @@ pub mod StepCases
 pub mod OrderCases
 -- sets of ready tasks, and calls of a dispatcher
 pub mod DispatchCases
+-- the panel, and views of a task
+pub mod ViewCases
 -- the four levels of a word
 pub mod LevelCases
 -- the mark of a sum over the top

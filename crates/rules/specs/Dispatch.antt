@@ -22,6 +22,7 @@ use Rattle.rules.specs.Networks.{messages}
 use Rattle.rules.specs.Systems.{readyAt, chosenAt, withChosen}
 use Rattle.rules.specs.Sound.{systemOk}
 use Rattle.rules.specs.Steps.{step, runStep}
+pub use Rattle.rules.specs.Steps.{deliverStep}
 
 -- the desk that a letter is addressed to
 unfoldable pub addressee : Message → ProcessorId
@@ -50,10 +51,6 @@ unfoldable pub nextReady : ℕ → ℕ → ℕ → ℕ
 nextReady m last s =
     let t = firstFrom (m - last) (suc last) s in
     pick (eqb t 0) (firstFrom last 1 s) t
-
--- a delivery of the letter at position p
-abbrev pub deliverStep : ℕ → Step
-deliverStep p = record { kind = 2; task = 0; number = p }
 
 -- a call gives this turn, if it makes one, and the rig then
 pub record Turned : Type 0 where

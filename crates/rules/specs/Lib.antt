@@ -1,6 +1,7 @@
 -- What the paper says of the rig: first what it is made of and how it is read and changed, then start, run, deliver, move, refusal 9, steps,
 -- trace and step file, what is sent and the logs.
 -- the dispatcher, trace and step file.
+-- the dispatcher, the panel, views of a task, trace and step file.
 pub mod Numbers
 pub mod Answers
 pub mod Hints
@@ -23,6 +24,9 @@ pub mod Moves
 pub mod Sound
 pub mod Steps
 pub mod Dispatch
+pub mod Panel
+pub mod Views
+pub mod Erasures
 pub mod Trace
 pub mod StepFiles
 pub mod Logs

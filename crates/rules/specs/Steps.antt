@@ -82,9 +82,15 @@ step r s = answered r s (stepAnswer r s)
 unfoldable pub ruledStep : System → Step → Stepped
 ruledStep r s = answered r s (ruledAnswer r s)
 
--- a run of task t
+-- a run of task t, a delivery of the letter at position p, a move of task t to desk d
 abbrev pub runStep : ℕ → Step
 runStep t = record { kind = 1; task = t; number = 0 }
+
+abbrev pub deliverStep : ℕ → Step
+deliverStep p = record { kind = 2; task = 0; number = p }
+
+abbrev pub moveStep : ℕ → ℕ → Step
+moveStep t d = record { kind = 3; task = t; number = d }
 
 -- "At rest: the mail is empty and, by the conditions above and not by the core's word, no run step would be accepted."
 unfoldable pub quiescent : System → Bool

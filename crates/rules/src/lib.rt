@@ -16,3 +16,5 @@ pub mod step;
 pub mod system;
 // A task's record.
 pub mod task;
+// What tablets and the driver show of a task.
+pub mod view;

@@ -21,7 +21,7 @@ use Rattle.rules_laws.proofs.Sound.{taskOkIn, system-passed, system-ok, originO
 use Rattle.rules_sound.specs.Sound.{Sound}
 use Rattle.rules_sound.proofs.Entries.{tables-fine, fine-tables, channels-fine, fine-channels, parents-fine, fine-parents}
 
-accepted-is : (a : PlanAnswer) → isAccepted a ≡ true → a ≡ Accepted
+pub accepted-is : (a : PlanAnswer) → isAccepted a ≡ true → a ≡ Accepted
 accepted-is Accepted h = refl
 accepted-is (Refused r) h = cc
 

@@ -1,0 +1,2 @@
+-- What rules take and give back, without words.
+pub mod Erased

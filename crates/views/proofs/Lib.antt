@@ -1,0 +1,2 @@
+-- When a view is refused, and when it is shown.
+pub mod Viewed
