@@ -84,10 +84,10 @@ module _ (p : Plan) (a : planAnswer (programs p) ≡ PlanAccepted) where
 
   -- at rest nothing is under way, and the net is in its normal form
   module _ {r : System} {w : ChannelId → List Word} (k : Kept p r w) (quiet : quiescent r ≡ true) where
-    no-messages : reading r .messages ≡ []
+    pub no-messages : reading r .messages ≡ []
     no-messages = quiet-messages r (k .shaped) (k .ok) quiet
 
-    resting : Resting m (reading r)
+    pub resting : Resting m (reading r)
     unfolding reading
     resting t is ready =
         let same : r .plan .tasks ≡ length m = ap (λ (z : Plan). z .tasks) (k .plan) ∙ sym (tasks-of p) in
@@ -122,7 +122,7 @@ module _ (p : Plan) (a : planAnswer (programs p) ≡ PlanAccepted) where
       same-words : (c : ChannelId) → w c ≡ v c
       same-words c = sym (all-received k quiet c) ∙ ap (λ (s : Net). s .passed c) same-net ∙ all-received l rests c
 
-      same-task : (t : TaskId) → within 1 (p .tasks) (t .0) ≡ true → SameTask r q t
+      pub same-task : (t : TaskId) → within 1 (p .tasks) (t .0) ≡ true → SameTask r q t
       unfolding reading
       same-task t is =
           let there = subst (λ (s : Net). Running m (k .histories) s (reading r) w) same-net (k .running) in

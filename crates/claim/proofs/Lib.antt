@@ -47,3 +47,10 @@ pub mod Waiting
 pub mod Calls
 pub mod Rounds
 pub mod Tablets
+-- the finish check: the lowest living child, the same answer everywhere
+pub mod Lowest
+pub mod Finish
+-- how many runs are accepted: a run takes its task one place on, and so the number is everywhere the same
+pub mod Places
+pub mod OneProcessor
+pub mod Work

@@ -43,11 +43,11 @@ module _ (r : System) (s : Step) where
   left e = ap (λ (o : Stepped). o .system) (stays e)
 
   module _ (test : Step → Bool) (ss : List Step) where
-    counted : stepAnswer r s ≡ Accepted → acceptedOf test r (s ∷ ss) ≡ flag (test s) + acceptedOf test (step r s .system) ss
+    pub counted : stepAnswer r s ≡ Accepted → acceptedOf test r (s ∷ ss) ≡ flag (test s) + acceptedOf test (step r s .system) ss
     unfolding acceptedOf
     counted e = let all : isAccepted (stepAnswer r s) ≡ true = ap isAccepted e in rw (all, and-true (test s)) refl
 
-    uncounted : isAccepted (stepAnswer r s) ≡ false → acceptedOf test r (s ∷ ss) ≡ acceptedOf test r ss
+    pub uncounted : isAccepted (stepAnswer r s) ≡ false → acceptedOf test r (s ∷ ss) ≡ acceptedOf test r ss
     unfolding acceptedOf
     uncounted e = rw (e, and-false (test s), left e) (omega arith)
 

@@ -63,7 +63,7 @@ module _ (n : ℕ) (p : Plan) (some : 1 ≤ n) (few : n ≤ 6) (a : planAnswer (
   list-kept ss = kept-steps p a start-kept ss
 
   -- at the start every task is at its first place
-  first-place : (t : TaskId) → within 1 (length (programs p)) (t .0) ≡ true → reading (started n p) .tasks t .pc ≡ 1
+  pub first-place : (t : TaskId) → within 1 (length (programs p)) (t .0) ≡ true → reading (started n p) .tasks t .pc ≡ 1
   first-place t is =
       by-cases
       (ℕ-discrete (t .0) 1)

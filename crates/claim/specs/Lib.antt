@@ -2,8 +2,11 @@
 -- what a corollary is stated with.
 -- Demand 3: the statement, what else holds of moves, of parents, of marks and of plans on one level, and what a corollary is stated with; and, of lists
 -- that mix steps and calls of dispatchers, that they are runs, whom they choose, which letters leave and when they rest.
+-- Demand 3: the statement, what else holds of moves, of parents, of marks and of plans on one level, and what a corollary is stated with; that the
+-- finish check's answer and the number of accepted runs are the same everywhere.
 pub mod Statement
 pub mod Moves
+pub mod OneProcessor
 pub mod Parents
 pub mod Overflows
 pub mod OldPlans
@@ -16,3 +19,5 @@ pub mod Dispatch
 pub mod Turns
 pub mod Letters
 pub mod Rounds
+pub mod Finish
+pub mod Work

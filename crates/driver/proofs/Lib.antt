@@ -1,4 +1,5 @@
--- What the exported run leaves, and its numbers.
+-- What the exported run and the exported finish check leave, and their numbers.
 pub mod Traced
 pub mod Numbers
 pub mod Room
+pub mod Finished

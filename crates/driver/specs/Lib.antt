@@ -1,3 +1,4 @@
 -- What the exported functions answer.
 pub mod Runs
 pub mod Logs
+pub mod Finish

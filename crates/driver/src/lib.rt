@@ -2,6 +2,8 @@
 
 // The check of two logs.
 pub mod log_files;
+// Whether a plan finishes.
+pub mod finish_check;
 
 ghost use mathlib.Core.Path.{_≡_};
 ghost use Prim.Native.Nat.{_≤_};

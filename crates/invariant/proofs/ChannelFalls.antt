@@ -23,7 +23,7 @@ use Rattle.transitions.specs.Transitions.{Ran, by-sender, by-receiver, by-nobod
 use Rattle.transitions.specs.Agreement.{Running}
 use Rattle.transitions.proofs.Updates.{task-cases}
 use Rattle.invariant.specs.Weights.{instructionWeight, channelCount, channelsWeight, tasksWeight, weightOf}
-use Rattle.invariant.proofs.Work.{sum-change, work-same, work-one, place-other}
+use Rattle.invariant.proofs.Work.{sum-change, Went, one-goes, nobody, work-went, place-other}
 use Rattle.invariant.proofs.TaskWeights.{weight-same, weights-same}
 use Rattle.invariant.proofs.Counts.{channel-counts}
 
@@ -43,8 +43,9 @@ module _ (m : Programs) where
   unfolding viewOf
   seen h x c = refl
 
-  -- so many instructions are executed, and the measure is smaller
+  -- so many instructions are executed, by the tasks whose places go on, and the measure is smaller
   pub record Less (h h' : Histories) (x y : Reading) (executed : ℕ) : Type 0 where
+    pub places : Went m (x .tasks) (y .tasks) executed
     pub work : unexecuted m (x .tasks) ≡ executed + unexecuted m (y .tasks)
     pub weight : weightOf m h' y < weightOf m h x
 
@@ -84,34 +85,33 @@ module _ (m : Programs) where
     rest-of s u f g = task-cases (λ t. t .0 ≢ s .0 → y .tasks t .pc ≡ x .tasks t .pc) u (λ ne. g) (λ t nu ns. f t ns nu)
 
     -- a transfer executes one instruction, a delivery none
-    transfer-work : {k : Transfer} → Ran m (senderOf m c) (receiverOf m c) (x .tasks) (y .tasks) (transfer k)
-        → unexecuted m (x .tasks) ≡ suc (unexecuted m (y .tasks))
-    transfer-work (by-sender is more goes stays) =
-        work-one m (x .tasks) (y .tasks) (senderOf m c) is more goes (λ t k. rest-of (senderOf m c) (receiverOf m c) other-places stays t)
-    transfer-work (by-receiver is more goes stays) =
-        work-one m (x .tasks) (y .tasks) (receiverOf m c) is more goes
-        (λ t k. rest-of (receiverOf m c) (senderOf m c) (λ t nr ns. other-places t ns nr) stays t)
+    transfer-places : {k : Transfer} → Ran m (senderOf m c) (receiverOf m c) (x .tasks) (y .tasks) (transfer k) → Went m (x .tasks) (y .tasks) 1
+    transfer-places (by-sender is more goes stays) =
+        one-goes (senderOf m c) is more goes (λ t k. rest-of (senderOf m c) (receiverOf m c) other-places stays t)
+    transfer-places (by-receiver is more goes stays) =
+        one-goes (receiverOf m c) is more goes (λ t k. rest-of (receiverOf m c) (senderOf m c) (λ t nr ns. other-places t ns nr) stays t)
 
-    delivery-work : {p : ℕ} {a : Delivery} → Ran m (senderOf m c) (receiverOf m c) (x .tasks) (y .tasks) (delivery p a)
-        → unexecuted m (y .tasks) ≡ unexecuted m (x .tasks)
-    delivery-work (by-nobody a b) =
-        work-same m (x .tasks) (y .tasks)
-        (task-cases (λ t. y .tasks t .pc ≡ x .tasks t .pc) (senderOf m c) a (rest-of (senderOf m c) (receiverOf m c) other-places b))
+    delivery-places : {p : ℕ} {a : Delivery} → Ran m (senderOf m c) (receiverOf m c) (x .tasks) (y .tasks) (delivery p a) → Went m (x .tasks) (y .tasks) 0
+    delivery-places (by-nobody a b) =
+        nobody (λ t is.
+        task-cases (λ t. y .tasks t .pc ≡ x .tasks t .pc) (senderOf m c) a (rest-of (senderOf m c) (receiverOf m c) other-places b) t)
 
   module _ {h : Histories} {s : Net} {x : Reading} {w : ChannelId → List Word} (run : Running m h s x w) where
     pub transfer-less : {y : Reading} {got : Received} (e : Transfer) → ChannelTransition m h x y (transfer e) got → Less h h x y 1
     unfolding guard after
     transfer-less {y} e transition =
         let v = viewOf m h x (transition .channel) in
-        let work = transfer-work transition (transition .ran) in
+        let places = transfer-places transition (transition .ran) in
+        let work = work-went places in
         let adds = transfer-adds e v (run .views (transition .channel) (transition .low) (transition .high)) (transition .allowed) in
         let few : v .processors ≤ 6 = rw (viewed h x (transition .channel)) (run .few) in
-        record { work = omega (arith, work); weight = omega (arith, split h x, split h y, work, adds, few, only-here transition, same-tasks transition) }
+        record { places = places; work = work; weight = omega (arith, split h x, split h y, work, adds, few, only-here transition, same-tasks transition) }
 
     pub delivery-less : {y : Reading} {got : Received} (p : ℕ) (a : Delivery) → ChannelTransition m h x y (delivery p a) got → Less h h x y 0
     unfolding guard after
     delivery-less {y} p a transition =
         let v = viewOf m h x (transition .channel) in
-        let work = delivery-work transition (transition .ran) in
+        let places = delivery-places transition (transition .ran) in
+        let work = work-went places in
         let falls = delivery-falls p a v (run .views (transition .channel) (transition .low) (transition .high)) (transition .allowed) in
-        record { work = omega (arith, work); weight = omega (arith, split h x, split h y, work, falls, only-here transition, same-tasks transition) }
+        record { places = places; work = work; weight = omega (arith, split h x, split h y, work, falls, only-here transition, same-tasks transition) }

@@ -21,7 +21,7 @@ use Rattle.transitions.specs.Views.{Histories, viewOf}
 use Rattle.transitions.specs.Transitions.{MoveTransition, RunTransition, transfers, owns, creates, finishes, DeliverTransition, delivers, ends, arrives}
 use Rattle.transitions.specs.Agreement.{Running}
 use Rattle.invariant.specs.Weights.{channelCount, weightOf, taskWeight}
-use Rattle.invariant.proofs.Work.{work-same, places-same}
+use Rattle.invariant.proofs.Work.{Went, nobody, places-same}
 use Rattle.invariant.proofs.TaskMessages.{few-messages, taskMessages}
 use Rattle.invariant.proofs.ChannelFalls.{split, viewed, seen, Less, transfer-less, delivery-less}
 use Rattle.invariant.proofs.TaskFalls.{own-less, create-less, finish-less, ended-less, arrival-less}
@@ -46,9 +46,9 @@ module _ (m : Programs) (accepted : planAnswer m ≡ Accepted) {h : Histories} {
   deliver-less (ends transition) = ended-less m accepted run transition
   deliver-less (arrives transition) = arrival-less m accepted run transition
 
-  pub move-work : {h' : Histories} {y : Reading} → MoveTransition m h h' x y → unexecuted m (y .tasks) ≡ unexecuted m (x .tasks)
-  move-work {h'} {y} transition =
-      work-same m (x .tasks) (y .tasks) (places-same (x .tasks) (y .tasks) (transition .task) (departed (x .tasks (transition .task))) (transition .tasks) refl)
+  pub move-places : {h' : Histories} {y : Reading} → MoveTransition m h h' x y → Went m (x .tasks) (y .tasks) 0
+  move-places {h'} {y} transition =
+      nobody (λ u is. places-same (x .tasks) (y .tasks) (transition .task) (departed (x .tasks (transition .task))) (transition .tasks) refl u)
 
   -- the measure is at most ten for each instruction not executed and each letter under way
   pub few-left : weightOf m h x ≤ 10 * (unexecuted m (x .tasks) + length (x .messages))

@@ -3,7 +3,7 @@ use mathlib.Core.Path.{_≡_, refl, _∙_}
 use mathlib.Core.Bool.{true, false, not}
 use mathlib.Core.Logic.{_⊎_, inl, inr}
 use mathlib.Core.List.{List, []}
-use Prim.Native.Nat.{ℕ, suc, _^_, _<_, _≤_}
+use Prim.Native.Nat.{ℕ, suc, _+_, _^_, _<_, _≤_}
 use native.Mathlib.Omega.{arith}
 use lib.ListN.{length}
 use borrow.Author.Tests.{eqb-false, not-true, not-false}
@@ -27,7 +27,7 @@ use Rattle.rules_sound.proofs.Born.{children-few, born-passed}
 use Rattle.net.specs.States.{Net}
 use Rattle.net.proofs.Children.{child-within}
 use Rattle.transitions.specs.Readings.{Reading}
-use Rattle.transitions.specs.Progress.{programOf}
+use Rattle.transitions.specs.Progress.{flag, programOf}
 use Rattle.transitions.specs.Messages.{flat, endedOf}
 use Rattle.transitions.specs.Views.{Histories}
 use Rattle.transitions.specs.Transitions.{RunTransition, transfers, owns, creates, finishes, DeliverTransition, delivers, ends, arrives, MoveTransition}
@@ -73,6 +73,15 @@ module _ (m : Programs) (a : planAnswer m ≡ Accepted) {h : Histories} {s : Net
       is-false (isHeld u (h p) (x .tasks p) (x .parents p)) (λ q.
       let c = k .held-for (h p (x .tasks p .moves)) q in
       omega (arith, standing r p i (no-moving r e p i) (c .born), c .moving))
+
+  -- where there is no letter, just the children that are born and not done are in a set
+  pub living-flag : x .messages ≡ [] → (p u : TaskId) → within 1 (length m) (p .0) ≡ true → within 2 (length m) (u .0) ≡ true → parentOf m u ≡ p
+      → flag (member (u .0) (x .tasks p .children)) + flag (isIn Done (x .tasks u)) ≡ flag (not (isIn Unborn (x .tasks u)))
+  unfolding flat
+  living-flag n p u i two parent =
+      let k = rw parent at (r .children u two) in
+      let l = rw (none-held n p u i k, n) at (k .living) in
+      omega (arith, l)
 
   -- who is in a set is a living child
   lives : (p u : TaskId) → within 1 (length m) (p .0) ≡ true → within 1 (length m) (u .0) ≡ true

@@ -48,7 +48,8 @@ use Rattle.transitions.proofs.Runs.{runs-of}
 use Rattle.transitions.proofs.MoveTransitions.{move-transition, move-received}
 use Rattle.transitions.proofs.Dispatch.{run-transition, deliver-transition}
 use Rattle.invariant.specs.Weights.{weightOf}
-use Rattle.invariant.proofs.Falls.{run-less, deliver-less, move-work}
+use Rattle.invariant.proofs.Falls.{run-less, deliver-less, move-places}
+use Rattle.invariant.proofs.Work.{Went, work-went}
 use Rattle.invariant.proofs.Counts.{CountsRise, counts-run, counts-deliver, counts-move}
 use Rattle.invariant.proofs.ViewsKept.{views-run, views-deliver, views-move, root-run, root-deliver, root-move}
 use Rattle.invariant.proofs.FamilyParts.{Families}
@@ -68,10 +69,11 @@ pub record Kept (p : Plan) (r : System) (received : ChannelId → List Word) : T
   pub reached : Reached (programs p) labels state
   pub running : Running (programs p) histories state (reading r) received
 
--- the rig after an accepted step of task t; a run executes one instruction, without a move the measure falls, a move adds one to one task's count,
+-- the rig after an accepted step of task t; a run executes one instruction, by which one place goes on, without a move the measure falls, a move adds one to one task's count,
 -- and a run that adds over the top marks its task
 pub record Next (p : Plan) {r : System} {w : ChannelId → List Word} (k : Kept p r w) (t : TaskId) (q : System) (got : Received) (runs moves : Bool) : Type 0 where
   pub kept : Kept p q (λ c. w c ++ wordOn c got)
+  pub places : Went (programs p) (reading r .tasks) (reading q .tasks) (flag runs)
   pub work : unexecuted (programs p) (reading r .tasks) ≡ flag runs + unexecuted (programs p) (reading q .tasks)
   pub falls : moves ≡ false → weightOf (programs p) (kept .histories) (reading q) < weightOf (programs p) (k .histories) (reading r)
   pub counts : CountsRise (reading r .tasks) (reading q .tasks) (flag moves)
@@ -135,6 +137,7 @@ module _ (p : Plan) (a : planAnswer (programs p) ≡ PlanAccepted) {r : System} 
               together q (λ c. w c ++ wordOn c got) h shaped ok plan (families-run m a (k .running) transition) (views-run m (k .running) transition)
               (root-run m (k .running) transition)
               (follows-run m a (k .reached) (k .running) transition);
+          places = less .places;
           work = less .work;
           falls = λ e. less .weight;
           counts = counts-run m transition;
@@ -150,6 +153,7 @@ module _ (p : Plan) (a : planAnswer (programs p) ≡ PlanAccepted) {r : System} 
               together q (λ c. w c ++ wordOn c got) (k .histories) shaped ok plan (families-deliver m a (k .running) transition)
               (views-deliver m (k .running) transition)
               (root-deliver m (k .running) transition) (follows-deliver m a (k .reached) (k .running) transition);
+          places = less .places;
           work = less .work;
           falls = λ e. less .weight;
           counts = counts-deliver m transition;
@@ -164,7 +168,8 @@ module _ (p : Plan) (a : planAnswer (programs p) ≡ PlanAccepted) {r : System} 
               rw (no-more w)
               (together q w h shaped ok plan (families-move m a (k .running) transition) (views-move m (k .running) transition) (root-move m (k .running) transition)
               (follows-move m a (k .reached) (k .running) transition));
-          work = omega (arith, move-work m a (k .running) transition);
+          places = move-places m a (k .running) transition;
+          work = work-went (move-places m a (k .running) transition);
           falls = λ e. absurd (tests-differ refl e);
           counts = counts-move m transition;
           marks = λ u. move-marks m transition u ∙ sym (or-false (taskAt r u .overflow));

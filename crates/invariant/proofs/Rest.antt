@@ -69,7 +69,7 @@ abbrev stateFor : Bool → Bool → ℕ → ℕ
 stateFor born complete k = pick born (pick complete 6 (pauseOf k)) 0
 
 -- every task has a place
-place-some : (n k : ℕ) (g : Program) (z : Task) → taskOk n k g z ≡ true → 1 ≤ z .pc
+pub place-some : (n k : ℕ) (g : Program) (z : Task) → taskOk n k g z ≡ true → 1 ≤ z .pc
 place-some n k g z ok = go (isIn Unborn z) refl
   where
     go : (b : Bool) → isIn Unborn z ≡ b → 1 ≤ z .pc

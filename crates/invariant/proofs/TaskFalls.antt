@@ -39,7 +39,7 @@ use Rattle.transitions.specs.Agreement.{Running}
 use Rattle.transitions.proofs.Updates.{task-cases, at-other}
 use Rattle.transitions.proofs.Parents.{task-number, child-number, parent-number}
 use Rattle.transitions.proofs.Tasks.{unborn-apart, unborn-is}
-use Rattle.invariant.proofs.Work.{work-same, work-one, place-at, place-other, places-same}
+use Rattle.invariant.proofs.Work.{Went, one-goes, nobody, work-went, place-at, place-other, places-same}
 use Rattle.invariant.specs.Weights.{channelCount, channelsWeight, tasksWeight, endedWeight, taskWeight}
 use Rattle.invariant.proofs.ChannelFalls.{split, Less}
 use native.Mathlib.Decide.{ℕ-discrete}
@@ -83,15 +83,17 @@ module _ (m : Programs) where
       → ((u : TaskId) → within 1 (length m) (u .0) ≡ true → u .0 ≢ t .0 → y .tasks u .pc ≡ x .tasks u .pc)
       → channelsWeight m h' y ≡ channelsWeight m h x → tasksWeight m h' y ≤ 9 + tasksWeight m h x → Less m h h' x y 1
   ran-less {h} {h'} {x} {y} t is more goes same c l =
-      let work = work-one m (x .tasks) (y .tasks) t is more goes same in
-      record { work = omega (arith, work); weight = omega (arith, split m h x, split m h' y, work, c, l) }
+      let places : Went m (x .tasks) (y .tasks) 1 = one-goes t is more goes same in
+      let work = work-went places in
+      record { places = places; work = work; weight = omega (arith, split m h x, split m h' y, work, c, l) }
 
   -- the letters of tasks weigh less, and every place stays
   taken-less : {h : Histories} {x y : Reading} → ((u : TaskId) → y .tasks u .pc ≡ x .tasks u .pc) → channelsWeight m h y ≡ channelsWeight m h x
       → tasksWeight m h y < tasksWeight m h x → Less m h h x y 0
   taken-less {h} {x} {y} same c l =
-      let work = work-same m (x .tasks) (y .tasks) same in
-      record { work = omega (arith, work); weight = omega (arith, split m h x, split m h y, work, c, l) }
+      let places : Went m (x .tasks) (y .tasks) 0 = nobody (λ u is. same u) in
+      let work = work-went places in
+      record { places = places; work = work; weight = omega (arith, split m h x, split m h y, work, c, l) }
 
   -- a parent's place stays when it loses a child
   parent-place : (k : Task) (u : TaskId) → withoutChild k u .pc ≡ k .pc

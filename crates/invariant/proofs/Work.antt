@@ -54,17 +54,28 @@ module _ (x y : TaskId → Task) (t : TaskId) (k : Task) (is : y ≡ atTask x t 
 
 module _ (m : Programs) (x y : TaskId → Task) where
   -- every place stays
-  pub work-same : ((t : TaskId) → y t .pc ≡ x t .pc) → unexecuted m y ≡ unexecuted m x
+  work-same : ((t : TaskId) → within 1 (length m) (t .0) ≡ true → y t .pc ≡ x t .pc) → unexecuted m y ≡ unexecuted m x
   unfolding unexecuted
   work-same same =
       fold-same _+_ 0 (length m) (λ k. unexecutedOf m y (taskId (suc k))) (λ k. unexecutedOf m x (taskId (suc k)))
-      (λ k l. rw (same (taskId (suc k))) refl)
+      (λ k l. rw (same (taskId (suc k)) (within-both 1 (length m) (suc k) (omega arith) (omega arith))) refl)
 
   -- one goes on
-  pub work-one : (t : TaskId) → within 1 (length m) (t .0) ≡ true → x t .pc ≤ length (programOf m t) → y t .pc ≡ suc (x t .pc)
+  work-one : (t : TaskId) → within 1 (length m) (t .0) ≡ true → x t .pc ≤ length (programOf m t) → y t .pc ≡ suc (x t .pc)
       → ((u : TaskId) → within 1 (length m) (u .0) ≡ true → u .0 ≢ t .0 → y u .pc ≡ x u .pc) → unexecuted m x ≡ suc (unexecuted m y)
   unfolding unexecuted
   work-one t is more goes same =
       let q = tasks-change (length m) (unexecutedOf m x) (unexecutedOf m y) t is (λ u w ne. rw (same u w ne) refl) in
       let less : unexecutedOf m x t ≡ suc (unexecutedOf m y t) = rw goes (omega arith) in
       omega (arith, q, less)
+
+-- whose places go on: one task's, by one, or nobody's
+pub data Went (m : Programs) (x y : TaskId → Task) : ℕ → Type 0 where
+  one-goes : (t : TaskId) → within 1 (length m) (t .0) ≡ true → x t .pc ≤ length (programOf m t) → y t .pc ≡ suc (x t .pc)
+      → ((u : TaskId) → within 1 (length m) (u .0) ≡ true → u .0 ≢ t .0 → y u .pc ≡ x u .pc) → Went m x y 1
+  nobody : ((u : TaskId) → within 1 (length m) (u .0) ≡ true → y u .pc ≡ x u .pc) → Went m x y 0
+
+-- as many instructions are executed
+pub work-went : {m : Programs} {x y : TaskId → Task} {n : ℕ} → Went m x y n → unexecuted m x ≡ n + unexecuted m y
+work-went {m} {x} {y} (one-goes t is more goes same) = omega (arith, work-one m x y t is more goes same)
+work-went {m} {x} {y} (nobody same) = omega (arith, work-same m x y same)

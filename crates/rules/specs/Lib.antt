@@ -2,6 +2,7 @@
 -- trace and step file, what is sent and the logs.
 -- the dispatcher, trace and step file.
 -- the dispatcher, the panel, views of a task, trace and step file.
+-- trace and step file; and whether a plan finishes.
 pub mod Numbers
 pub mod Answers
 pub mod Hints
@@ -31,3 +32,5 @@ pub mod Trace
 pub mod StepFiles
 pub mod Logs
 pub mod LogFiles
+-- will this plan finish
+pub mod Finish

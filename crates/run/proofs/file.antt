@@ -1,4 +1,4 @@
 -- The parts at the start, the trace, and the outcome of a run.
-mod Beginning
+pub mod Beginning
 mod Traces
-mod Outcomes
+pub mod Outcomes

@@ -4,5 +4,5 @@
 pub mod all_steps;
 // The run over a plan file and a step file: start, loop, the lines behind those of the steps.
 pub mod file;
-// The lines of steps, as long as they fit.
-mod lines;
+// Lines written one behind the other, as long as they fit.
+pub mod lines;

@@ -65,7 +65,7 @@ unfolding stepsOk fileSteps
 steps-few b h = rw length-table (leb-true (length b / 4) 2000 (and-right (eqb (length b % 4) 0) (leb (length b / 4) 2000) h))
 
 -- what fits is no longer than all
-fitting-short : (room : ℕ) (ls : List (List ℕ)) → length (fitting room ls) ≤ length (text ls)
+pub fitting-short : (room : ℕ) (ls : List (List ℕ)) → length (fitting room ls) ≤ length (text ls)
 unfolding fitting text
 fitting-short room [] = omega arith
 fitting-short room (l ∷ ls) =

@@ -1,4 +1,4 @@
--- The line of a marked task and the last line: put together field by field, and how long; that the last is the paper's.
+-- The line of a marked task, the last line and that of a verdict: put together field by field, and how long; that the last is the paper's.
 use mathlib.Core.Path.{_≡_, refl}
 use mathlib.Core.Bool.{Bool, true, false}
 use mathlib.Core.List.{[], _∷_, _++_, append-assoc}
@@ -9,7 +9,8 @@ use Rattle.base.specs.Choice.{pick}
 use Rattle.rules.specs.declared.system.System.{System}
 use Rattle.rules.specs.Steps.{quiescent}
 use Rattle.rules.specs.Trace.{decimal, fields, overLine, endLine}
-use Rattle.trace.specs.Lines.{overWord, endWord, endText}
+use Rattle.rules.specs.Finish.{verdictLine}
+use Rattle.trace.specs.Lines.{overWord, endWord, endText, verdictWord}
 use Rattle.trace.proofs.Putting.{one-digit}
 
 module _ (t : ℕ) where
@@ -40,3 +41,12 @@ flag-length b e = rw e (one-flag b)
 pub end-of : (r : System) → endLine r ≡ endText (quiescent r) (r .network .used)
 unfolding endLine endText
 end-of r = refl
+
+-- the first line of the finish check
+module _ (finishes : Bool) (n : ℕ) where
+  pub verdict-text : (verdictWord finishes ++ (32 ∷ decimal n)) ++ (10 ∷ []) ≡ verdictLine finishes n
+  unfolding verdictLine fields
+  verdict-text = simp append-assoc
+
+  pub verdict-length : length (verdictLine finishes n) ≡ length (verdictWord finishes) + length (decimal n) + 2
+  verdict-length = rw (← verdict-text) (simp length-append (omega arith))

@@ -21,3 +21,7 @@ endWord = 101 ∷ 110 ∷ 100 ∷ []
 -- the last line (`endLine`) of a rig with n letters; b says whether it is at rest
 unfoldable pub endText : Bool → ℕ → List ℕ
 endText b n = endWord ++ fields (pick b 1 0 ∷ n ∷ [])
+
+-- the word that says whether a plan finishes
+abbrev pub verdictWord : Bool → List ℕ
+verdictWord finishes = pick finishes (121 ∷ 101 ∷ 115 ∷ []) (110 ∷ 111 ∷ [])

@@ -1,4 +1,8 @@
 // The lines of the trace, written straight into the rest of the lent output.
+
+// Those of the finish check.
+pub mod finish;
+
 ghost use mathlib.Core.Path.{_≡_};
 ghost use mathlib.Core.List.{_∷_, [], _++_};
 ghost use Prim.Native.Nat.{_+_, _<_, _≤_};
