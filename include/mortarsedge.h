@@ -76,7 +76,10 @@ enum mortarsedge_instruction {
     MORTARSEDGE_INSTRUCTION_SEND = 4,    /* a channel, 1 to 128 */
     MORTARSEDGE_INSTRUCTION_RECEIVE = 5, /* a channel, 1 to 128 */
     MORTARSEDGE_INSTRUCTION_SET = 6,     /* what the level becomes, 0 to 65,535 */
-    MORTARSEDGE_INSTRUCTION_ADD = 7      /* what is added to the level, 0 to 65,535 */
+    MORTARSEDGE_INSTRUCTION_ADD = 7,     /* what is added to the level, 0 to 65,535 */
+    /* Only in the new edition of the plan file, which mortarsedge_convert takes. */
+    MORTARSEDGE_INSTRUCTION_REPEAT = 8,    /* how many times, 1 to 64 */
+    MORTARSEDGE_INSTRUCTION_REPEAT_END = 9 /* unused: 0 */
 };
 
 /* The kinds of a step, 4 bytes of a step file: kind, task, and a number of 16
@@ -88,7 +91,8 @@ enum mortarsedge_step {
     MORTARSEDGE_STEP_MOVE = 3     /* the task; the number is the desk it goes to */
 };
 
-/* The answers: of a call 0 to 6, 8, 20, 24 and 25, of a step in the trace 0 and 10 to 19. */
+/* The answers: of a call 0 to 6, 8, 20, 24 and 25, of the converter 0, 2 to 6 and 20 to 23, of a
+ * step in the trace 0 and 10 to 19. */
 enum mortarsedge_answer {
     MORTARSEDGE_ACCEPTED = 0,
     /* Of the plan file. */
@@ -117,6 +121,10 @@ enum mortarsedge_answer {
     MORTARSEDGE_BAD_STEP = 19,        /* a kind not 1 to 3, or an unused field not zero */
     /* Of the output. */
     MORTARSEDGE_OUTPUT_SHORT = 20, /* the lent output is too short */
+    /* Of a plan file with repeats. */
+    MORTARSEDGE_BAD_REPEAT = 21,      /* a repeat or its end nested or unpaired in its task */
+    MORTARSEDGE_REPEATED_CREATE = 22, /* a create within a repeat */
+    MORTARSEDGE_TOO_LONG = 23,        /* a task over 64 instructions when written out */
     /* Of two logs. */
     MORTARSEDGE_BAD_LOG_LENGTH = 24, /* length no multiple of 10, or over 4,096 records */
     MORTARSEDGE_BAD_LOG_RECORD = 25  /* a channel outside 1 to 128 */

@@ -26,6 +26,7 @@ pub mod Logs
 -- .. and what the answers of the check mean
 pub mod Verdicts
 -- at most one call or word letter of a channel
+pub mod Repeats
 pub mod OneMessage
 -- runs at different desks
 pub mod Commute

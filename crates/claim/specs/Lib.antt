@@ -13,6 +13,7 @@ pub mod OldPlans
 pub mod Commute
 pub mod Logs
 pub mod Tablets
+pub mod Repeats
 pub mod Corollaries
 pub mod Events
 pub mod Dispatch

@@ -2,3 +2,4 @@
 pub mod Runs
 pub mod Logs
 pub mod Finish
+pub mod Converts

@@ -5,6 +5,7 @@ pub mod Scenes
 -- What demand 3 says of two runs, that its test of letters tells rigs apart, and what is said of moves, of marks, of plans on level 0 and of logs.
 -- What demand 3 says of two runs, that its test of letters tells rigs apart, and what is said of moves, of marks, of plans on level 0 and of
 -- tablets.
+-- What demand 3 says of two runs, that its test of letters tells rigs apart, and what is said of moves, of marks of plans on level 0 and of plans with repeats.
 pub mod Demand3
 pub mod Bound
 pub mod Suppositions
@@ -15,3 +16,4 @@ pub mod Commute
 pub mod Logs
 pub mod Dispatch
 pub mod Tablets
+pub mod Repeats

@@ -15,3 +15,4 @@ pub mod Logs
 pub mod Dispatch
 -- Plans that differ in an argument.
 pub mod Tablets
+pub mod Repeats

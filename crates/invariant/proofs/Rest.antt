@@ -84,6 +84,12 @@ side-pause : {k : ℕ} {u : TaskState} → Side k u → pauseOf k ≡ stateNumbe
 side-pause sends = refl
 side-pause receives = refl
 
+not-done : {z : Task} {i : Instruction} → Halted z i → isIn Done z ≡ false
+not-done {z} (finishing e o some) = rw (eqb-true (stateNumber (z .state)) 1 e) refl
+not-done {z} (syncing e o some) = rw (eqb-true (stateNumber (z .state)) 2 e) refl
+not-done {z} (busy sends e o) = rw (eqb-true (stateNumber (z .state)) 3 e) refl
+not-done {z} (busy receives e o) = rw (eqb-true (stateNumber (z .state)) 4 e) refl
+
 halted-state : {z : Task} {i : Instruction} → Halted z i → stateNumber (z .state) ≡ pauseOf (i .opcode)
 halted-state {z} (finishing e o some) = eqb-true (stateNumber (z .state)) 1 e ∙ sym (ap pauseOf o)
 halted-state {z} (syncing e o some) = eqb-true (stateNumber (z .state)) 2 e ∙ sym (ap pauseOf o)
@@ -242,6 +248,16 @@ module _ (m : Programs) (accepted : planAnswer m ≡ Accepted) (s : Net) (sane :
   rest-word : (t : TaskId) → s .word t ≡ x .tasks t .word
   rest-word t = agrees-word (run .agrees t) (quiet t)
 
+  -- it is done where it is born and complete in the net
+  rest-done : (t : TaskId) → isIn Done (x .tasks t) ≡ s .born t && isComplete m s t
+  unfolding isActive
+  rest-done t = go (s .born t) (isComplete m s t) refl refl
+    where
+      go : (b c : Bool) → s .born t ≡ b → isComplete m s t ≡ c → isIn Done (x .tasks t) ≡ b && c
+      go false c p q = rw (rest-state t, p) refl
+      go true true p q = rw (rest-state t, p, q) refl
+      go true false p q = not-done (halted t (and-both (s .born t) _ p (rw q refl)))
+
 -- state, place, word and mark
 pub record Same (x y : Task) : Type 0 where
   pub state : x .state ≡ y .state
@@ -253,6 +269,13 @@ module _ (m : Programs) (accepted : planAnswer m ≡ Accepted) {ls : List Label}
   -- at rest the net is at its end
   pub rest-normal : {h : Histories} {x : Reading} {w : ChannelId → List Word} → Running m h s x w → x .messages ≡ [] → Resting m x → Normal (net m) s
   rest-normal run none rest = normal m accepted s (consistent m accepted reached) run none rest
+
+  -- what a rig at rest shows of the net: whether a task is done, its word, its mark
+  pub at-rest-shows : {h : Histories} {x : Reading} {w : ChannelId → List Word} → Running m h s x w → x .messages ≡ [] → Resting m x → (t : TaskId)
+      → (isIn Done (x .tasks t) ≡ s .born t && isComplete m s t) × (s .word t ≡ x .tasks t .word) × (s .overflow t ≡ x .tasks t .overflow)
+  at-rest-shows run none rest t =
+      let sane = consistent m accepted reached in
+      (rest-done m accepted s sane run none rest t, rest-word m accepted s sane run none rest t, run .agrees t .overflow)
 
   -- two rigs at rest that agree with one net
   pub at-rest-same : {h h' : Histories} {x y : Reading} {w w' : ChannelId → List Word} → Running m h s x w → Running m h' s y w'

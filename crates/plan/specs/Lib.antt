@@ -9,3 +9,7 @@ pub mod Refusals
 pub mod Layout
 pub mod Files
 pub mod Outcomes
+pub mod Repeats
+pub mod RepeatPlaces
+pub mod RepeatRefusals
+pub mod Conversions

@@ -50,6 +50,11 @@ pub const SET: u8 = 6;
 
 pub const ADD: u8 = 7;
 
+// In the new edition of the plan file: "kind 8, repeat .., and kind 9, end of repeat".
+pub const REPEAT: u8 = 8;
+
+pub const REPEAT_END: u8 = 9;
+
 // A whole plan by value: 64 tasks of 64 instructions. What it means is `programs` of specs/Programs.
 pub struct Plan {
     // how many tasks
@@ -60,7 +65,8 @@ pub struct Plan {
     pub codes: [u32; 4096],
 }
 
-// The refusals of "Start" and of "Writing a plan"; specs/Answers gives each its number.
+// The refusals of "Start", of "Writing a plan" and of converting a plan with repeats; specs/Answers gives
+// each its number.
 pub enum Refusal {
     BadProcessors,
     BadLayout,
@@ -69,6 +75,9 @@ pub enum Refusal {
     BadCreate,
     BadChannel,
     OutputShort,
+    BadRepeat,
+    RepeatedCreate,
+    TooLong,
 }
 
 // What is answered about a plan.
@@ -102,6 +111,9 @@ impl Refusal {
             Refusal::BadCreate => 5,
             Refusal::BadChannel => 6,
             Refusal::OutputShort => 20,
+            Refusal::BadRepeat => 21,
+            Refusal::RepeatedCreate => 22,
+            Refusal::TooLong => 23,
         }
     }
 }

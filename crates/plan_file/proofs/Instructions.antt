@@ -56,6 +56,9 @@ module _ (lengths : List ℕ) where
   pub place-row : (k : ℕ) → codePlace lengths k (getD lengths k 0) ≡ codePlace lengths (k + 1) 0
   place-row k = omega (arith, fold-more _+_ 0 k (λ j. getD lengths j 0))
 
+  pub place-below : (n k : ℕ) → k < n → codePlace lengths k 0 + 4 * getD lengths k 0 ≤ codePlace lengths n 0
+  place-below n k h = omega (arith, part-of-sum n (λ j. getD lengths j 0) k h)
+
   pub place-inside : (n k i : ℕ) → k < n → i < getD lengths k 0 → codePlace lengths k i + 4 ≤ codePlace lengths n 0
   place-inside n k i h q = omega (arith, part-of-sum n (λ j. getD lengths j 0) k h)
 

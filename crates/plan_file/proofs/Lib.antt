@@ -2,10 +2,10 @@
 pub mod Filling
 mod Entries
 mod Headers
-mod Instructions
+pub mod Instructions
 -- What the stages of reading give together is the paper's reading of a file; what a reader owns.
 mod Empty
 mod Answers
 mod Rest
-mod Meaning
+pub mod Meaning
 mod Held

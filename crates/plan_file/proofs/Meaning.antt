@@ -129,6 +129,20 @@ header-fits b = go (layoutOk b) refl
     go true e ok = whole b e
     go false e ok = absurd (true≢false (sym ok))
 
+-- what they are, and whether the header is in order
+pub header-ok : (b : List ℕ) → headerOf b .ok ≡ layoutOk b
+unfolding headerOf
+header-ok b = go (layoutOk b)
+  where
+    go : (t : Bool) → pick t (goodHeader b) noHeader .ok ≡ t
+    go true = refl
+    go false = refl
+
+pub header-programs : (b : List ℕ) → layoutOk b ≡ true
+    → programsIn (drop (headerOf b .size) b) (headerOf b .tasks) (headerOf b .lengths) ≡ filePrograms b
+unfolding headerOf
+header-programs b e = rw e (programs-read b e)
+
 pub header-size : (b : List ℕ) → headerOf b .size ≤ 260
 unfolding headerOf
 header-size b = go (layoutOk b) refl

@@ -2,7 +2,7 @@
 use mathlib.Core.Path.{_≡_, refl}
 use mathlib.Core.Bool.{false, _&&_}
 use mathlib.Core.Logic.{_≢_, by-cases}
-use Prim.Native.Nat.{ℕ, _≤_}
+use Prim.Native.Nat.{ℕ, _≤_, _<_}
 use native.Mathlib.Omega.{arith}
 use native.Mathlib.Decide.{ℕ-discrete}
 use lib.Dec.{eqb, leb}
@@ -11,6 +11,7 @@ use Rattle.base.specs.Choice.{within}
 use Rattle.base.proofs.Tests.{and-false}
 use Rattle.plan.specs.declared.Instruction.{Instruction}
 use Rattle.plan.specs.Refusals.{levelOk, operandOk, instructionOk}
+use Rattle.plan.specs.RepeatRefusals.{newInstructionOk}
 
 module _ (n : ℕ) (x : Instruction) where
   -- set and add
@@ -75,3 +76,32 @@ module _ (n : ℕ) (x : Instruction) where
 
   pub ok-unknown : ((k : ℕ) → 1 ≤ k → k ≤ 7 → x .opcode ≡ k → ⊥) → instructionOk n x ≡ false
   ok-unknown h = rw (no-kind h) (and-false (levelOk x))
+
+  -- in the new edition: a kind of the present one, a repeat, its end
+  pub new-old : x .opcode ≤ 7 → newInstructionOk n x ≡ instructionOk n x
+  unfolding newInstructionOk
+  new-old h = rw (ne-eqb (x .opcode) 8 (λ e. omega arith), ne-eqb (x .opcode) 9 (λ e. omega arith)) refl
+
+  pub new-repeat : x .opcode ≡ 8 → newInstructionOk n x ≡ eqb (x .level) 0 && within 1 64 (x .operand)
+  unfolding newInstructionOk
+  new-repeat e = rw e refl
+
+  pub new-end : x .opcode ≡ 9 → newInstructionOk n x ≡ eqb (x .level) 0 && eqb (x .operand) 0
+  unfolding newInstructionOk
+  new-end e = rw e refl
+
+  pub new-unknown : 9 < x .opcode → newInstructionOk n x ≡ false
+  unfolding newInstructionOk
+  new-unknown h =
+      rw (ne-eqb (x .opcode) 8 (λ e. omega arith), ne-eqb (x .opcode) 9 (λ e. omega arith)) (ok-unknown (λ k p q e. omega arith))
+
+  pub new-level : 7 < x .opcode → x .level ≢ 0 → newInstructionOk n x ≡ false
+  new-level h ne =
+      by-cases
+      (ℕ-discrete (x .opcode) 8)
+      (λ (e : x .opcode ≡ 8). rw (new-repeat e, ne-eqb (x .level) 0 ne) refl)
+      (λ no.
+      by-cases
+      (ℕ-discrete (x .opcode) 9)
+      (λ (e : x .opcode ≡ 9). rw (new-end e, ne-eqb (x .level) 0 ne) refl)
+      (λ nor. new-unknown (omega arith)))

@@ -8,6 +8,6 @@ mod Unpaired
 mod Uses
 pub mod Taken
 pub mod Entries
-mod Present
+mod Editions
 pub mod Meaning
 pub mod Values

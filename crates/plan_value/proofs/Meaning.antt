@@ -23,9 +23,11 @@ use Rattle.plan.specs.Programs.{Program, Programs, programAt, instructionAt}
 use Rattle.plan.specs.Layout.{countOf}
 use Rattle.plan.specs.Users.{firstOf, users, oneTask, share, oneEnd}
 use Rattle.plan.specs.Refusals.{sizesOk, instructionOk, instructionsOk, finishOk, finishesOk, createOk, createsOk, channelOk, channelsOk, structureAnswer, planAnswer}
+use Rattle.plan.specs.RepeatRefusals.{newInstructionOk, newInstructionsOk}
 use Rattle.plan_laws.proofs.Answers.{sized}
+use Rattle.plan_value.specs.declared.instruction.Edition.{Edition}
 use Rattle.plan_value.specs.declared.pass.Pass.{Pass}
-use Rattle.plan_value.specs.Editions.{presentEdition}
+use Rattle.plan_value.specs.Editions.{presentEdition, newEdition, allowed}
 use Rattle.plan_value.specs.Marks.{sameTest}
 use Rattle.plan_value.specs.Firsts.{firstUsers, Firsts, hasParent, allCreated}
 use Rattle.plan_value.specs.Ends.{oneThere, unpairedIn}
@@ -35,7 +37,7 @@ use Rattle.plan_value.proofs.Marked.{create-whole}
 use Rattle.plan_value.proofs.Unpaired.{there-none}
 use Rattle.plan_value.proofs.Uses.{uses-some}
 use Rattle.plan_value.proofs.Entries.{every-entries, uses-entries}
-use Rattle.plan_value.proofs.Present.{allowed-present}
+use Rattle.plan_value.proofs.Editions.{allowed-present, allowed-new}
 
 -- one task more behind the others is in order where none of them is a finish and it is one
 finish-last : (g : Program) (x : Instruction) → finishOk (g ++ (x ∷ [])) ≡ every (λ i. not (isFinish i)) g && isFinish x
@@ -70,17 +72,26 @@ finish-of g h =
     ap finishOk (sym (as-table g noInstruction)) ∙ rw e at (finish-more (length g - 1) (instructionAt g))
 
 module _ (m : Programs) where
+  -- an edition's test of all instructions
+  tests-are : (e : Edition) (test : Instruction → Bool) → ((x : Instruction) → allowed e (length m) x ≡ test x)
+      → every (entryOk e (length m)) (entries m) ≡ every (every test) m
+  tests-are e test same =
+      let n = length m in
+      let fine : ℕ → ℕ → Bool = λ k i. test (instructionAt (programAt m k) i) in
+      every-entries m (entryOk e n)
+      ∙ fold-same _&&_ true n _ (λ k. below (countOf m k) (fine k))
+      (λ k h. fold-same _&&_ true (countOf m k) _ (fine k) (λ i q. same (instructionAt (programAt m k) i)))
+      ∙ sym
+      (every-below (every test) m []
+      ∙ fold-same _&&_ true n _ (λ k. below (countOf m k) (fine k)) (λ k h. every-below test (programAt m k) noInstruction))
+
   pub instructions-are : every (entryOk presentEdition (length m)) (entries m) ≡ instructionsOk m
   unfolding instructionsOk
-  instructions-are =
-      let n = length m in
-      let fine : ℕ → ℕ → Bool = λ k i. instructionOk n (instructionAt (programAt m k) i) in
-      every-entries m (entryOk presentEdition n)
-      ∙ fold-same _&&_ true n _ (λ k. below (countOf m k) (fine k))
-      (λ k h. fold-same _&&_ true (countOf m k) _ (fine k) (λ i q. allowed-present n (instructionAt (programAt m k) i)))
-      ∙ sym
-      (every-below (every (instructionOk n)) m []
-      ∙ fold-same _&&_ true n _ (λ k. below (countOf m k) (fine k)) (λ k h. every-below (instructionOk n) (programAt m k) noInstruction))
+  instructions-are = tests-are presentEdition (instructionOk (length m)) (allowed-present (length m))
+
+  pub new-instructions-are : every (entryOk newEdition (length m)) (entries m) ≡ newInstructionsOk m
+  unfolding newInstructionsOk
+  new-instructions-are = tests-are newEdition (newInstructionOk (length m)) (allowed-new (length m))
 
   first-users : (k : ℕ) → firstsOf k (entries m) ≡ firstUsers m k
   first-users k = table-same 129 _ _ (λ a h. ap firstOf (uses-entries m k a))

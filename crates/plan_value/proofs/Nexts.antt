@@ -12,6 +12,7 @@ use Rattle.base.proofs.Tests.{and-true, and-right, within-low, within-high}
 use Rattle.plan.specs.Kinds.{opCreate, opSend, opReceive}
 use Rattle.plan_laws.proofs.Programs.{create-operand, send-operand, receive-operand}
 use Rattle.plan.specs.Refusals.{instructionOk}
+use Rattle.plan.specs.RepeatRefusals.{newInstructionOk}
 use Rattle.plan_value.specs.declared.instruction.Edition.{Edition}
 use Rattle.plan_value.specs.declared.pass.Entry.{Entry}
 use Rattle.plan_value.specs.declared.pass.Pass.{Pass}
@@ -19,6 +20,7 @@ use Rattle.plan_value.specs.declared.pass.End.{End}
 use Rattle.plan_value.specs.Marks.{createMark, Entered}
 use Rattle.plan_value.specs.Ends.{unpairedIn, EndEntered}
 use Rattle.plan_value.specs.Pass.{Seen, seen, startPass, entryOk, finishFits, nextTable, nextCreate, nextEnd, nextSeen}
+use Rattle.plan_value.proofs.ByKind.{new-old}
 use Rattle.plan_value.proofs.Unpaired.{unpaired-swap}
 
 abbrev kindOf : Entry → ℕ
@@ -29,20 +31,20 @@ argumentOf x = x .instruction .operand
 
 -- an instruction that is not refused: its argument is an entry of the tables
 module _ (e : Edition) (n : ℕ) (x : Entry) (fine : entryOk e n x ≡ true) where
-  pub argument-fine : instructionOk n (x .instruction) ≡ true
-  argument-fine = and-right (leb (kindOf x) (e .kinds)) (instructionOk n (x .instruction)) fine
+  pub argument-fine : kindOf x ≤ 7 → instructionOk n (x .instruction) ≡ true
+  argument-fine old = rw (← new-old n (x .instruction) old) (and-right (leb (kindOf x) (e .kinds)) (newInstructionOk n (x .instruction)) fine)
 
   pub create-fits : n ≤ 64 → kindOf x ≡ opCreate → argumentOf x < 129
-  create-fits few o = omega (arith, within-high 2 n (argumentOf x) (create-operand n (x .instruction) argument-fine o))
+  create-fits few o = omega (arith, within-high 2 n (argumentOf x) (create-operand n (x .instruction) (argument-fine (omega arith)) o))
 
   pub send-fits : kindOf x ≡ opSend → (1 ≤ argumentOf x) × (argumentOf x < 129)
   send-fits o =
-      let r = send-operand n (x .instruction) argument-fine o in
+      let r = send-operand n (x .instruction) (argument-fine (omega arith)) o in
       (within-low 1 128 (argumentOf x) r, omega (arith, within-high 1 128 (argumentOf x) r))
 
   pub receive-fits : kindOf x ≡ opReceive → (1 ≤ argumentOf x) × (argumentOf x < 129)
   receive-fits o =
-      let r = receive-operand n (x .instruction) argument-fine o in
+      let r = receive-operand n (x .instruction) (argument-fine (omega arith)) o in
       (within-low 1 128 (argumentOf x) r, omega (arith, within-high 1 128 (argumentOf x) r))
 
 module _ (e : Edition) (x : Entry) (s : Seen) where

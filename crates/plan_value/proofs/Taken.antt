@@ -170,7 +170,6 @@ pub pass-taken : (e : Edition) (n : ℕ) {l : List Entry} (x : Entry) {s : Seen}
 unfolding every
 pass-taken e n {l} x {s} few p task fine =
     let a = x .instruction .operand in
-    let ok = argument-fine e n x fine in
     record {
       size = p .size;
       none = p .none;
@@ -180,7 +179,7 @@ pass-taken e n {l} x {s} few p task fine =
           ap (λ (b : Bool). b && nextCreate x (s .parents)) (p .creates)
           ∙ sym
           (creates-next l x (p .tasks) task n (p .parents)
-          (λ o. let r = create-operand n (x .instruction) ok o in (within-low 2 n a r, within-high 2 n a r, create-fits e n x fine few o)));
+          (λ o. let r = create-operand n (x .instruction) (argument-fine e n x fine (omega arith)) o in (within-low 2 n a r, within-high 2 n a r, create-fits e n x fine few o)));
       channels =
           ap (λ (b : Bool). b && (nextEnd opSend x (s .senders) (s .receivers) && nextEnd opReceive x (s .receivers) (s .senders))) (p .channels)
           ∙ sym

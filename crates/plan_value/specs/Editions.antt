@@ -3,13 +3,17 @@ use mathlib.Core.Bool.{Bool, _&&_}
 use Prim.Native.Nat.{ℕ}
 use lib.Dec.{leb}
 use Rattle.plan.specs.declared.Instruction.{Instruction}
-use Rattle.plan.specs.Refusals.{instructionOk}
+use Rattle.plan.specs.RepeatRefusals.{newInstructionOk}
 use Rattle.plan_value.specs.declared.instruction.Edition.{Edition}
 
 -- "Kinds: 1 create .. 7 add"
 abbrev pub presentEdition : Edition
 presentEdition = record { kinds = 7 }
 
+-- "kind 8, repeat (argument 1..64), and kind 9, end of repeat (0)"
+abbrev pub newEdition : Edition
+newEdition = record { kinds = 9 }
+
 -- "3, kind unknown, second byte not zero, or argument out of range", in a plan of n tasks
 abbrev pub allowed : Edition → ℕ → Instruction → Bool
-allowed e n x = leb (x .opcode) (e .kinds) && instructionOk n x
+allowed e n x = leb (x .opcode) (e .kinds) && newInstructionOk n x

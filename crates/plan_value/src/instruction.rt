@@ -1,10 +1,12 @@
 // 3: the test of one instruction, by the edition of the plan file that it stands in.
 ghost use mathlib.Core.Path.{_≡_};
-ghost use Rattle.plan.specs.Refusals.{instructionOk};
-ghost use Rattle.plan_value.specs.Editions.{presentEdition, allowed};
+ghost use Rattle.plan.specs.RepeatRefusals.{newInstructionOk};
+ghost use Rattle.plan_value.specs.Editions.{presentEdition, newEdition, allowed};
 use plan::ADD;
 use plan::CREATE;
 use plan::Instruction;
+use plan::REPEAT;
+use plan::REPEAT_END;
 use plan::SEND;
 use plan::SET;
 use plan::SYNC;
@@ -21,15 +23,32 @@ pub fn present() -> Edition
     Edition { kinds: 7 }
 }
 
+// Kinds 8 and 9 as well, repeat and end of repeat.
+pub fn with_repeats() -> Edition
+    ensures { λ r. ⌜ r ≡ newEdition ⌝ }
+{
+    Edition { kinds: 9 }
+}
+
 // Its kind is known, its second byte is a level of a word for set and add and else zero, and its argument is
 // in range, in a plan of `tasks` tasks.
 fn instruction_ok(tasks: u8, x: Instruction) -> bool
-    ensures { λ r. ⌜ r ≡ instructionOk tasks x ⌝ }
+    ensures { λ r. ⌜ r ≡ newInstructionOk tasks x ⌝ }
 {
     let opcode = x.opcode;
     let level = x.level;
     let operand = base::wide16(x.operand);
+    // a repeat and its end
     if opcode > ADD {
+        if level != 0 {
+            return false;
+        }
+        if opcode == REPEAT {
+            return base::is_within(1, 64, operand);
+        }
+        if opcode == REPEAT_END {
+            return operand == 0;
+        }
         return false;
     }
     // set and add

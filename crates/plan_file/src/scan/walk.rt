@@ -1,19 +1,19 @@
 // The pass over the instructions of a plan file.
 ghost use Rattle.plan_file.specs.Code.{programsIn};
-ghost use Rattle.plan_value.specs.Editions.{presentEdition};
 ghost use Rattle.plan_value.specs.Firsts.{NoFirsts};
 ghost use Rattle.plan_value.specs.Pass.{PassOf};
 ghost use Rattle.plan_file.specs.scan.Code.{Whole};
 use crate::code::fetch;
-use plan_value::instruction::present;
+use plan_value::instruction::Edition;
 use plan_value::pass::Entry;
 use plan_value::pass::Pass;
 use plan_value::pass::next;
 
-// The instructions of tasks with these numbers of instructions: they stand one behind the other. The
-// tables take, by argument, the first task that creates, sends and receives.
+// The instructions of tasks with these numbers of instructions, by an edition: they stand one behind the
+// other. The tables take, by argument, the first task that creates, sends and receives.
 pub fn walk<'a>(
     file: &'a [u8],
+    edition: Edition,
     tasks: u8,
     lengths: &'a [u8; 64],
     parents: &'a mut [u8; 129],
@@ -22,11 +22,10 @@ pub fn walk<'a>(
 ) -> Pass
     requires { ⌜ Whole (now file) tasks (now lengths) × NoFirsts (now parents) (now senders) (now receivers) ⌝ }
     ensures { λ r. ⌜
-        PassOf presentEdition (programsIn (now (file .entry)) tasks (now (lengths .entry))) r
+        PassOf edition (programsIn (now (file .entry)) tasks (now (lengths .entry))) r
         (now (parents .exit)) (now (senders .exit)) (now (receivers .exit)) ⌝ }
 {
     let n = base::wide8(tasks);
-    let edition = present();
     let mut p = Pass::new(tasks, true);
     let mut at: usize = 0;
     let mut k: usize = 0;

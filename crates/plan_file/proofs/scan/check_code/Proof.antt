@@ -8,7 +8,10 @@ use Rattle.plan_file.proofs.scan.check_code.Statement.{statement}
 use Rattle.plan_file.proofs.scan.check_code.Tie as tie
 
 abbrev start : tie.After-walk → tie.Start
-start c = c .before .before .before .before .before
+start c = c .before .before .before .before .before .before
+
+present-requires : tie.Need-present-requires
+present-requires c κs = search needs
 
 walk-requires : tie.Need-walk-requires
 walk-requires c κs = search needs
@@ -25,7 +28,8 @@ returns : tie.Need-returns
 returns c =
     let w = c .before .before in
     let s = start w in
-    checked (s .args .file .now) (s .args .tasks) (s .args .lengths .now) (s .pre .0 .sizes) (w .walk .ensures) (c .answer .ensures)
+    let pass = rw (w .before .before .before .before .present .ensures) at (w .walk .ensures) in
+    checked (s .args .file .now) (s .args .tasks) (s .args .lengths .now) (s .pre .0 .sizes) pass (c .answer .ensures)
 
 pub check-code-spec : {M : Type 1} → statement M
-check-code-spec = tie.close (tie.spec walk-requires answer-requires returns)
+check-code-spec = tie.close (tie.spec present-requires walk-requires answer-requires returns)

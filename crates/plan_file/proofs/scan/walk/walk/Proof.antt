@@ -13,7 +13,6 @@ use Rattle.plan.specs.Layout.{countOf}
 use Rattle.plan.specs.Files.{fileInstruction}
 use Rattle.plan_value.specs.declared.instruction.Edition.{Edition}
 use Rattle.plan_value.specs.declared.pass.Entry.{Entry}
-use Rattle.plan_value.specs.Editions.{presentEdition}
 use Rattle.plan_value.specs.Pass.{Seen, seen, nextSeen, entryAt, entriesTo, Passed}
 use Rattle.plan_value.proofs.Sized.{few-tasks, count-few}
 use Rattle.plan_value.proofs.Taken.{pass-counted}
@@ -24,7 +23,7 @@ use Rattle.plan_file.proofs.scan.walk.walk.Statement.{statement}
 use Rattle.plan_file.proofs.scan.walk.walk.Tie as tie
 
 abbrev Inv-loop2 : tie.InvT-loop2
-Inv-loop2 file tasks lengths parents₀ senders₀ receivers₀ n edition p₀ at₀ k count t i₀ parents senders receivers p at i =
+Inv-loop2 file edition tasks lengths parents₀ senders₀ receivers₀ n p₀ at₀ k count t i₀ parents senders receivers p at i =
     (i ≤ count)
     × (count ≤ 64)
     × (k < n)
@@ -33,23 +32,23 @@ Inv-loop2 file tasks lengths parents₀ senders₀ receivers₀ n edition p₀ a
     × (count ≡ getD lengths k 0)
     × (at ≤ 4 * (64 * k + i))
     × (at ≡ codePlace lengths k i)
-    × Passed presentEdition tasks (entriesTo (programsIn file tasks lengths) k i) (seen p parents senders receivers)
+    × Passed edition tasks (entriesTo (programsIn file tasks lengths) k i) (seen p parents senders receivers)
 
 abbrev μ-loop2 : tie.MeasureT-loop2
-μ-loop2 file tasks lengths parents₀ senders₀ receivers₀ n edition p₀ at₀ k count t i₀ parents senders receivers p at i =
+μ-loop2 file edition tasks lengths parents₀ senders₀ receivers₀ n p₀ at₀ k count t i₀ parents senders receivers p at i =
     count - i
 
 abbrev Inv-loop : tie.InvT-loop
-Inv-loop file tasks lengths parents₀ senders₀ receivers₀ n edition p₀ at₀ k₀ parents senders receivers p at k =
+Inv-loop file edition tasks lengths parents₀ senders₀ receivers₀ n p₀ at₀ k₀ parents senders receivers p at k =
     (k ≤ n)
     × (n ≤ 64)
     × (n ≡ tasks)
     × (at ≤ 4 * (64 * k))
     × (at ≡ codePlace lengths k 0)
-    × Passed presentEdition tasks (entriesTo (programsIn file tasks lengths) k 0) (seen p parents senders receivers)
+    × Passed edition tasks (entriesTo (programsIn file tasks lengths) k 0) (seen p parents senders receivers)
 
 abbrev μ-loop : tie.MeasureT-loop
-μ-loop file tasks lengths parents₀ senders₀ receivers₀ n edition p₀ at₀ k₀ parents senders receivers p at k =
+μ-loop file edition tasks lengths parents₀ senders₀ receivers₀ n p₀ at₀ k₀ parents senders receivers p at k =
     n - k
 
 -- an instruction is taken into the pass: the file, the plan, the place, the instruction, and what is kept then
@@ -64,10 +63,13 @@ module _ (c : tie.After-next Inv-loop2 μ-loop2 Inv-loop μ-loop) where
   out = at2 .before .before .before .before
 
   abbrev start : tie.Start Inv-loop2 μ-loop2 Inv-loop μ-loop
-  start = out .before .before .before .before .before
+  start = out .before .before .before .before
 
   abbrev b : List ℕ
   b = start .args .file .now
+
+  abbrev e : Edition
+  e = start .args .edition
 
   abbrev n : ℕ
   n = start .args .tasks
@@ -104,30 +106,27 @@ module _ (c : tie.After-next Inv-loop2 μ-loop2 Inv-loop μ-loop) where
       entry-is m k i refl (at2 .loop2 .inv .5 ∙ sym (code-count b n lengths k task))
       (fetched .fetch .ensures ∙ ap (fileInstruction b) (at2 .loop2 .inv .7) ∙ sym (code-instruction b n lengths k i task place))
 
-  next : after ≡ nextSeen presentEdition x before
-  next = c .next .ensures ∙ ap (λ (e : Edition). nextSeen e x before) (out .before .before .present .ensures)
+  next : after ≡ nextSeen e x before
+  next = c .next .ensures
 
 wide8-requires : tie.Need-wide8-requires Inv-loop2 μ-loop2 Inv-loop μ-loop
 wide8-requires c κs = search needs
-
-present-requires : tie.Need-present-requires Inv-loop2 μ-loop2 Inv-loop μ-loop
-present-requires c κs = search needs
 
 new-requires : tie.Need-new-requires Inv-loop2 μ-loop2 Inv-loop μ-loop
 new-requires c κs = search needs
 
 loop-holds : tie.Need-loop-holds Inv-loop2 μ-loop2 Inv-loop μ-loop
 loop-holds c =
-    let s = c .before .before .before .before in
+    let s = c .before .before .before in
     let b = s .args .file .now in
     let lengths = s .args .lengths .now in
-    let n = c .before .before .wide8 .ensures in (
+    let n = c .before .wide8 .ensures in (
       omega arith,
       rw n (few-tasks (s .args .tasks) lengths (s .pre .0 .sizes)),
       n,
       omega arith,
       place-first lengths,
-      rw (c .new .ensures) (pass-start (programsIn b (s .args .tasks) lengths) presentEdition (s .args .tasks) (s .pre .1)),
+      rw (c .new .ensures) (pass-start (programsIn b (s .args .tasks) lengths) (s .args .edition) (s .args .tasks) (s .pre .1)),
     )
 
 element-copy-out-wide8 : tie.Need-element-copy-out-wide8 Inv-loop2 μ-loop2 Inv-loop μ-loop
@@ -145,7 +144,7 @@ add-t c = omega arith
 loop2-holds : tie.Need-loop2-holds Inv-loop2 μ-loop2 Inv-loop μ-loop
 loop2-holds c =
     let l = c .before .before .before in
-    let s = l .before .before .before .before .before in
+    let s = l .before .before .before .before in
     let inv = l .loop .inv in
     let few : c .wide82 .result ≤ 64 = rw (c .wide82 .ensures) (count-few (s .args .tasks) (s .args .lengths .now) (s .pre .0 .sizes) (l .loop .k) (omega arith)) in
     (omega arith, few, omega arith, inv .1, inv .2, c .wide82 .ensures, omega arith, inv .4, inv .5)
@@ -154,7 +153,7 @@ fetch-requires : tie.Need-fetch-requires Inv-loop2 μ-loop2 Inv-loop μ-loop
 fetch-requires c κs =
     let l = c .before in
     let o = l .before .before .before .before in
-    let s = o .before .before .before .before .before in
+    let s = o .before .before .before .before in
     let lengths = s .args .lengths .now in
     let k = o .loop .k in
     let i = l .loop2 .i in
@@ -174,7 +173,7 @@ returns : tie.Need-returns Inv-loop2 μ-loop2 Inv-loop μ-loop
 returns c =
     let q = c .before .before in
     let tasks = code-tasks (b q) (n q) (lengths q) in
-    pass-stops (m q) presentEdition (n q) (k q) (i q) (at2 q .loop2 .inv .8) (x q) (here q) (after q) (next q) refl
+    pass-stops (m q) (e q) (n q) (k q) (i q) (at2 q .loop2 .inv .8) (x q) (here q) (after q) (next q) refl
     (sym tasks) (rw tasks (task q)) (rw (code-count (b q) (n q) (lengths q) (k q) (task q)) (place q)) (not-true (q .next .result .instructions) (c .if1 .taken))
 
 add-at : tie.Need-add-at Inv-loop2 μ-loop2 Inv-loop μ-loop
@@ -198,7 +197,7 @@ loop2-again c =
       inv .5,
       omega arith,
       omega (arith, inv .7),
-      pass-more (m q) presentEdition (n q) (k q) (i q) (inv .8) (x q) (here q) (after q) (next q) (omega arith)
+      pass-more (m q) (e q) (n q) (k q) (i q) (inv .8) (x q) (here q) (after q) (next q) (omega arith)
           (not-false (q .next .result .instructions) (c .if1 .left)),
     )
 
@@ -212,7 +211,7 @@ loop-again : tie.Need-loop-again Inv-loop2 μ-loop2 Inv-loop μ-loop
 loop-again c =
     let l = c .before in
     let o = l .before .before .before .before in
-    let s = o .before .before .before .before .before in
+    let s = o .before .before .before .before in
     let b = s .args .file .now in
     let n = s .args .tasks in
     let lengths = s .args .lengths .now in
@@ -226,17 +225,17 @@ loop-again c =
       inv .4,
       omega arith,
       inv .7 ∙ rw e (place-row lengths k),
-      pass-row (programsIn b n lengths) presentEdition n k (rw d at (inv .8)),
+      pass-row (programsIn b n lengths) (s .args .edition) n k (rw d at (inv .8)),
     )
 
 returns-2 : tie.Need-returns-2 Inv-loop2 μ-loop2 Inv-loop μ-loop
 returns-2 c =
     let l = c .before in
-    let a = l .before .before .before .before .before .args in
+    let a = l .before .before .before .before .args in
     let m = programsIn (a .file .now) (a .tasks) (a .lengths .now) in
     let tasks = code-tasks (a .file .now) (a .tasks) (a .lengths .now) in
     let e : l .loop .k ≡ length m = omega (arith, tasks) in
-    pass-ends m presentEdition (a .tasks) (sym tasks) (rw e at (l .loop .inv .5))
+    pass-ends m (a .edition) (a .tasks) (sym tasks) (rw e at (l .loop .inv .5))
 
 pub walk-spec : {M : Type 1} → statement M
 walk-spec =
@@ -247,7 +246,6 @@ walk-spec =
     Inv-loop
     μ-loop
     wide8-requires
-    present-requires
     new-requires
     loop-holds
     element-copy-out-wide8
