@@ -4,7 +4,7 @@
 #   make ctest    the tests of the C side
 #   make sanitize the driver and the header's functions under the compiler's checks of addresses and undefined behaviour
 #   make test     the gate: everything proved from nothing, then the tests of the C side over that archive
-#   make mutants  wrong simulators, which the comparison has to find
+#   make mutants  wrong simulators and wrong converters, which the comparisons have to find
 #   make bench    times of library and simulator
 #   make instructions   instructions of both, by callgrind
 #   make clean    removes build/
@@ -23,7 +23,10 @@ SIMULATOR = bench/simulator.c bench/sim_plan.c bench/sim_start.c bench/sim_step.
     bench/sim_run.c bench/sim_deliver.c bench/sim_move.c
 GENERATOR = bench/generate.c bench/damage.c bench/make_plan.c bench/make_steps.c bench/draft.c
 BENCHMARK = bench/benchmark.c bench/sim_logs.c bench/cases.c bench/make_plan.c bench/make_steps.c bench/draft.c
+CONVERTER = bench/converter.c bench/guarded.c bench/sim_convert.c
+REPEATS = bench/repeats.c bench/make_repeats.c bench/rounds.c bench/damage.c bench/make_plan.c bench/draft.c
 COMPARISON = bench/differential.c bench/tally.c bench/guarded.c
+RIG_VECTORS = bench/rig_vectors.c bench/whole_file.c bench/sim_ask.c
 STACK = bench/stack.c bench/cases.c bench/guarded.c
 BENCH_HEADERS = $(wildcard bench/*.h) $(HEADER)
 
@@ -52,11 +55,23 @@ build/header_c%: driver/header_test.c $(HEADER) $(ARCHIVE) | build
 build/header_cxx%: driver/header_test.c $(HEADER) $(ARCHIVE) | build
 	$(CXX) -std=c++$* $(WARNINGS) $(CXXFLAGS) -Iinclude -o $@ -x c++ driver/header_test.c -x none $(ARCHIVE)
 
-build/vectors: bench/vectors.c $(SIMULATOR) $(BENCH_HEADERS) | build
-	$(CCALL) -o $@ bench/vectors.c $(SIMULATOR)
+build/vectors: bench/vectors.c bench/whole_file.c $(SIMULATOR) $(BENCH_HEADERS) | build
+	$(CCALL) -o $@ bench/vectors.c bench/whole_file.c $(SIMULATOR)
+
+build/rig_vectors: $(RIG_VECTORS) $(SIMULATOR) $(BENCH_HEADERS) | build
+	$(CCALL) -o $@ $(RIG_VECTORS) $(SIMULATOR)
 
 build/calls: bench/calls.c $(SIMULATOR) $(BENCH_HEADERS) | build
 	$(CCALL) -o $@ bench/calls.c $(SIMULATOR)
+
+build/finish_vectors: bench/finish_vectors.c bench/sim_finish.c $(SIMULATOR) $(BENCH_HEADERS) | build
+	$(CCALL) -o $@ bench/finish_vectors.c bench/sim_finish.c $(SIMULATOR)
+
+build/repeats_vectors: bench/repeats_vectors.c $(CONVERTER) $(SIMULATOR) $(BENCH_HEADERS) | build
+	$(CCALL) -o $@ bench/repeats_vectors.c $(CONVERTER) $(SIMULATOR)
+
+build/repeats: $(REPEATS) $(CONVERTER) $(SIMULATOR) $(BENCH_HEADERS) | build
+	$(CCALL) -o $@ $(REPEATS) $(CONVERTER) $(SIMULATOR)
 
 build/old_plans: bench/old_plans.c $(HEADER) $(ARCHIVE) | build
 	$(CCALL) -o $@ bench/old_plans.c $(ARCHIVE)

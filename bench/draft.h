@@ -38,10 +38,4 @@ void draft_remove(struct draft *d, uint32_t task, uint32_t index);
 /* The plan file, of at most DRAFT_BYTES; returns its length. */
 size_t draft_write(const struct draft *d, uint8_t *plan);
 
-static inline void put_u16(uint8_t *p, uint32_t n)
-{
-    p[0] = (uint8_t)n;
-    p[1] = (uint8_t)(n >> 8);
-}
-
 #endif

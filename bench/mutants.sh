@@ -1,32 +1,55 @@
 #!/bin/sh
-# mutants.sh: shows that the comparison can fail. Each line below is a wrong rule
-# of the simulator, compiled in by -DMUTANT=number; differential has to find it
-# and exit with 1. Run by `make mutants`, from the repository's top. ONLY="4 9"
-# tries those two.
+# mutants.sh: shows that the comparisons can fail. Each line below is a wrong rule,
+# compiled in by -DMUTANT=number. One of the simulator has to be found by differential,
+# one of the converter, from 70 on, by the recorded files and by the generated ones:
+# the program exits with 1. Run by `make mutants`, from the repository's top. ONLY="4 9"
+# tries those two; those from 70 on need no archive. REPEATS names the recorded files.
 set -u
-: "${CC:=cc}" "${CFLAGS:=-O2}" "${SEED:=1}" "${COUNT:=20000}"
+: "${CC:=cc}" "${CFLAGS:=-O2}" "${SEED:=1}" "${COUNT:=20000}" "${REPEATS:=../shared/vectors/repeats.bin}"
 archive=target/staticlib/libdriver.a
-sources='bench/differential.c bench/tally.c bench/guarded.c bench/generate.c bench/damage.c
-    bench/make_plan.c bench/make_steps.c bench/draft.c
-    bench/simulator.c bench/sim_plan.c bench/sim_start.c bench/sim_step.c bench/sim_call.c
+simulator='bench/simulator.c bench/sim_plan.c bench/sim_start.c bench/sim_step.c bench/sim_call.c
     bench/sim_run.c bench/sim_deliver.c bench/sim_move.c'
+generator='bench/damage.c bench/make_plan.c bench/draft.c'
+converter='bench/converter.c bench/guarded.c bench/sim_convert.c'
 missed=0
 tried=0
 
-[ -f "$archive" ] || { echo "mutants: no $archive; make driver first" >&2; exit 2; }
-
-while read -r number rule; do
-    case " ${ONLY:-$number} " in *" $number "*) ;; *) continue ;; esac
+# compiled FLAGS AND SOURCES: build/mutant.
+compiled() {
     # shellcheck disable=SC2086
-    $CC -std=c11 $CFLAGS -DMUTANT="$number" -Iinclude -o build/mutant $sources "$archive" || exit 2
-    build/mutant "$SEED" "$COUNT" > build/mutant.out 2> build/mutant.err
+    $CC -std=c11 $CFLAGS -Iinclude -o build/mutant "$@" || exit 2
+}
+
+# run NAME ARGUMENTS: build/mutant with the arguments has to find the rule.
+run() {
+    name=$1
+    shift
+    build/mutant "$@" > build/mutant.out 2> build/mutant.err
     status=$?
     tried=$((tried + 1))
     if [ "$status" -eq 1 ] && grep -q 'differ$\|was touched' build/mutant.err; then
-        echo "found   $number $rule ($(sed -n 's/^seed [0-9]* \(index [0-9]*\).*/\1/p' build/mutant.err))"
+        echo "found   $name ($(sed -n 's/^seed [0-9]* \(index [0-9]*\).*/\1/p; s/.*: \(.* records\) differ$/\1/p' build/mutant.err))"
     else
-        echo "MISSED  $number $rule (exit status $status)"
+        echo "MISSED  $name (exit status $status)"
         missed=$((missed + 1))
+    fi
+}
+
+# The sources are lists of words.
+# shellcheck disable=SC2086
+while read -r number rule; do
+    case " ${ONLY:-$number} " in *" $number "*) ;; *) continue ;; esac
+    if [ "$number" -ge 70 ]; then
+        $CC -std=c11 $CFLAGS -DMUTANT="$number" -Dsim_convert=wrong_convert -c -o build/wrong.o bench/sim_convert.c || exit 2
+        compiled -DHELD=wrong_convert bench/repeats_vectors.c $converter $simulator build/wrong.o
+        run "$number $rule" "$REPEATS"
+        compiled -DHELD=wrong_convert bench/repeats.c bench/make_repeats.c bench/rounds.c $generator $converter $simulator build/wrong.o
+        run "$number $rule" "$SEED" "$COUNT"
+    else
+        [ -f "$archive" ] || { echo "mutants: no $archive; make driver first" >&2; exit 2; }
+        compiled -DMUTANT="$number" bench/differential.c bench/tally.c bench/guarded.c bench/generate.c bench/make_steps.c \
+            $generator $simulator "$archive"
+        run "$number $rule" "$SEED" "$COUNT"
     fi
 done <<'RULES'
 1 an advert goes to the sender's own desk as well
@@ -72,6 +95,20 @@ done <<'RULES'
 41 a child that moves renews its own pointer
 42 an ended letter is held and not forwarded
 43 an ended letter is removed where the parent is away
+70 a repeat has one round more
+71 each instruction of a repeat is repeated by itself
+72 a repeat goes on into the next task
+73 22 is tested before 21
+74 21 to 23 are tested task by task
+75 a written length is counted in 8 bits
+76 a task left empty is refused by 2
+77 the header is that of the file
+78 the second bytes are lost
+79 a create in a repeat of one round is accepted
+80 20 is tested before 4
+81 an output that is just long enough for a plan is too short
+82 a short output holds the plan's beginning
+83 a byte behind the written plan is written
 RULES
 
 [ "$missed" -eq 0 ] || { echo "mutants: $missed of $tried not found" >&2; exit 1; }

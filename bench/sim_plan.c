@@ -2,10 +2,9 @@
  * over the instructions finds the lowest of the other numbers. */
 #include "sim_plan.h"
 
-#include <stdbool.h>
 #include <string.h>
 
-static bool layout_is_right(const uint8_t *plan, size_t length)
+bool sim_layout_is_right(const uint8_t *plan, size_t length)
 {
     if (length < 4)
         return false;
@@ -23,7 +22,7 @@ static bool layout_is_right(const uint8_t *plan, size_t length)
     return offset == 4 + 4 * tasks + 4 * total && length == offset;
 }
 
-static bool instruction_is_right(const uint8_t *p, uint32_t tasks)
+bool sim_instruction_is_right(const uint8_t *p, uint32_t tasks)
 {
     uint32_t argument = sim_u16(p + 2);
     switch (p[0]) {
@@ -87,7 +86,7 @@ uint32_t sim_plan_users(uint32_t desks, const uint8_t *plan, size_t length, stru
 {
     if (desks < 1 || desks > MAX_DESKS)
         return 1;
-    if (!layout_is_right(plan, length) || (MUTANT == 22 && plan[length] == 255))
+    if (!sim_layout_is_right(plan, length) || (MUTANT == 22 && plan[length] == 255))
         return 2;
     struct findings f = {false, false, false, 0, 0, 0};
     memset(users, 0, sizeof *users);
@@ -96,7 +95,7 @@ uint32_t sim_plan_users(uint32_t desks, const uint8_t *plan, size_t length, stru
     for (uint32_t t = 1; t <= tasks; t++) {
         uint32_t count = sim_u16(plan + 4 * t + 2);
         for (uint32_t i = 1; i <= count; i++, p += 4) {
-            if (!instruction_is_right(p, tasks))
+            if (!sim_instruction_is_right(p, tasks))
                 return 3;
             find(&f, users, t, p, i == count);
         }

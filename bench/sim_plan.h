@@ -2,11 +2,12 @@
 #ifndef SIM_PLAN_H
 #define SIM_PLAN_H
 
+#include <stdbool.h>
 #include <stddef.h>
 #include <stdint.h>
 
 #ifndef MUTANT
-#define MUTANT 0 /* a wrong rule, by its number: see mutants.sh */
+#define MUTANT 0 /* a wrong rule, by its number: see mutants.sh and finish_mutants.sh */
 #endif
 
 enum {
@@ -33,6 +34,18 @@ static inline uint32_t sim_u16(const uint8_t *p)
 {
     return (uint32_t)p[0] | (uint32_t)p[1] << 8;
 }
+
+static inline void put_u16(uint8_t *p, uint32_t n)
+{
+    p[0] = (uint8_t)n;
+    p[1] = (uint8_t)(n >> 8);
+}
+
+/* Refusal 2 is not due: the header, and the length that follows from it. */
+bool sim_layout_is_right(const uint8_t *plan, size_t length);
+
+/* Refusal 3 is not due for the instruction at p, in a plan of so many tasks. */
+bool sim_instruction_is_right(const uint8_t *p, uint32_t tasks);
 
 /* Refusals 1 to 6, or 0; where it is 0, users are filled in. */
 uint32_t sim_plan_users(uint32_t desks, const uint8_t *plan, size_t length,

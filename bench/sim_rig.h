@@ -88,6 +88,7 @@ struct sim_rig {
     uint32_t letters;
     uint8_t chosen[MAX_DESKS + 1]; /* by desk: the task that its dispatcher chose last, 0 at first */
     struct sim_task task[MAX_TASKS + 1];
+    uint16_t first[MAX_TASKS + 1]; /* each task's first instruction in the code */
     struct sim_letter mail[MAX_MAIL + (MUTANT == 12 || MUTANT == 13 ? 64 : 0)];
     struct sim_parent parent[MAX_TASKS + 1][MAX_DESKS + 1]; /* by task and desk */
     struct sim_channel channel[MAX_CHANNELS + 1]; /* only the plan's are set */

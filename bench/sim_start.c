@@ -23,7 +23,8 @@ static void lay_out_tasks(struct sim_rig *rig, const uint8_t *plan, const struct
     memset(rig->task, 0, (rig->tasks + 1) * sizeof rig->task[0]);
     memset(rig->parent, 0, (rig->tasks + 1) * sizeof rig->parent[0]);
     for (uint32_t t = 1; t <= rig->tasks; t++) {
-        rig->task[t].place = (uint16_t)place;
+        rig->first[t] = (uint16_t)place;
+        rig->task[t].place = rig->first[t];
         rig->task[t].parent = users->creator[t];
         place += sim_u16(plan + 4 * t + 2);
     }

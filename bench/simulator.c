@@ -4,32 +4,9 @@
 #include <string.h>
 
 #include "sim_rig.h"
+#include "sim_text.h"
 
 enum { LONGEST_LINE = 35 };
-
-/* A decimal of at most five digits; returns its end. */
-static uint8_t *put_number(uint8_t *p, uint32_t n)
-{
-    if (n >= 10) {
-        if (n >= 100) {
-            if (n >= 1000) {
-                if (n >= 10000)
-                    *p++ = (uint8_t)('0' + n / 10000);
-                *p++ = (uint8_t)('0' + n / 1000 % 10);
-            }
-            *p++ = (uint8_t)('0' + n / 100 % 10);
-        }
-        *p++ = (uint8_t)('0' + n / 10 % 10);
-    }
-    *p++ = (uint8_t)('0' + n % 10);
-    return p;
-}
-
-static uint8_t *put_field(uint8_t *p, uint32_t n)
-{
-    *p = ' ';
-    return put_number(p + 1, n);
-}
 
 /* Writes a step's line, and returns its end. */
 static uint8_t *put_line(uint8_t *p, uint32_t step, uint32_t number, struct sim_received received)

@@ -9,27 +9,13 @@
 
 #include "../include/mortarsedge.h"
 #include "simulator.h"
+#include "whole_file.h"
 
 enum { HEADER = 7 };
 
 static size_t number_at(const uint8_t *p)
 {
     return (size_t)p[0] + 256 * (size_t)p[1];
-}
-
-static uint8_t *read_file(const char *name, size_t *length)
-{
-    FILE *file = fopen(name, "rb");
-    if (file == NULL || fseek(file, 0, SEEK_END) != 0)
-        return NULL;
-    long size = ftell(file);
-    uint8_t *bytes = size < 0 ? NULL : malloc((size_t)size + 1);
-    if (bytes == NULL)
-        return NULL;
-    rewind(file);
-    *length = fread(bytes, 1, (size_t)size, file);
-    fclose(file);
-    return *length == (size_t)size ? bytes : NULL;
 }
 
 /* Whether the record at p, of these lengths, is what the simulator does. */
@@ -50,7 +36,7 @@ static int record_holds(const uint8_t *p, size_t plan, size_t steps, size_t expe
 static unsigned file_holds(const char *name)
 {
     size_t length = 0, place = 0;
-    uint8_t *bytes = read_file(name, &length);
+    uint8_t *bytes = read_whole(name, &length);
     unsigned records = 0;
     if (bytes == NULL) {
         fprintf(stderr, "vectors: %s cannot be read\n", name);

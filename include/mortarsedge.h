@@ -4,6 +4,10 @@
  * logs, take numbers and bytes, keep nothing between calls, and may be called from
  * several threads at once. Each returns for every input; none allocates, reads or
  * writes anything else. Everything else in this header is C for a driver's convenience:
+ * Link with libdriver.a. Its three functions, plan check, run and convert, take
+ * numbers and bytes, keep nothing between calls, and may be called from several
+ * threads at once. They return for every input; none allocates, reads or writes
+ * anything else. Everything else in this header is C for a driver's convenience:
  * names for the numbers, and inline functions, which no proof covers.
  *
  * Where a length is 0 its pointer may be any.
@@ -62,7 +66,8 @@ enum {
     /* Stack for a call, with some to spare: make ctest measures what is needed. */
     MORTARSEDGE_PLAN_CHECK_STACK = 16 * 1024,
     MORTARSEDGE_RUN_STACK = 128 * 1024,
-    MORTARSEDGE_LOGS_STACK = 64 * 1024
+    MORTARSEDGE_LOGS_STACK = 64 * 1024,
+    MORTARSEDGE_CONVERT_STACK = 128 * 1024
 };
 
 /* The kinds of an instruction, 4 bytes of a plan file: kind, a second byte, and an
@@ -93,6 +98,8 @@ enum mortarsedge_step {
 
 /* The answers: of a call 0 to 6, 8, 20, 24 and 25, of the converter 0, 2 to 6 and 20 to 23, of a
  * step in the trace 0 and 10 to 19. */
+/* The answers: of a call 0 to 6, 8 and 20, of the converter 0, 2 to 6 and 20 to 23, of a step in the
+ * trace 0 and 10 to 19. */
 enum mortarsedge_answer {
     MORTARSEDGE_ACCEPTED = 0,
     /* Of the plan file. */
@@ -204,12 +211,37 @@ uint64_t mortarsedge_logs(const uint8_t *sent, size_t sent_length,
                           const uint8_t *received, size_t received_length);
 
 /* The number in the answer of a run, 0 to 6, 8 or 20, or of two logs, 0, 24 or 25. */
+/* Converts a plan file with repeats: writes it as a plan file of the present
+ * edition, with every repeat written out.
+ *
+ * The caller supplies
+ *   plan    plan_length readable bytes, any bytes, which nobody writes meanwhile;
+ *   out     out_length bytes that may be read and written, which nobody else
+ *           reads or writes meanwhile, and which do not overlap plan;
+ *   stack   MORTARSEDGE_CONVERT_STACK bytes.
+ *
+ * The answer holds a number and how many bytes of out are written: take it
+ * apart by mortarsedge_number and mortarsedge_filled.
+ *
+ *   0         out begins with the plan file, which plan check accepts
+ *   2, 3      the file is refused, as by plan check with the two kinds allowed
+ *   21 to 23  a repeat is refused, as above
+ *   4 to 6    the written-out plan is refused, as by plan check
+ *   20        the written-out plan does not fit
+ *
+ * The numbers are tested in this order, each over the whole file before the
+ * next. A refused call leaves out untouched, and filled is 0. Bytes behind the
+ * written ones are unchanged. With out_length of MORTARSEDGE_MAX_PLAN or more,
+ * every plan fits: a plan file is never longer. */
+uint64_t mortarsedge_convert(const uint8_t *plan, size_t plan_length, uint8_t *out, size_t out_length);
+
+/* The number in the answer of a run, 0 to 6, 8 or 20, or of a conversion, 0, 2 to 6 or 20 to 23. */
 static inline uint32_t mortarsedge_number(uint64_t answer)
 {
     return (uint32_t)(answer % 256);
 }
 
-/* How many bytes of the output hold lines. */
+/* How many bytes of the output hold lines, or the written-out plan. */
 static inline size_t mortarsedge_filled(uint64_t answer)
 {
     return (size_t)(answer / 256);
@@ -425,6 +457,12 @@ static inline const char *mortarsedge_refusal_text(uint32_t number)
         return "log's length no multiple of 10, or over 4,096 records";
     case MORTARSEDGE_BAD_LOG_RECORD:
         return "a channel in a log outside 1 to 128";
+    case MORTARSEDGE_BAD_REPEAT:
+        return "a repeat or its end nested or unpaired in its task";
+    case MORTARSEDGE_REPEATED_CREATE:
+        return "a create within a repeat";
+    case MORTARSEDGE_TOO_LONG:
+        return "a task over 64 instructions when written out";
     default:
         return "not a number of the paper";
     }

@@ -26,7 +26,6 @@ pub mod Logs
 -- .. and what the answers of the check mean
 pub mod Verdicts
 -- at most one call or word letter of a channel
-pub mod Repeats
 pub mod OneMessage
 -- runs at different desks
 pub mod Commute
@@ -47,7 +46,10 @@ pub mod Idle
 pub mod Waiting
 pub mod Calls
 pub mod Rounds
+-- what tablets show of plans that differ in arguments
 pub mod Tablets
+-- plans with repeats, and written out
+pub mod Repeats
 -- the finish check: the lowest living child, the same answer everywhere
 pub mod Lowest
 pub mod Finish

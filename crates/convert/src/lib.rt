@@ -51,7 +51,12 @@ fn all_allowed<'a>(file: &'a [u8], tasks: u8, lengths: &'a [u8; 64]) -> bool
 // The instructions behind a header that is in order, of tasks with these numbers of instructions: 3 and 21 to
 // 23; then they are written out, and the plan is written, where 4 to 6 and 20 are asked for. An empty task
 // is refused by 4 before that: writing would refuse it by 2.
-fn convert_code<'a>(file: &'a [u8], tasks: u8, lengths: &'a [u8; 64], out: &'a mut [u8]) -> WriteAnswer
+fn convert_code<'a>(
+    file: &'a [u8],
+    tasks: u8,
+    lengths: &'a [u8; 64],
+    out: &'a mut [u8],
+) -> WriteAnswer
     requires { ⌜ Whole (now file) tasks (now lengths) ⌝ }
     ensures { λ r. ⌜ CodeConverted (programsIn (now (file .entry)) tasks (now (lengths .entry))) (now (out .entry)) r (now (out .exit)) ⌝ }
 {

@@ -16,7 +16,13 @@ use plan_file::code::fetch;
 
 // The instructions of one task, which stand from a place on, put into the slots from `first` on. How many
 // they are.
-fn write_task<'a>(file: &'a [u8], at: usize, count: usize, first: usize, codes: &'a mut [u32; 4096]) -> usize
+fn write_task<'a>(
+    file: &'a [u8],
+    at: usize,
+    count: usize,
+    first: usize,
+    codes: &'a mut [u32; 4096],
+) -> usize
     requires { ⌜ (count ≤ 64) × (at + 4 * count ≤ length (now file)) × (first + 64 ≤ 4096) × (length (now codes) ≡ 4096)
         × Fine (taskIn (now file) at count) ⌝ }
     ensures { λ r. ⌜ WrittenTask (writtenOut (taskIn (now (file .entry)) at count)) first (now (codes .entry)) r (now (codes .exit)) ⌝ }

@@ -30,18 +30,33 @@ fn print_counts(before: u16, after: u16) {
     io::write_all(STDOUT_FILENO, b"\n");
 }
 
-// The first `filled` bytes become the file.
-fn save(name: &[u8], out: &[u8], filled: usize) {
+// The first `filled` bytes become the file: whether all of them are written.
+fn save(name: &[u8], out: &[u8], filled: usize) -> bool {
     if out.len() < filled {
-        return;
+        return false;
     }
     let fd = os::open_overwrite(name);
     if fd < 0 {
+        return false;
+    }
+    let saved = io::write_all(fd, &out[..filled]);
+    libc::close(fd);
+    saved
+}
+
+// The answer is the number of the refusal, 0 for none, and 256 times how much of the output is filled.
+fn say(answer: u64, repeats: &[u8], out: &[u8]) {
+    let number = answer % 256;
+    if number != 0 {
+        print_refusal(number);
+        return;
+    }
+    let name = b"rig.plan";
+    if !save(name, out, (answer / 256) as usize) {
         os::fail(name);
         return;
     }
-    io::write_all(fd, &out[..filled]);
-    libc::close(fd);
+    print_counts(word_at(repeats, 2), word_at(out, 2));
 }
 
 // The buffers are longer than any accepted file, of 16,644 bytes, so that a longer one is refused and not
@@ -51,11 +66,5 @@ fn main() {
     let mut out = io::large_buffer();
     let size = load(b"rig.repeats", &mut repeats);
     let answer = driver::conversion::mortarsedge_convert(&repeats[..size], &mut out);
-    let number = answer % 256;
-    if number != 0 {
-        print_refusal(number);
-        return;
-    }
-    save(b"rig.plan", &out, (answer / 256) as usize);
-    print_counts(word_at(&repeats, 2), word_at(&out, 2));
+    say(answer, &repeats, &out);
 }

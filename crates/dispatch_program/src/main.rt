@@ -6,6 +6,7 @@
 mod calls;
 
 ghost use Rattle.io.specs.Counts.{Counts};
+use calls::Chosen;
 use calls::choose;
 use libc::STDIN_FILENO;
 use libc::STDOUT_FILENO;
@@ -62,36 +63,60 @@ fn save(steps: &[u8]) {
     libc::close(fd);
 }
 
-// The trace of the chosen steps.
-fn trace<'a>(n: u8, plan: &'a [u8], steps: &'a [u8]) {
-    let mut out = io::large_buffer();
-    let answer = driver::mortarsedge_run(n as u32, plan, steps, &mut out);
+// The answer is the number of the refusal, 0 for none, and 256 times how much of the output is filled.
+fn say(answer: u64, out: &[u8]) {
     let number = answer % 256;
     if number != 0 {
         print_refusal(number);
         return;
     }
-    print_trace(&out, (answer / 256) as usize);
+    print_trace(out, (answer / 256) as usize);
+}
+
+// The trace of the chosen steps.
+fn trace<'a>(n: u8, plan: &'a [u8], steps: &'a [u8]) {
+    let mut out = io::large_buffer();
+    let answer = driver::mortarsedge_run(n as u32, plan, steps, &mut out);
+    say(answer, &out);
+}
+
+// The step file becomes the first `size` bytes, and they are traced.
+fn keep_first<'a>(n: u8, plan: &'a [u8], steps: &'a [u8], size: usize) {
+    if steps.len() < size {
+        return;
+    }
+    save(&steps[..size]);
+    trace(n, plan, &steps[..size]);
+}
+
+// The chosen steps are kept and traced; and it is said where there were more.
+fn keep<'a>(n: u8, plan: &'a [u8], steps: &'a [u8; 8000], c: Chosen) {
+    keep_first(n, plan, steps, c.size);
+    if c.more {
+        io::write_all(STDOUT_FILENO, b"more than 2000 steps: rig.steps has the first 2000\n");
+    }
+}
+
+// Of a plan file that can be started the steps are chosen.
+fn call_desks(n: u8, plan: &[u8]) {
+    let mut steps = [0u8; 8000];
+    let c = choose(n, plan, &mut steps);
+    keep(n, plan, &steps, c);
+}
+
+// Only a plan file that can be started changes the step file.
+fn dispatch_plan(n: u8, plan: &[u8]) {
+    let number = driver::mortarsedge_plan_check(n as u32, plan);
+    if number != 0 {
+        print_refusal(number as u64);
+        return;
+    }
+    call_desks(n, plan);
 }
 
 fn main() {
     let n = processors();
     let mut plan = io::large_buffer();
     let planned = load(b"rig.plan", &mut plan);
-    let number = driver::mortarsedge_plan_check(n as u32, &plan[..planned]);
-    if number != 0 {
-        print_refusal(number as u64);
-        return;
-    }
-    let mut steps = [0u8; 8000];
-    let c = choose(n, &plan[..planned], &mut steps);
-    let size = c.size;
-    if 8000 < size {
-        return;
-    }
-    save(&steps[..size]);
-    trace(n, &plan[..planned], &steps[..size]);
-    if c.more {
-        io::write_all(STDOUT_FILENO, b"more than 2000 steps: rig.steps has the first 2000\n");
-    }
+    dispatch_plan(n, &plan[..planned]);
 }

@@ -1,9 +1,10 @@
 -- The exported converter: its answer, the output then, that what is written is accepted by plan check, and that it gives the same words.
 use mathlib.Core.Path.{_≡_}
 use mathlib.Core.List.{List}
-use Prim.Native.Nat.{ℕ}
+use Prim.Native.Nat.{ℕ, _+_, _*_}
 use lib.ListN.{take}
 use Rattle.plan.specs.declared.PlanAnswer.the-variants.{Accepted}
+use Rattle.plan.specs.declared.WriteAnswer.{WriteAnswer}
 use Rattle.plan.specs.declared.WriteAnswer.the-variants.{Written}
 use Rattle.plan.specs.Answers.{writeNumber, writeSize}
 use Rattle.plan.specs.Files.{fileAnswer}
@@ -12,9 +13,19 @@ use Rattle.plan.specs.Conversions.{convertAnswer, convertOutput}
 use Rattle.claim.specs.Repeats.{RepeatsWritten}
 use Rattle.driver.specs.Runs.{packed}
 
-unfoldable pub convertOutcome : List ℕ → List ℕ → ℕ
-convertOutcome b out = packed (writeNumber (convertAnswer b out)) (writeSize (convertAnswer b out))
+-- a plan file has at most so many bytes: 4, and 4 for each of 64 tasks and for each of their 64 instructions
+abbrev pub longestPlan : ℕ
+longestPlan = 4 + 64 * 4 + 64 * 64 * 4
 
+-- 0 or the refusal's number, and 256 times the number of bytes that are written
+abbrev pub writePacked : WriteAnswer → ℕ
+writePacked a = packed (writeNumber a) (writeSize a)
+
+unfoldable pub convertOutcome : List ℕ → List ℕ → ℕ
+convertOutcome b out = writePacked (convertAnswer b out)
+
+-- a conversion answered and wrote so: `result` and `bytes` hold of every call, `accepted` is what plan check says of the written bytes, and where the
+-- file is not refused by 2 to 6 or 21 to 23, `same` is the claim about it
 pub record ConvertMeets (b before : List ℕ) (r : ℕ) (after : List ℕ) : Type 0 where
   pub result : r ≡ convertOutcome b before
   pub bytes : after ≡ convertOutput b before

@@ -2,10 +2,8 @@
 pub mod Edges
 -- Each run has its trace.
 pub mod Scenes
--- What demand 3 says of two runs, that its test of letters tells rigs apart, and what is said of moves, of marks, of plans on level 0 and of logs.
--- What demand 3 says of two runs, that its test of letters tells rigs apart, and what is said of moves, of marks, of plans on level 0 and of
--- tablets.
--- What demand 3 says of two runs, that its test of letters tells rigs apart, and what is said of moves, of marks of plans on level 0 and of plans with repeats.
+-- What demand 3 says of two runs, that its test of letters tells rigs apart, and what is said of moves, of marks, of plans on level 0, of runs at
+-- different desks, of logs, of dispatchers, of tablets and of plans with repeats.
 pub mod Demand3
 pub mod Bound
 pub mod Suppositions

@@ -15,4 +15,5 @@ pub mod Logs
 pub mod Dispatch
 -- Plans that differ in an argument.
 pub mod Tablets
+-- A plan with repeats.
 pub mod Repeats

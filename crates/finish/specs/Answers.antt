@@ -8,6 +8,7 @@ use Rattle.base.specs.Range.{upTo, joined}
 use Rattle.plan.specs.declared.TaskId.{TaskId}
 use Rattle.rules.specs.declared.task.Task.{Task}
 use Rattle.rules.specs.declared.task.TaskState.the-variants.{Sending, Receiving}
+use Rattle.rules.specs.declared.system.TaskTable.{TaskTable}
 use Rattle.rules.specs.Numbers.{taskId}
 use Rattle.rules.specs.Tasks.{isIn}
 use Rattle.rules.specs.Systems.{taskIn}
@@ -16,7 +17,7 @@ use Rattle.rig_parts.specs.Fetches.{instructionIn}
 use Rattle.rig_parts.specs.Scopes.{namedIn}
 
 -- no task of 1 .. count is stuck
-unfoldable pub finishesIn : List Task → ℕ → Bool
+unfoldable pub finishesIn : TaskTable → ℕ → Bool
 finishesIn ts count = upTo count (λ t. not (isStuck (taskIn ts (taskId t))))
 
 -- the task that task t, with record x, depends on
@@ -40,19 +41,19 @@ abbrev pub Dependent : List ℕ → TaskId → Task → Type 0
 Dependent codes t x = isIn Sending x || isIn Receiving x ≡ true → LastOn codes t x
 
 -- each of the tasks 1 .. count
-abbrev pub AllDependent : List ℕ → List Task → ℕ → Type 0
+abbrev pub AllDependent : List ℕ → TaskTable → ℕ → Type 0
 AllDependent codes ts count = (t : ℕ) → 1 ≤ t → t ≤ count → Dependent codes (taskId t) (taskIn ts (taskId t))
 
 -- the line of task t, if it is stuck; those of tasks 1 .. count
-abbrev pub stuckLineIn : List ℕ → List ℕ → List ℕ → List Task → ℕ → List (List ℕ)
+abbrev pub stuckLineIn : List ℕ → List ℕ → List ℕ → TaskTable → ℕ → List (List ℕ)
 stuckLineIn codes senders receivers ts t =
     let x = taskIn ts (taskId t) in
     pick (isStuck x) (stuckLine (record { task = taskId t; on = dependsIn codes senders receivers (taskId t) x }) ∷ []) []
 
-unfoldable pub stuckLinesIn : List ℕ → List ℕ → List ℕ → List Task → ℕ → List (List ℕ)
+unfoldable pub stuckLinesIn : List ℕ → List ℕ → List ℕ → TaskTable → ℕ → List (List ℕ)
 stuckLinesIn codes senders receivers ts count = joined count (λ k. stuckLineIn codes senders receivers ts (suc k))
 
 -- all lines, after so many accepted runs
-abbrev pub linesIn : List ℕ → List ℕ → List ℕ → List Task → ℕ → ℕ → List (List ℕ)
+abbrev pub linesIn : List ℕ → List ℕ → List ℕ → TaskTable → ℕ → ℕ → List (List ℕ)
 linesIn codes senders receivers ts count work =
     verdictLine (finishesIn ts count) work ∷ stuckLinesIn codes senders receivers ts count

@@ -43,7 +43,7 @@ pub fn answer<'a>(
     let mut heldprocessors = tables.heldprocessors;
     let mut heldnumbers = tables.heldnumbers;
     let mut notes = tables.notes;
-    let mut board = [0u64; 1088];
+    let mut board = [0u64; 1094];
     start_board(&mut board);
     let one = ProcessorId(1);
     let born = Hint {

@@ -204,8 +204,7 @@ module _ (m : Programs) (fine : newInstructionsOk m ≡ true) where
     pass-along c h =
         let (send, sent) = stands-then (senderOf m c) opSend c (omega arith) (sender-stands m (s .net) c h) in
         let (receive, received) = stands-then (receiverOf m c) opReceive c (omega arith) (receiver-stands m (s .net) c h) in
-        rw (← same-sender m fine c, ← same-receiver m fine c)
-        (
+        rw (← same-sender m fine c, ← same-receiver m fine c) (
           and-both (standsAt (writtenOutPlan m) n (senderOf m c) opSend c) _ send receive,
           record {
             born = a .born;

@@ -40,6 +40,5 @@ use Rattle.rules.specs.Tasks.{woken}
 use Rattle.rules.specs.Trace.{digits, fields, stepLine, overLine, overLines, endLine, stepLines, refusedLine}
 
 unfoldable pub evaluated : Unit {0}
-unfolding sameBytes every everyPair any count tableBefore table fold member inserted removed removedAll setOf layoutOk filePrograms fileAnswer startAnswer layout planRead writeAnswer writeOutput startNumber programs canonical sizesOk operandOk instructionsOk finishOk finishesOk createsOk structureAnswer planAnswer users levelOf withLevel setWord addWord terminatedRule takenOver arrival callRule dataRule newer larger firstNoted gotTerminated gotMigration opened delivered deliverAnswer completed siteAt withOutcome forCells forChannels syncRule finishRule moved moveAnswer messages messageAt enqueued enqueuedAll dequeued messagesOf offerRule advertRule nextIn lastIn isOn sendNumber receivePasses receiveWaits receiveRule ranCreate ranFinish ranSend ranReceive executed ran fits runAnswer sameBool linesHold startOn historyHolds sendPasses sendWaits sendRule tablesOk messageOk networkOk unbornOk bornOk taskOk originOk parentsOk readyOk chosenOk systemOk birth blank started fileSteps startOf traceLines text stepsOk runFileAnswer fitting runFileText runFileOutput printed wellFormed kindAnswer ruledAnswer stepAnswer performed answered step ruledStep quiescent stepsBy wordOn receivedOn taskIn readyThen readySets taskStored withTask entryAt channelAt withCell parentAt withParent woken digits fields stepLine overLine overLines endLine stepLines refusedLine channelEntriesOk channelsOk plain addressee earliest firstFrom nextReady deliveryTurn choice runTurn ruledDispatch dispatched stepOf reportOf panelSteps answering panel tabletOf driverOf size
-unfolding sameBytes every everyPair any tableBefore table fold member inserted removed removedAll layoutOk filePrograms fileAnswer startAnswer layout planRead writeAnswer writeOutput startNumber programs canonical sizesOk operandOk instructionsOk finishOk finishesOk createsOk structureAnswer planAnswer users levelOf withLevel setWord addWord terminatedRule takenOver arrival callRule dataRule newer larger firstNoted gotTerminated gotMigration opened delivered deliverAnswer completed siteAt withOutcome forCells forChannels syncRule finishRule moved moveAnswer messages messageAt enqueued enqueuedAll dequeued messagesOf offerRule advertRule nextIn lastIn isOn sendNumber receivePasses receiveWaits receiveRule ranCreate ranFinish ranSend ranReceive executed ran fits runAnswer sameBool linesHold startOn historyHolds sendPasses sendWaits sendRule tablesOk messageOk networkOk unbornOk bornOk taskOk originOk parentsOk systemOk birth blank started fileSteps startOf traceLines text stepsOk runFileAnswer fitting runFileText runFileOutput printed wellFormed kindAnswer ruledAnswer stepAnswer performed answered step ruledStep quiescent stepsBy wordOn receivedOn taskIn taskStored withTask entryAt channelAt withCell parentAt withParent woken digits fields stepLine overLine overLines endLine stepLines refusedLine channelEntriesOk channelsOk plain verdict lowest dependsOn stuckAt stuckList verdictLine stuckLine finishLines
+unfolding sameBytes every everyPair any count tableBefore table fold member inserted removed removedAll setOf layoutOk filePrograms fileAnswer startAnswer layout planRead writeAnswer writeOutput startNumber programs canonical sizesOk operandOk instructionsOk finishOk finishesOk createsOk structureAnswer planAnswer users levelOf withLevel setWord addWord terminatedRule takenOver arrival callRule dataRule newer larger firstNoted gotTerminated gotMigration opened delivered deliverAnswer completed siteAt withOutcome forCells forChannels syncRule finishRule moved moveAnswer messages messageAt enqueued enqueuedAll dequeued messagesOf offerRule advertRule nextIn lastIn isOn sendNumber receivePasses receiveWaits receiveRule ranCreate ranFinish ranSend ranReceive executed ran fits runAnswer sameBool linesHold startOn historyHolds sendPasses sendWaits sendRule tablesOk messageOk networkOk unbornOk bornOk taskOk originOk parentsOk readyOk chosenOk systemOk birth blank started fileSteps startOf traceLines text stepsOk runFileAnswer fitting runFileText runFileOutput printed wellFormed kindAnswer ruledAnswer stepAnswer performed answered step ruledStep quiescent stepsBy wordOn receivedOn taskIn readyThen readySets taskStored withTask entryAt channelAt withCell parentAt withParent woken digits fields stepLine overLine overLines endLine stepLines refusedLine channelEntriesOk channelsOk plain addressee earliest firstFrom nextReady deliveryTurn choice runTurn ruledDispatch dispatched stepOf reportOf panelSteps answering panel tabletOf driverOf size verdict lowest dependsOn stuckAt stuckList verdictLine stuckLine finishLines
 evaluated = tt

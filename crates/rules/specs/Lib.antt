@@ -1,8 +1,5 @@
 -- What the paper says of the rig: first what it is made of and how it is read and changed, then start, run, deliver, move, refusal 9, steps,
--- trace and step file, what is sent and the logs.
--- the dispatcher, trace and step file.
--- the dispatcher, the panel, views of a task, trace and step file.
--- trace and step file; and whether a plan finishes.
+-- the dispatcher, the panel, views of a task, trace and step file; whether a plan finishes; what is sent, and the logs.
 pub mod Numbers
 pub mod Answers
 pub mod Hints

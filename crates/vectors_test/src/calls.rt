@@ -1,63 +1,18 @@
 // Ordinary steps and calls of dispatchers compared: what each event gives, and the rig at the end.
-use dispatch::dispatch;
+ghost use Prim.Native.Nat.{_≤_};
+use crate::seen::Seen;
+use crate::seen::byte;
+use crate::seen::long;
+use crate::seen::made;
+use crate::seen::word;
 use plan::PlanAnswer;
 use plan::ProcessorId;
 use plan_file::fields::byte_at;
 use plan_file::fields::word_at;
 use rules::dispatch::Turn;
-use rules::rule::Received;
-use rules::step::Report;
 use rules::step::Step;
 use rules::system::System;
 use std::num::wrapping_add_usize;
-
-// Where the next expected byte is, and whether all before it agree.
-pub struct Seen {
-    pub at: usize,
-    pub ok: bool,
-}
-
-// The next byte is b.
-fn byte(expected: &[u8], s: Seen, b: u8) -> Seen {
-    let found = byte_at(expected, s.at);
-    Seen {
-        at: wrapping_add_usize(s.at, 1),
-        ok: base::both(s.ok, found == b),
-    }
-}
-
-// The next two bytes are n, the lower first.
-fn word(expected: &[u8], s: Seen, n: u16) -> Seen {
-    let low = byte(expected, s, (n % 256) as u8);
-    byte(expected, low, (n / 256) as u8)
-}
-
-// The channel of a received word, or 0, and its four levels, or zeros.
-fn received(expected: &[u8], s: Seen, x: Received) -> Seen {
-    match x {
-        Received::Nothing => {
-            let a = word(expected, byte(expected, s, 0), 0);
-            let b = word(expected, a, 0);
-            word(expected, word(expected, b, 0), 0)
-        }
-        Received::Word(c, w) => {
-            let a = word(expected, byte(expected, s, c.0), w.0);
-            let b = word(expected, a, w.1);
-            word(expected, word(expected, b, w.2), w.3)
-        }
-    }
-}
-
-// A step and its report.
-fn made(expected: &[u8], s: Seen, x: Step, r: Report) -> Seen {
-    let kind = byte(expected, s, x.kind);
-    let task = byte(expected, kind, x.task);
-    let number = word(expected, task, x.number);
-    let answer = r.answer;
-    let answered = byte(expected, number, trace::answer_number(answer));
-    let found = r.received;
-    received(expected, answered, found)
-}
 
 // The step of a turn, if it has one.
 fn turned(expected: &[u8], s: Seen, t: Turn) -> Seen {
@@ -68,11 +23,20 @@ fn turned(expected: &[u8], s: Seen, t: Turn) -> Seen {
 }
 
 // How many steps a turn has.
-fn steps_of(t: Turn) -> u8 {
+fn steps_of(t: Turn) -> u8
+    ensures { λ r. ⌜ r ≤ 1 ⌝ }
+{
     match t {
         Turn::Skipped => 0,
         Turn::Made(_, _) => 1,
     }
+}
+
+// How many steps two turns have.
+fn steps_of_both(a: Turn, b: Turn) -> u8 {
+    let first = steps_of(a);
+    let second = steps_of(b);
+    first + second
 }
 
 // What was seen so far, and the rig then.
@@ -81,17 +45,24 @@ pub struct Played {
     pub system: System,
 }
 
-// A call at a desk. A number above 255 names no desk of a rig, and neither does 255.
+// The desk with a number. A number above 255 names no desk of a rig, and neither does 255.
+fn desk(number: u16) -> ProcessorId {
+    if number < 255 {
+        return ProcessorId(number as u8);
+    }
+    ProcessorId(255)
+}
+
+// A call at a desk.
 fn call(expected: &[u8], p: Played, number: u16) -> Played {
-    let d = if number < 255 { number as u8 } else { 255 };
     let r = p.system;
-    let q = dispatch(r, ProcessorId(d));
+    let q = dispatch::dispatch(r, desk(number));
     let answer = q.answer;
     let delivery = q.delivery;
     let run = q.run;
     let seen = p.seen;
     let answered = byte(expected, seen, trace::answer_number(answer));
-    let counted = byte(expected, answered, steps_of(delivery) + steps_of(run));
+    let counted = byte(expected, answered, steps_of_both(delivery, run));
     let first = turned(expected, counted, delivery);
     let both = turned(expected, first, run);
     let after = q.system;
@@ -136,50 +107,62 @@ fn one_if(b: bool) -> u8 {
     if b { 1 } else { 0 }
 }
 
-// The next eight bytes are n, the lowest first.
-fn long(expected: &[u8], s: Seen, n: u64) -> Seen {
-    let a = word(expected, s, (n % 65536) as u16);
-    let b = word(expected, a, (n / 65536 % 65536) as u16);
-    let c = word(expected, b, (n / 4294967296 % 65536) as u16);
-    word(expected, c, (n / 281474976710656) as u16)
+// The last choices of the six desks.
+fn choices(expected: &[u8], seen: Seen, chosen: [u8; 6]) -> Seen {
+    let mut s = seen;
+    let mut k: usize = 0;
+    while k < 6 {
+        let t = chosen[k];
+        s = byte(expected, s, t);
+        k += 1;
+    }
+    s
+}
+
+// The sets of ready tasks of the six desks.
+fn sets(expected: &[u8], seen: Seen, ready: [u64; 6]) -> Seen {
+    let mut s = seen;
+    let mut k: usize = 0;
+    while k < 6 {
+        let h = ready[k];
+        s = long(expected, s, h);
+        k += 1;
+    }
+    s
 }
 
 // Rest, the letters, the last choices and the sets of ready tasks; and nothing behind them.
 fn last(expected: &[u8], p: Played) -> bool {
     let r = p.system;
     let network = r.network;
+    let letters = (network.used % 65536) as u16;
     let chosen = r.chosen;
     let tasks = r.tasks;
-    let mut s = p.seen;
-    s = byte(expected, s, one_if(dispatch::rest::rests(r)));
-    s = word(expected, s, (network.used % 65536) as u16);
-    let mut k: usize = 0;
-    while k < 6 {
-        s = byte(expected, s, chosen[k]);
-        k += 1;
-    }
-    let mut d: usize = 0;
-    while d < 6 {
-        s = long(expected, s, tasks.ready[d]);
-        d += 1;
-    }
+    let ready = tasks.ready;
+    let seen = p.seen;
+    let rested = byte(expected, seen, one_if(dispatch::rest::rests(r)));
+    let posted = word(expected, rested, letters);
+    let s = sets(expected, choices(expected, posted, chosen), ready);
     base::both(s.ok, s.at == expected.len())
 }
 
+// The events one by one, of four bytes each.
 fn replay<'a>(r: System, events: &'a [u8], expected: &'a [u8]) -> bool {
+    let end = events.len();
     let seen = Seen { at: 0, ok: true };
     let mut p = Played {
         seen: seen,
         system: r,
     };
     let mut at: usize = 0;
-    let end = events.len();
     while at < end {
-        p = event(events, expected, p, at);
-        if end - at < 4 {
+        let left = end - at;
+        if left < 4 {
             return false;
         }
+        let here = at;
         at += 4;
+        p = event(events, expected, p, here);
     }
     last(expected, p)
 }

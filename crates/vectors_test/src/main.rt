@@ -9,6 +9,8 @@ mod plans;
 mod record;
 // A run: its answer and every byte of the output.
 mod runs;
+// The expected bytes of steps and calls.
+mod seen;
 
 ghost use Rattle.io.specs.Counts.{Counts};
 use libc::STDOUT_FILENO;

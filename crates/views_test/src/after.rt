@@ -17,15 +17,17 @@ fn after_one(r: System, steps: &[u8], at: usize) -> System {
 
 // The rig after all of them.
 pub fn after(r: System, steps: &[u8]) -> System {
+    let end = steps.len();
     let mut q = r;
     let mut at: usize = 0;
-    let end = steps.len();
     while at < end {
-        q = after_one(q, steps, at);
-        if end - at < 4 {
+        let left = end - at;
+        if left < 4 {
             return q;
         }
+        let here = at;
         at += 4;
+        q = after_one(q, steps, here);
     }
     q
 }

@@ -12,7 +12,6 @@ use libc::STDOUT_FILENO;
 use plan::PlanAnswer;
 use plan::TaskId;
 use plan_file::fields::byte_at;
-use plan_file::fields::rest_at;
 use rules::system::System;
 use std::num::wrapping_add_u64;
 
@@ -49,28 +48,32 @@ impl Tally {
 
 // The number behind the last task.
 fn above(tasks: u8) -> TaskId {
-    if tasks < 255 { TaskId(tasks + 1) } else { TaskId(255) }
+    if tasks < 255 {
+        return TaskId(tasks + 1);
+    }
+    TaskId(255)
 }
 
 // Both views of every task of a rig.
 fn compare_views(r: System, expected: &[u8]) -> Compared {
     let p = r.plan;
-    let count = base::wide8(p.tasks);
+    let count = p.tasks;
     let mut tablets = true;
     let mut drivers = true;
-    let mut k: usize = 0;
+    let mut k: u8 = 0;
     while k < count {
-        let bytes = rest_at(expected, 20 * k);
-        let t = TaskId((k + 1) as u8);
-        tablets = base::both(tablets, shown::tablet_shows(r, t, bytes));
-        drivers = base::both(drivers, shown::driver_shows(r, t, bytes));
+        let at = 20 * base::wide8(k);
         k += 1;
+        let s = shown::shows(r, TaskId(k), expected, at);
+        tablets = base::both(tablets, s.tablet);
+        drivers = base::both(drivers, s.driver);
     }
     let none = shown::refused_by_ten(r, TaskId(0));
+    let more = shown::refused_by_ten(r, above(count));
     Compared {
         tablets: tablets,
         drivers: drivers,
-        refused: base::both(none, shown::refused_by_ten(r, above(p.tasks))),
+        refused: base::both(none, more),
     }
 }
 
@@ -88,7 +91,8 @@ fn compare<'a>(processors: u8, file: &'a [u8], steps: &'a [u8], expected: &'a [u
     };
     let e = plan_index::ends::derive(plan);
     let r = rig::start::start(processors, plan, e);
-    compare_views(after::after(r, steps), expected)
+    let q = after::after(r, steps);
+    compare_views(q, expected)
 }
 
 // Every whole record of the file.

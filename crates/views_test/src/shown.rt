@@ -1,5 +1,6 @@
 // What a view shows, as the bytes of a record.
 use plan::TaskId;
+use plan_file::fields::rest_at;
 use rules::system::System;
 use rules::task::TaskState;
 use rules::view::DriverAnswer;
@@ -35,10 +36,11 @@ fn tablet_bytes(v: TabletView) -> [u8; 4] {
 
 // A number of 16 bits at a place of the driver's bytes, the lower byte first.
 fn with_word(mut b: [u8; 20], at: usize, n: u16) -> [u8; 20] {
-    if at < 19 {
-        b[at] = (n % 256) as u8;
-        b[at + 1] = (n / 256) as u8;
+    if 18 < at {
+        return b;
     }
+    b[at] = (n % 256) as u8;
+    b[at + 1] = (n / 256) as u8;
     b
 }
 
@@ -63,33 +65,53 @@ fn driver_bytes(v: DriverView) -> [u8; 20] {
     with_word(b, 18, (c / 281474976710656) as u16)
 }
 
+// The bytes begin with these.
+fn begins(bytes: &[u8], first: &[u8]) -> bool {
+    let n = first.len();
+    if bytes.len() < n {
+        return false;
+    }
+    check::same(&bytes[..n], first)
+}
+
 // The bytes begin with those that a tablet shows of task t.
-pub fn tablet_shows(r: System, t: TaskId, expected: &[u8]) -> bool {
+fn tablet_shows(r: System, t: TaskId, bytes: &[u8]) -> bool {
     let a = views::tablet(r, t);
     let TabletAnswer::Shown(v) = a else {
         return false;
     };
-    if expected.len() < 4 {
-        return false;
-    }
     let b = tablet_bytes(v);
-    check::same(&expected[..4], &b)
+    begins(bytes, &b)
 }
 
 // The bytes begin with those that the driver shows of it, and it counts the children.
-pub fn driver_shows(r: System, t: TaskId, expected: &[u8]) -> bool {
+fn driver_shows(r: System, t: TaskId, bytes: &[u8]) -> bool {
     let a = views::driver(r, t);
     let DriverAnswer::Shown(v) = a else {
         return false;
     };
-    if expected.len() < 20 {
-        return false;
-    }
     let b = driver_bytes(v);
     base::both(
-        check::same(&expected[..20], &b),
+        begins(bytes, &b),
         v.living == u64::count_ones(v.children),
     )
+}
+
+// Whether either view shows what is expected.
+pub struct Shown {
+    pub tablet: bool,
+    pub driver: bool,
+}
+
+// Both views of task t, whose bytes begin at a place.
+pub fn shows(r: System, t: TaskId, expected: &[u8], at: usize) -> Shown {
+    let bytes = rest_at(expected, at);
+    let tablet = tablet_shows(r, t, bytes);
+    let driver = driver_shows(r, t, bytes);
+    Shown {
+        tablet: tablet,
+        driver: driver,
+    }
 }
 
 // Both views of task t are refused by 10.

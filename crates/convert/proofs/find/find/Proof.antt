@@ -120,9 +120,9 @@ loop-again c =
       o .loop .inv .2,
       omega (arith, o .loop .inv .3, count w, place-row (a .lengths .now) (k w)),
       found-more m (k w) (o .loop .inv .4) marks
-      (c .before .before .before .both2 .ensures ∙ rw (c .before .before .before .before .both .ensures) refl)
-      (c .before .before .both3 .ensures)
-      (c .both4 .ensures),
+          (c .before .before .before .both2 .ensures ∙ rw (c .before .before .before .before .both .ensures) refl)
+          (c .before .before .both3 .ensures)
+          (c .both4 .ensures),
     )
 
 returns : tie.Need-returns Inv-loop μ-loop

@@ -1,0 +1,32 @@
+-- `mortarsedge_convert`.
+use mathlib.Core.Path.{_∙_, ap}
+use borrow.Author.Needs.{needs}
+use Rattle.claim.proofs.Repeats.{repeats-written}
+use Rattle.driver.specs.Converts.{writePacked, convertOutcome}
+use Rattle.driver.proofs.Conversions.{written-few}
+use Rattle.driver.proofs.conversion.mortarsedge_convert.Statement.{statement}
+use Rattle.driver.proofs.conversion.mortarsedge_convert.Tie as tie
+
+convert-requires : tie.Need-convert-requires
+convert-requires c κs = search needs
+
+write-packed-requires : tie.Need-write-packed-requires
+write-packed-requires c κs = written-few _ _ _ (c .before .before .convert .ensures .answer)
+
+same-length : tie.Need-same-length
+same-length c = search needs
+
+returns : tie.Need-returns
+unfolding convertOutcome
+returns c =
+    let r = c .before .before .before .convert .ensures in
+    record {
+      result = c .write-packed .ensures ∙ ap writePacked (r .answer);
+      bytes = r .bytes;
+      accepted = λ n e. r .accepted n (r .answer ∙ e);
+      same = λ h. repeats-written _ h;
+    }
+
+pub mortarsedge-convert-spec : {M : Type 1} → statement M
+mortarsedge-convert-spec =
+    tie.close (tie.spec convert-requires write-packed-requires same-length returns)

@@ -1,0 +1,2 @@
+-- The laws of the counts of a list of steps.
+pub mod Tallies

@@ -1,0 +1,2 @@
+-- What the laws of a panel are stated with.
+pub mod Tallies
