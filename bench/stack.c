@@ -34,9 +34,12 @@ static void call_run(void)
     mortarsedge_run(desks, plan, plan_length, steps, steps_length, out, sizeof out);
 }
 
-static void call_convert(void)
+static void call_logs(void)
 {
-    mortarsedge_convert(plan, plan_length, out, sizeof out);
+    static uint8_t log[MORTARSEDGE_MAX_LOG];
+    for (size_t at = 0; at < sizeof log; at += MORTARSEDGE_LOG_RECORD)
+        log[at] = (uint8_t)(1 + at / MORTARSEDGE_LOG_RECORD % 128);
+    mortarsedge_logs(log, sizeof log, log, sizeof log);
 }
 
 /* Bytes of stack that a call changes, its own frame and the switch with it. */
@@ -55,11 +58,6 @@ static size_t depth(void (*call)(void))
     return stack.size - untouched;
 }
 
-/* The deepest of each call so far. */
-struct depths {
-    size_t check, run, convert;
-};
-
 static void deepen(size_t *deepest, void (*call)(void))
 {
     size_t d = depth(call);
@@ -67,14 +65,7 @@ static void deepen(size_t *deepest, void (*call)(void))
         *deepest = d;
 }
 
-static void deepen_all(struct depths *d)
-{
-    deepen(&d->check, call_plan_check);
-    deepen(&d->run, call_run);
-    deepen(&d->convert, call_convert);
-}
-
-static void over_generated(uint64_t seed, uint64_t count, struct depths *d)
+static void over_generated(uint64_t seed, uint64_t count, size_t *check, size_t *run)
 {
     static struct generated g;
     for (uint64_t i = 0; i < count; i++) {
@@ -82,18 +73,20 @@ static void over_generated(uint64_t seed, uint64_t count, struct depths *d)
         desks = g.desks;
         plan = g.plan, plan_length = g.plan_length;
         steps = g.steps, steps_length = g.steps_length;
-        deepen_all(d);
+        deepen(check, call_plan_check);
+        deepen(run, call_run);
     }
 }
 
-static void over_cases(struct depths *d)
+static void over_cases(size_t *check, size_t *run)
 {
     const struct bench_case *c;
     for (unsigned i = 0; (c = case_at(i)) != NULL; i++) {
         desks = c->desks;
         plan = c->plan, plan_length = c->plan_length;
         steps = c->steps, steps_length = c->steps_length;
-        deepen_all(d);
+        deepen(check, call_plan_check);
+        deepen(run, call_run);
     }
 }
 
@@ -105,16 +98,17 @@ static int within(const char *name, size_t measured, size_t promised)
 
 int main(int argc, char **argv)
 {
-    struct depths d = {0, 0, 0};
+    size_t check = 0, run = 0, logs = 0;
     if (argc != 3) {
         fprintf(stderr, "usage: stack SEED COUNT\n");
         return 2;
     }
     stack = guarded_new(STACK);
-    over_generated(strtoull(argv[1], NULL, 10), strtoull(argv[2], NULL, 10), &d);
-    over_cases(&d);
-    int holds = within("plan check", d.check, MORTARSEDGE_PLAN_CHECK_STACK);
-    holds &= within("run", d.run, MORTARSEDGE_RUN_STACK);
-    holds &= within("convert", d.convert, MORTARSEDGE_CONVERT_STACK);
+    over_generated(strtoull(argv[1], NULL, 10), strtoull(argv[2], NULL, 10), &check, &run);
+    over_cases(&check, &run);
+    deepen(&logs, call_logs);
+    int holds = within("plan check", check, MORTARSEDGE_PLAN_CHECK_STACK);
+    holds &= within("run", run, MORTARSEDGE_RUN_STACK);
+    holds &= within("logs", logs, MORTARSEDGE_LOGS_STACK);
     return holds ? 0 : 1;
 }
