@@ -1,4 +1,3 @@
-// A cell with another held offer.
 // A cell with one field changed.
 ghost use mathlib.Core.Path.{_≡_};
 ghost use Rattle.rules.specs.Cells.{withHeld, withHint, withNoted, withCarried};

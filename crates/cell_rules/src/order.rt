@@ -1,5 +1,4 @@
-// Which of two offers or adverts is kept.
-// Which of two pointers is kept, and whether one leads on; what stands for none.
+// Which of two offers, adverts or pointers is kept, and whether a pointer leads on; what stands for none.
 ghost use mathlib.Core.Path.{_≡_};
 ghost use Rattle.rules.specs.Cells.{larger, firstNoted, unknown, noOffer, newer};
 ghost use Rattle.rules.specs.Hints.{pointsOn};

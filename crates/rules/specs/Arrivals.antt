@@ -46,8 +46,7 @@ arrivalReceiving d n x = takenOver (located d n x)
 abbrev pub arrivalSending : Cell → Cell
 arrivalSending x = withTravelling (withHint x (newer (x .entry .hint) (x .channel .travelling))) unknown
 
--- "Each desk keeps a pointer for every parent, set at .. arrival"; "when the parent arrives there, all of them leave its set": what d keeps for an
--- arriving task with count n
+-- what d keeps for an arriving task with count n: the pointer of `Starts`, and none of the children held for it, which leave its set (`Tasks`)
 abbrev pub arrivalParent : ProcessorId → ℕ → ParentEntry
 arrivalParent d n = record { hint = hint d n; held = 0 }
 

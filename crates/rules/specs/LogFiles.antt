@@ -15,7 +15,7 @@ use Rattle.rules.specs.declared.log.LogsAnswer.the-variants.{Yes, No, Ba
 use Rattle.rules.specs.Numbers.{channelId}
 use Rattle.rules.specs.Trace.{fields, refusedLine}
 
--- "for each word a channel and the word, 16 bits each, little-endian", "the log record (now 10 bytes ..)": of the record after the first k
+-- the channel and the word of the record after the first k, as `logRecord` writes them
 abbrev pub recordChannel : List ℕ → ℕ → ℕ
 recordChannel b k = word16 b (10 * k)
 

@@ -1,5 +1,5 @@
--- "Each end of a rig keeps a file: for each word a channel and the word .. logged when the word leaves and when it is received.": when a word
--- leaves, the words sent by a list of steps, and the two logs of a run.
+-- "Each end of a rig keeps a file .. logged when the word leaves and when it is received.": when a word leaves, the words sent by a list of
+-- steps, and the two logs of a run.
 use mathlib.Core.List.{List, [], _∷_, _++_, map}
 use Prim.Native.Nat.{ℕ}
 use Rattle.base.specs.Choice.{unless}

@@ -27,8 +27,7 @@ abbrev pub departureSending : Cell → Cell
 departureSending x = withTravelling x (x .entry .hint)
 
 -- "Its count goes up by one; d's pointers for its receiving channels become (e, new count); carried offers stay with their channels; d's
--- pointers for its sending channels are copied ..; one mover letter leaves."; "Each desk keeps a pointer for every parent, set at .. departure as
--- for receivers"
+-- pointers for its sending channels are copied ..; one mover letter leaves."; the pointer for parents is set as `Starts` says
 unfoldable pub moved : System → TaskId → ProcessorId → Effect
 moved r t e =
     let x = taskAt r t in

@@ -165,7 +165,7 @@ cellAt r d c = record { entry = entryAt r d c; channel = channelAt r c }
 unfoldable pub withCell : System → ProcessorId → ChannelId → Cell → System
 withCell r d c x = withStore r (cellStored (storeIn r) d c x)
 
--- "Each desk keeps a pointer for every parent": where the entry of desk d and task t is, both from 1
+-- where the entry of desk d for the parent t is, both from 1
 abbrev pub parentIndex : ProcessorId → TaskId → ℕ
 parentIndex d t = 64 * (d .0 - 1) + (t .0 - 1)
 

@@ -37,8 +37,8 @@ pub struct Store {
     pub channels: Channels,
 }
 
-// "Each desk keeps a pointer for every parent", and children "held for one parent": six desks by 64 tasks, 384 entries each. The
-// entry of desk d and task t is at 64 (d - 1) + (t - 1).
+// What each desk keeps for each parent: six desks by 64 tasks, 384 entries each. The entry of desk d and task t is at
+// 64 (d - 1) + (t - 1).
 pub struct Parents {
     // pointers: desk and count
     pub hintprocessors: [u8; 384],
