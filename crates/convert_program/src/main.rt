@@ -65,6 +65,6 @@ fn main() {
     let mut repeats = io::large_buffer();
     let mut out = io::large_buffer();
     let size = load(b"rig.repeats", &mut repeats);
-    let answer = driver::conversion::mortarsedge_convert(&repeats[..size], &mut out);
+    let answer = planner::conversion::mortarsedge_convert(&repeats[..size], &mut out);
     say(answer, &repeats, &out);
 }

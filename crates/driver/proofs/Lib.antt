@@ -1,6 +1,4 @@
--- What the exported functions leave, and their numbers.
+-- What the exported run leaves, and its numbers.
 pub mod Traced
 pub mod Numbers
 pub mod Room
-pub mod Finished
-pub mod Conversions

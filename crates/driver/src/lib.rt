@@ -2,10 +2,6 @@
 
 // The check of two logs.
 pub mod log_files;
-// Whether a plan finishes.
-pub mod finish_check;
-// A plan with repeats converted.
-pub mod conversion;
 
 ghost use mathlib.Core.Path.{_≡_};
 ghost use Prim.Native.Nat.{_≤_};
@@ -29,7 +25,7 @@ pub extern "C" fn mortarsedge_plan_check(processors: u32, plan: &[u8]) -> u32
 }
 
 // The number of a run's answer.
-fn run_number(a: RunAnswer) -> u32
+pub fn run_number(a: RunAnswer) -> u32
     ensures { λ r. ⌜ (r ≡ runNumber a) × (r ≤ 23) ⌝ }
 {
     match a {
@@ -41,7 +37,7 @@ fn run_number(a: RunAnswer) -> u32
 }
 
 // Both numbers in one.
-fn packed(number: u32, filled: usize) -> u64
+pub fn packed(number: u32, filled: usize) -> u64
     requires { ⌜ (number ≤ 23) × (filled ≤ enough) ⌝ }
     ensures { λ r. ⌜ r ≡ packed number filled ⌝ }
 {

@@ -2,10 +2,10 @@
 use mathlib.Core.Path.{_∙_, ap}
 use borrow.Author.Needs.{needs}
 use Rattle.claim.proofs.Repeats.{repeats-written}
-use Rattle.driver.specs.Converts.{writePacked, convertOutcome}
-use Rattle.driver.proofs.Conversions.{written-few}
-use Rattle.driver.proofs.conversion.mortarsedge_convert.Statement.{statement}
-use Rattle.driver.proofs.conversion.mortarsedge_convert.Tie as tie
+use Rattle.planner.specs.Converts.{writePacked, convertOutcome}
+use Rattle.planner.proofs.Conversions.{written-few}
+use Rattle.planner.proofs.conversion.mortarsedge_convert.Statement.{statement}
+use Rattle.planner.proofs.conversion.mortarsedge_convert.Tie as tie
 
 convert-requires : tie.Need-convert-requires
 convert-requires c κs = search needs

@@ -3,8 +3,8 @@ use mathlib.Core.Path.{ap}
 use native.Mathlib.Omega.{arith}
 use borrow.Author.Needs.{needs}
 use Rattle.plan.specs.Answers.{writeSize}
-use Rattle.driver.proofs.conversion.write_packed.Statement.{statement}
-use Rattle.driver.proofs.conversion.write_packed.Tie as tie
+use Rattle.planner.proofs.conversion.write_packed.Statement.{statement}
+use Rattle.planner.proofs.conversion.write_packed.Tie as tie
 
 enum-known-a : tie.Need-enum-known-a
 enum-known-a c = search needs

@@ -8,7 +8,7 @@ use Rattle.plan.specs.declared.WriteAnswer.the-variants.{Written, Unwritten}
 use Rattle.plan.specs.Answers.{writeSize}
 use Rattle.plan.specs.Conversions.{convertAnswer}
 use Rattle.repeat_laws.proofs.Converted.{converted-few}
-use Rattle.driver.specs.Converts.{longestPlan}
+use Rattle.planner.specs.Converts.{longestPlan}
 
 pub written-few : (b out : List ℕ) (a : WriteAnswer) → a ≡ convertAnswer b out → writeSize a ≤ longestPlan
 written-few b out (Written n) e = omega (arith, converted-few b out n (sym e))

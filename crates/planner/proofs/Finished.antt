@@ -18,8 +18,8 @@ use Rattle.run.proofs.file.Outcomes.{plan-ok}
 use Rattle.trace.proofs.Bound.{fitting-short}
 use Rattle.finish.specs.Files.{longestAnswer, FinishFile, planOf, linesAfter}
 use Rattle.finish.proofs.Length.{lines-short}
 use Rattle.driver.specs.Runs.{packed, enough}
-use Rattle.driver.specs.Finish.{FinishMeets}
+use Rattle.planner.specs.Finish.{FinishMeets}
 
 -- the number of what is said
 said-number : (b : Bool) → runNumber (pick b Traced OutputShort) ≡ pick b 0 20

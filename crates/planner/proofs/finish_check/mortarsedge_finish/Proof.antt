@@ -1,11 +1,11 @@
 -- `mortarsedge_finish`.
 use mathlib.Core.Path.{_∙_, ap}
 use Rattle.driver.specs.Runs.{packed}
-use Rattle.driver.proofs.Finished.{filled-few, finish-meets}
+use Rattle.planner.proofs.Finished.{filled-few, finish-meets}
 use Prim.Native.Nat.{ℕ}
 use borrow.Author.Needs.{needs}
-use Rattle.driver.proofs.finish_check.mortarsedge_finish.Statement.{statement}
-use Rattle.driver.proofs.finish_check.mortarsedge_finish.Tie as tie
+use Rattle.planner.proofs.finish_check.mortarsedge_finish.Statement.{statement}
+use Rattle.planner.proofs.finish_check.mortarsedge_finish.Tie as tie
 
 finish-file-requires : tie.Need-finish-file-requires
 finish-file-requires c κs = search needs

@@ -1,8 +1,8 @@
-// A plan with repeats converted, as the C driver calls it.
+// A plan with repeats converted, as a C program calls it.
 ghost use mathlib.Core.Path.{_≡_};
 ghost use Prim.Native.Nat.{_≤_};
 ghost use Rattle.plan.specs.Answers.{writeSize};
-ghost use Rattle.driver.specs.Converts.{longestPlan, writePacked, ConvertMeets};
+ghost use Rattle.planner.specs.Converts.{longestPlan, writePacked, ConvertMeets};
 use convert::convert;
 use plan::WriteAnswer;
 

@@ -1,7 +1,7 @@
-// The finish check, for the C driver.
-ghost use Rattle.driver.specs.Finish.{FinishMeets};
-use super::packed;
-use super::run_number;
+// The finish check, as a C program calls it.
+ghost use Rattle.planner.specs.Finish.{FinishMeets};
+use driver::packed;
+use driver::run_number;
 use finish::file::finish_file;
 
 // Finish: whether a plan file runs to its end, and what is stuck if it does not, as text into the lent output. The number of the

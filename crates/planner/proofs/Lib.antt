@@ -1,0 +1,3 @@
+-- What the exported functions leave, as numbers.
+pub mod Finished
+pub mod Conversions

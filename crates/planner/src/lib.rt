@@ -1,0 +1,7 @@
+// What a C program calls before a show: whether a plan finishes, and a plan with repeats converted. It is a crate beside `driver`, so that
+// the compiler makes each archive's functions for its own callers alone.
+
+// Whether a plan finishes.
+pub mod finish_check;
+// A plan with repeats converted.
+pub mod conversion;
