@@ -22,7 +22,8 @@ DRIVER = driver/driver.c driver/file.c driver/logs.c
 SIMULATOR = bench/simulator.c bench/sim_plan.c bench/sim_start.c bench/sim_step.c bench/sim_call.c \
     bench/sim_run.c bench/sim_deliver.c bench/sim_move.c
 GENERATOR = bench/generate.c bench/damage.c bench/make_plan.c bench/make_steps.c bench/draft.c
-BENCHMARK = bench/benchmark.c bench/sim_logs.c bench/cases.c bench/make_plan.c bench/make_steps.c bench/draft.c
+BENCHMARK = bench/benchmark.c bench/timing.c bench/tool_times.c bench/sim_logs.c bench/sim_convert.c bench/cases.c \
+    bench/make_plan.c bench/make_steps.c bench/draft.c
 CONVERTER = bench/converter.c bench/guarded.c bench/sim_convert.c
 REPEATS = bench/repeats.c bench/make_repeats.c bench/rounds.c bench/damage.c bench/make_plan.c bench/draft.c
 COMPARISON = bench/differential.c bench/tally.c bench/guarded.c
@@ -67,11 +68,11 @@ build/calls: bench/calls.c $(SIMULATOR) $(BENCH_HEADERS) | build
 build/finish_vectors: bench/finish_vectors.c bench/sim_finish.c $(SIMULATOR) $(BENCH_HEADERS) | build
 	$(CCALL) -o $@ bench/finish_vectors.c bench/sim_finish.c $(SIMULATOR)
 
-build/repeats_vectors: bench/repeats_vectors.c $(CONVERTER) $(SIMULATOR) $(BENCH_HEADERS) | build
-	$(CCALL) -o $@ bench/repeats_vectors.c $(CONVERTER) $(SIMULATOR)
+build/repeats_vectors: bench/repeats_vectors.c $(CONVERTER) $(SIMULATOR) $(BENCH_HEADERS) $(ARCHIVE) | build
+	$(CCALL) -DHELD=mortarsedge_convert -o $@ bench/repeats_vectors.c $(CONVERTER) $(SIMULATOR) $(ARCHIVE)
 
-build/repeats: $(REPEATS) $(CONVERTER) $(SIMULATOR) $(BENCH_HEADERS) | build
-	$(CCALL) -o $@ $(REPEATS) $(CONVERTER) $(SIMULATOR)
+build/repeats: $(REPEATS) $(CONVERTER) $(SIMULATOR) $(BENCH_HEADERS) $(ARCHIVE) | build
+	$(CCALL) -DHELD=mortarsedge_convert -o $@ $(REPEATS) $(CONVERTER) $(SIMULATOR) $(ARCHIVE)
 
 build/old_plans: bench/old_plans.c $(HEADER) $(ARCHIVE) | build
 	$(CCALL) -o $@ bench/old_plans.c $(ARCHIVE)
@@ -90,7 +91,8 @@ build/stack: $(STACK) $(GENERATOR) $(SIMULATOR) $(BENCH_HEADERS) $(ARCHIVE) | bu
 
 HEADER_TESTS = build/header_c99 build/header_c11 build/header_cxx11
 
-ctest: build/driver $(HEADER_TESTS) build/vectors build/old_plans build/differential build/logs build/stack build/calls
+ctest: build/driver $(HEADER_TESTS) build/vectors build/old_plans build/differential build/logs build/stack build/calls \
+    build/repeats_vectors build/repeats
 	build/header_c99
 	build/header_c11
 	build/header_cxx11
@@ -101,6 +103,8 @@ ctest: build/driver $(HEADER_TESTS) build/vectors build/old_plans build/differen
 	build/old_plans bench/data/one_level.bin
 	build/differential $(SEED) $(COUNT)
 	build/logs crates/logs_test/data/logs.bin $(SEED) 2000
+	build/repeats_vectors crates/repeats_test/data/repeats.bin
+	build/repeats $(SEED) $(COUNT)
 	build/stack $(SEED) 1000
 
 sanitize: $(ARCHIVE) | build
@@ -118,6 +122,7 @@ mutants: $(ARCHIVE) | build
 bench: build/benchmark
 	build/benchmark 101
 	build/benchmark --logs
+	build/benchmark --convert
 
 instructions: build/benchmark
 	bench/instructions.sh build/benchmark

@@ -3,17 +3,17 @@
  * a counter of instructions (instructions.sh).
  * benchmark --growing: the library on files that grow by one step at a time.
  * benchmark --logs: the check of two logs of 4,096 records, and that in C.
+ * benchmark --convert: the conversion of the largest plans, and that in C.
  * benchmark --names: the cases. */
-#define _POSIX_C_SOURCE 200809L
 #include <stdio.h>
 #include <stdlib.h>
 #include <string.h>
-#include <time.h>
 
 #include "../include/mortarsedge.h"
 #include "cases.h"
-#include "sim_logs.h"
 #include "simulator.h"
+#include "timing.h"
+#include "tool_times.h"
 
 enum { MAX_SAMPLES = 201, SAMPLE_NS = 2000000, GROWING_SAMPLES = 21 };
 
@@ -37,36 +37,13 @@ static uint64_t call(const struct subject *s, const struct bench_case *c)
     return s->run(c->desks, c->plan, c->plan_length, c->steps, c->steps_length, out, sizeof out);
 }
 
-static double now(void)
-{
-    struct timespec t;
-    clock_gettime(CLOCK_MONOTONIC, &t);
-    return (double)t.tv_sec * 1e9 + (double)t.tv_nsec;
-}
-
 /* Nanoseconds a call, over so many calls. */
 static double sample(const struct subject *s, const struct bench_case *c, unsigned calls)
 {
-    double start = now();
+    double start = timing_now();
     for (unsigned i = 0; i < calls; i++)
         call(s, c);
-    return (now() - start) / calls;
-}
-
-static int ascending(const void *a, const void *b)
-{
-    double x = *(const double *)a, y = *(const double *)b;
-    return (x > y) - (x < y);
-}
-
-struct result {
-    double best, median;
-};
-
-static struct result summary(double *samples, unsigned count)
-{
-    qsort(samples, count, sizeof samples[0], ascending);
-    return (struct result){samples[0], samples[count / 2]};
+    return (timing_now() - start) / calls;
 }
 
 /* Both by turns, so that both meet the same machine. */
@@ -80,7 +57,7 @@ static void measure(const struct bench_case *c, unsigned count, struct result re
         for (int s = 0; s < 2; s++)
             samples[s][i] = sample(&subjects[s], c, calls[s]);
     for (int s = 0; s < 2; s++)
-        results[s] = summary(samples[s], count);
+        results[s] = timing_summary(samples[s], count);
 }
 
 /* Both do the same, and what they are asked is accepted. */
@@ -159,10 +136,10 @@ static int one(const char *name, const char *who, const char *count)
 /* Nanoseconds for all beginnings of a case's steps, one run each. */
 static double grow(const struct bench_case *c)
 {
-    double start = now();
+    double start = timing_now();
     for (size_t length = 4; length <= c->steps_length; length += 4)
         mortarsedge_run(c->desks, c->plan, c->plan_length, c->steps, length, out, sizeof out);
-    return now() - start;
+    return timing_now() - start;
 }
 
 static int growing(void)
@@ -176,39 +153,8 @@ static int growing(void)
             continue;
         for (unsigned s = 0; s < GROWING_SAMPLES; s++)
             samples[s] = grow(c);
-        struct result r = summary(samples, GROWING_SAMPLES);
+        struct result r = timing_summary(samples, GROWING_SAMPLES);
         printf("%-15s %10.0f %10.0f %8.1f\n", c->name, r.best / 1000, r.median / 1000, r.best / 1000 / MORTARSEDGE_MAX_STEPS);
-    }
-    return 0;
-}
-
-/* Two full logs that agree: the record after the first k is on channel k times `step`, taken round. */
-static int logs(void)
-{
-    static uint8_t log[MORTARSEDGE_MAX_LOG];
-    static const uint32_t steps[2] = {1, 0};
-    static double samples[2][GROWING_SAMPLES];
-    uint64_t (*check[2])(const uint8_t *, size_t, const uint8_t *, size_t) = {mortarsedge_logs, sim_logs};
-    printf("nanoseconds for two logs of %d records, best and median of %d\n", MORTARSEDGE_MAX_LOG_RECORDS, GROWING_SAMPLES);
-    printf("%-15s %10s %10s %10s %10s\n", "", "library", "", "in C", "");
-    for (int i = 0; i < 2; i++) {
-        struct result r[2];
-        for (uint32_t k = 0; k < MORTARSEDGE_MAX_LOG_RECORDS; k++) {
-            uint16_t level[MORTARSEDGE_LEVELS] = {(uint16_t)k, 1, 2, (uint16_t)(65535 - k)};
-            mortarsedge_put_log_record(log + MORTARSEDGE_LOG_RECORD * k, (uint16_t)(1 + k * steps[i] % 128), level);
-        }
-        for (int s = 0; s < 2; s++)
-            for (unsigned n = 0; n < GROWING_SAMPLES; n++) {
-                double start = now();
-                for (int calls = 0; calls < 20; calls++)
-                    if (check[s](log, sizeof log, log, sizeof log) != 0)
-                        return 1;
-                samples[s][n] = (now() - start) / 20;
-            }
-        for (int s = 0; s < 2; s++)
-            r[s] = summary(samples[s], GROWING_SAMPLES);
-        printf("%-15s %10.0f %10.0f %10.0f %10.0f\n", steps[i] == 0 ? "one channel" : "128 channels", r[0].best, r[0].median,
-               r[1].best, r[1].median);
     }
     return 0;
 }
@@ -228,12 +174,15 @@ int main(int argc, char **argv)
     if (argc == 2 && strcmp(argv[1], "--growing") == 0)
         return growing();
     if (argc == 2 && strcmp(argv[1], "--logs") == 0)
-        return logs();
+        return logs_times();
+    if (argc == 2 && strcmp(argv[1], "--convert") == 0)
+        return convert_times();
     if (argc == 2 && strcmp(argv[1], "--names") == 0)
         return names();
     long samples = argc == 2 ? strtol(argv[1], NULL, 10) : 21;
     if (argc > 2 || samples < 1 || samples > MAX_SAMPLES) {
-        fprintf(stderr, "usage: benchmark [SAMPLES] | --growing | --logs | --names | --one CASE library|simulator COUNT\n");
+        fprintf(stderr, "usage: benchmark [SAMPLES] | --growing | --logs | --convert | --names"
+                        " | --one CASE library|simulator COUNT\n");
         return 2;
     }
     return compare((unsigned)samples);

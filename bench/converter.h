@@ -9,10 +9,7 @@
 /* File, length, output, length: sim_convert, or the library's. */
 typedef uint64_t converter(const uint8_t *, size_t, uint8_t *, size_t);
 
-/* The converter that is held to recorded files and compared with sim_convert. */
-#ifndef HELD
-#define HELD sim_convert
-#endif
+/* The converter that is held to recorded files and compared with sim_convert: -DHELD=name. */
 converter HELD;
 
 /* Whether a converter gives this answer for a file and an output of `room` bytes, writes these bytes

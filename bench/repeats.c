@@ -1,11 +1,10 @@
-/* repeats SEED COUNT [FIRST]: the converter of plans with repeats, over generated files.
+/* repeats SEED COUNT [FIRST]: a converter of plans with repeats, named by -DHELD=name, over generated files.
  *
- * An accepted file is run on one desk by the rule of repeats, nothing written out (rounds.c), and the
- * written plan in the simulator: words on each channel, and the tasks' words, marks and ends have to be
- * the same. Another converter, named by -DHELD=name, is compared with sim_convert: its answers and every
- * byte of outputs of several lengths. sim_convert itself is only held to its answers' promise there: the
- * bytes that are not written stay as they were. The first difference ends the
- * program with 1, and so does, of 20,000 files or more, an answer that was never reached. */
+ * It is compared with sim_convert: its answers and every byte of outputs of several lengths. An accepted
+ * file is run on one desk by the rule of repeats, nothing written out (rounds.c), and the written plan in
+ * the simulator: words on each channel, and the tasks' words, marks and ends have to be the same. The first
+ * difference ends the program with 1, and so does, of 20,000 files or more, an answer that was never
+ * reached. */
 #include <inttypes.h>
 #include <stdio.h>
 #include <stdlib.h>

@@ -1,4 +1,5 @@
-/* repeats_vectors FILE: holds the converter to recorded files of another model.
+/* repeats_vectors FILE: holds a converter, named by -DHELD=name, and sim_convert to recorded files of another
+ * model.
  *
  * A record: when it holds (1 byte), the lengths of the file and of the lent output (2 bytes each,
  * little-endian), the answer (1 byte), the length of what is written (2 bytes), the file, the written
@@ -7,6 +8,7 @@
 #include <stdlib.h>
 
 #include "converter.h"
+#include "sim_convert.h"
 #include "sim_plan.h"
 #include "simulator.h"
 
@@ -32,7 +34,8 @@ static bool holds(const struct record *r)
 {
     if (r->answer % 256 == 0 && sim_plan_check(1, r->written, r->filled) != 0)
         return false;
-    return converter_does(HELD, r->file, r->length, r->room, r->answer, r->written);
+    return converter_does(HELD, r->file, r->length, r->room, r->answer, r->written)
+        && converter_does(sim_convert, r->file, r->length, r->room, r->answer, r->written);
 }
 
 static size_t read_file(const char *name, uint8_t *bytes)

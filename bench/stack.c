@@ -42,6 +42,11 @@ static void call_logs(void)
     mortarsedge_logs(log, sizeof log, log, sizeof log);
 }
 
+static void call_convert(void)
+{
+    mortarsedge_convert(plan, plan_length, out, sizeof out);
+}
+
 /* Bytes of stack that a call changes, its own frame and the switch with it. */
 static size_t depth(void (*call)(void))
 {
@@ -58,6 +63,11 @@ static size_t depth(void (*call)(void))
     return stack.size - untouched;
 }
 
+/* The deepest of each call so far. */
+struct depths {
+    size_t check, run, logs, convert;
+};
+
 static void deepen(size_t *deepest, void (*call)(void))
 {
     size_t d = depth(call);
@@ -65,7 +75,15 @@ static void deepen(size_t *deepest, void (*call)(void))
         *deepest = d;
 }
 
-static void over_generated(uint64_t seed, uint64_t count, size_t *check, size_t *run)
+/* Of the plan and the steps at hand. */
+static void deepen_all(struct depths *d)
+{
+    deepen(&d->check, call_plan_check);
+    deepen(&d->run, call_run);
+    deepen(&d->convert, call_convert);
+}
+
+static void over_generated(uint64_t seed, uint64_t count, struct depths *d)
 {
     static struct generated g;
     for (uint64_t i = 0; i < count; i++) {
@@ -73,20 +91,18 @@ static void over_generated(uint64_t seed, uint64_t count, size_t *check, size_t 
         desks = g.desks;
         plan = g.plan, plan_length = g.plan_length;
         steps = g.steps, steps_length = g.steps_length;
-        deepen(check, call_plan_check);
-        deepen(run, call_run);
+        deepen_all(d);
     }
 }
 
-static void over_cases(size_t *check, size_t *run)
+static void over_cases(struct depths *d)
 {
     const struct bench_case *c;
     for (unsigned i = 0; (c = case_at(i)) != NULL; i++) {
         desks = c->desks;
         plan = c->plan, plan_length = c->plan_length;
         steps = c->steps, steps_length = c->steps_length;
-        deepen(check, call_plan_check);
-        deepen(run, call_run);
+        deepen_all(d);
     }
 }
 
@@ -98,17 +114,18 @@ static int within(const char *name, size_t measured, size_t promised)
 
 int main(int argc, char **argv)
 {
-    size_t check = 0, run = 0, logs = 0;
+    struct depths d = {0, 0, 0, 0};
     if (argc != 3) {
         fprintf(stderr, "usage: stack SEED COUNT\n");
         return 2;
     }
     stack = guarded_new(STACK);
-    over_generated(strtoull(argv[1], NULL, 10), strtoull(argv[2], NULL, 10), &check, &run);
-    over_cases(&check, &run);
-    deepen(&logs, call_logs);
-    int holds = within("plan check", check, MORTARSEDGE_PLAN_CHECK_STACK);
-    holds &= within("run", run, MORTARSEDGE_RUN_STACK);
-    holds &= within("logs", logs, MORTARSEDGE_LOGS_STACK);
+    over_generated(strtoull(argv[1], NULL, 10), strtoull(argv[2], NULL, 10), &d);
+    over_cases(&d);
+    deepen(&d.logs, call_logs);
+    int holds = within("plan check", d.check, MORTARSEDGE_PLAN_CHECK_STACK);
+    holds &= within("run", d.run, MORTARSEDGE_RUN_STACK);
+    holds &= within("logs", d.logs, MORTARSEDGE_LOGS_STACK);
+    holds &= within("convert", d.convert, MORTARSEDGE_CONVERT_STACK);
     return holds ? 0 : 1;
 }

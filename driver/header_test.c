@@ -16,15 +16,12 @@ static void expect(int holds, const char *what)
     }
 }
 
-/* Every number of the paper has a text of its own; 7 and 21 are none. */
+/* Every number of the paper has a text of its own; 7 and 26 are none. */
 static void texts_differ(void)
 {
     const char *none = mortarsedge_refusal_text(7);
-    expect(strcmp(mortarsedge_refusal_text(21), none) == 0, "21 has a text");
-    for (uint32_t i = 0; i <= 20; i++)
-        for (uint32_t j = 0; j < i; j++)
-            expect(strcmp(mortarsedge_refusal_text(i), mortarsedge_refusal_text(j)) != 0, "two texts are one");
-    for (uint32_t i = 24; i <= 25; i++)
+    expect(strcmp(mortarsedge_refusal_text(26), none) == 0, "26 has a text");
+    for (uint32_t i = 0; i <= 25; i++)
         for (uint32_t j = 0; j < i; j++)
             expect(strcmp(mortarsedge_refusal_text(i), mortarsedge_refusal_text(j)) != 0, "two texts are one");
 }
@@ -79,6 +76,57 @@ static void logs_are_held(void)
     received[0] = 129;
     expect(mortarsedge_number(mortarsedge_logs(sent, 30, received, 30)) == MORTARSEDGE_BAD_LOG_RECORD, "logs: 25");
     expect(mortarsedge_logs(sent, 29, received, 30) == MORTARSEDGE_BAD_LOG_LENGTH, "logs: 24 before 25");
+}
+
+/* A set that is repeated twice, in the first of two tasks: 6 instructions, 5 when written out. */
+static const uint8_t repeating_plan[36] = {
+    2, 0, 6, 0, 12, 0, 5, 0, 32, 0, 1, 0,
+    MORTARSEDGE_INSTRUCTION_REPEAT, 0, 2, 0, MORTARSEDGE_INSTRUCTION_SET, 3, 7, 1,
+    MORTARSEDGE_INSTRUCTION_REPEAT_END, 0, 0, 0, MORTARSEDGE_INSTRUCTION_CREATE, 0, 2, 0,
+    MORTARSEDGE_INSTRUCTION_FINISH, 0, 0, 0, MORTARSEDGE_INSTRUCTION_FINISH, 0, 0, 0};
+
+static const uint8_t written_plan[32] = {
+    2, 0, 5, 0, 12, 0, 4, 0, 28, 0, 1, 0,
+    MORTARSEDGE_INSTRUCTION_SET, 3, 7, 1, MORTARSEDGE_INSTRUCTION_SET, 3, 7, 1,
+    MORTARSEDGE_INSTRUCTION_CREATE, 0, 2, 0, MORTARSEDGE_INSTRUCTION_FINISH, 0, 0, 0,
+    MORTARSEDGE_INSTRUCTION_FINISH, 0, 0, 0};
+
+/* What is answered with another instruction at a place of the plan. */
+static void conversion_is(uint32_t number, size_t place, uint8_t kind, uint8_t argument)
+{
+    uint8_t plan[36], out[256], before[256];
+    memcpy(plan, repeating_plan, sizeof plan);
+    plan[place] = kind;
+    plan[place + 1] = 0;
+    plan[place + 2] = argument;
+    plan[place + 3] = 0;
+    memset(before, 0xa5, sizeof before);
+    memcpy(out, before, sizeof out);
+    expect(mortarsedge_convert(plan, sizeof plan, out, sizeof out) == number, mortarsedge_refusal_text(number));
+    expect(memcmp(out, before, sizeof out) == 0, "a refused conversion leaves the output");
+}
+
+/* Each refusal of the converter, and the written-out plan in an output of just its length. */
+static void repeats_are_converted(void)
+{
+    uint8_t out[33];
+    memset(out, 0xa5, sizeof out);
+    conversion_is(MORTARSEDGE_BAD_INSTRUCTION, 12, MORTARSEDGE_INSTRUCTION_REPEAT, 65);
+    conversion_is(MORTARSEDGE_BAD_REPEAT, 20, MORTARSEDGE_INSTRUCTION_SYNC, 0);
+    conversion_is(MORTARSEDGE_REPEATED_CREATE, 16, MORTARSEDGE_INSTRUCTION_CREATE, 2);
+    conversion_is(MORTARSEDGE_TOO_LONG, 12, MORTARSEDGE_INSTRUCTION_REPEAT, 63);
+    conversion_is(MORTARSEDGE_BAD_FINISH, 16, MORTARSEDGE_INSTRUCTION_FINISH, 0);
+    conversion_is(MORTARSEDGE_BAD_CREATE, 24, MORTARSEDGE_INSTRUCTION_SYNC, 0);
+    conversion_is(MORTARSEDGE_BAD_CHANNEL, 16, MORTARSEDGE_INSTRUCTION_SEND, 1);
+    expect(mortarsedge_convert(NULL, 0, out, 32) == MORTARSEDGE_BAD_LAYOUT, "convert: 2");
+    expect(mortarsedge_convert(repeating_plan, sizeof repeating_plan, out, 31) == MORTARSEDGE_OUTPUT_SHORT, "convert: 20");
+    expect(out[0] == 0xa5, "a short output is left");
+    uint64_t answer = mortarsedge_convert(repeating_plan, sizeof repeating_plan, out, 32);
+    expect(mortarsedge_number(answer) == MORTARSEDGE_ACCEPTED && mortarsedge_filled(answer) == 32, "convert: 0");
+    expect(memcmp(out, written_plan, 32) == 0 && out[32] == 0xa5, "the written-out plan");
+    expect(mortarsedge_plan_check(1, repeating_plan, sizeof repeating_plan) == MORTARSEDGE_BAD_INSTRUCTION,
+           "a repeat in the present edition");
+    expect(mortarsedge_plan_check(1, out, 32) == MORTARSEDGE_ACCEPTED, "the written-out plan is accepted");
 }
 
 /* Whether a step is put as these bytes, and no byte around them is written. */
@@ -347,6 +395,7 @@ int main(void)
     sizes_are_right();
     calls_link();
     logs_are_held();
+    repeats_are_converted();
     steps_are_put();
     lines_are_taken();
     others_are_told();

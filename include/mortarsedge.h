@@ -1,13 +1,9 @@
 /* Mortarsedge: the proved core of a moving rig, for a C driver.
  *
- * Link with libdriver.a. Its three functions, plan check, run and the check of two
- * logs, take numbers and bytes, keep nothing between calls, and may be called from
- * several threads at once. Each returns for every input; none allocates, reads or
+ * Link with libdriver.a. Its four functions, plan check, run, the check of two logs
+ * and convert, take numbers and bytes, keep nothing between calls, and may be called
+ * from several threads at once. Each returns for every input; none allocates, reads or
  * writes anything else. Everything else in this header is C for a driver's convenience:
- * Link with libdriver.a. Its three functions, plan check, run and convert, take
- * numbers and bytes, keep nothing between calls, and may be called from several
- * threads at once. They return for every input; none allocates, reads or writes
- * anything else. Everything else in this header is C for a driver's convenience:
  * names for the numbers, and inline functions, which no proof covers.
  *
  * Where a length is 0 its pointer may be any.
@@ -98,8 +94,6 @@ enum mortarsedge_step {
 
 /* The answers: of a call 0 to 6, 8, 20, 24 and 25, of the converter 0, 2 to 6 and 20 to 23, of a
  * step in the trace 0 and 10 to 19. */
-/* The answers: of a call 0 to 6, 8 and 20, of the converter 0, 2 to 6 and 20 to 23, of a step in the
- * trace 0 and 10 to 19. */
 enum mortarsedge_answer {
     MORTARSEDGE_ACCEPTED = 0,
     /* Of the plan file. */
@@ -210,7 +204,6 @@ uint64_t mortarsedge_run(uint32_t desks, const uint8_t *plan, size_t plan_length
 uint64_t mortarsedge_logs(const uint8_t *sent, size_t sent_length,
                           const uint8_t *received, size_t received_length);
 
-/* The number in the answer of a run, 0 to 6, 8 or 20, or of two logs, 0, 24 or 25. */
 /* Converts a plan file with repeats: writes it as a plan file of the present
  * edition, with every repeat written out.
  *
@@ -232,10 +225,11 @@ uint64_t mortarsedge_logs(const uint8_t *sent, size_t sent_length,
  * The numbers are tested in this order, each over the whole file before the
  * next. A refused call leaves out untouched, and filled is 0. Bytes behind the
  * written ones are unchanged. With out_length of MORTARSEDGE_MAX_PLAN or more,
- * every plan fits: a plan file is never longer. */
+ * 20 is never answered. */
 uint64_t mortarsedge_convert(const uint8_t *plan, size_t plan_length, uint8_t *out, size_t out_length);
 
-/* The number in the answer of a run, 0 to 6, 8 or 20, or of a conversion, 0, 2 to 6 or 20 to 23. */
+/* The number in the answer of a run, 0 to 6, 8 or 20, of two logs, 0, 24 or 25, or of a conversion, 0, 2 to 6
+ * or 20 to 23. */
 static inline uint32_t mortarsedge_number(uint64_t answer)
 {
     return (uint32_t)(answer % 256);

@@ -1,0 +1,11 @@
+/* Times of the library's tools beside those in C; 1 is returned if an answer is not the one due. */
+#ifndef TOOL_TIMES_H
+#define TOOL_TIMES_H
+
+/* The check of two logs of 4,096 records. */
+int logs_times(void);
+
+/* The conversion of the largest plans: one without a repeat, and one that repeats make the largest. */
+int convert_times(void);
+
+#endif
