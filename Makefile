@@ -1,10 +1,10 @@
 # The C side: the driver, its tests, the comparison with a simulator, the benchmark.
 #
-#   make driver   build/driver, with the proved archive (proved first if need be)
+#   make driver   build/driver, with the proved archive build/libmortarsedge.a (proved first if need be)
 #   make ctest    the tests of the C side
 #   make sanitize the driver and the header's functions under the compiler's checks of addresses and undefined behaviour
 #   make test     the gate: everything proved from nothing, then the tests of the C side over that archive
-#   make mutants  wrong simulators and wrong converters, which the comparisons have to find
+#   make mutants  wrong simulators, finish checks and converters, which the comparisons have to find
 #   make bench    times of library and simulator
 #   make instructions   instructions of both, by callgrind
 #   make clean    removes build/
@@ -15,15 +15,17 @@ WARNINGS = -Wall -Wextra -Wpedantic -Wconversion -Werror
 CCALL = $(CC) -std=c11 $(WARNINGS) $(CFLAGS) -Iinclude
 SANITIZE = -O1 -g -fsanitize=address,undefined -fno-sanitize-recover=all
 
-ARCHIVE = target/staticlib/libdriver.a
+# Two parts, each compiled by itself: a function that two parts share is compiled for each.
+PARTS = target/staticlib/libdriver.a target/staticlib/libplanner.a
+ARCHIVE = build/libmortarsedge.a
 PROVED = crates.txt $(shell find crates -type f)
 HEADER = include/mortarsedge.h
 DRIVER = driver/driver.c driver/file.c driver/logs.c
 SIMULATOR = bench/simulator.c bench/sim_plan.c bench/sim_start.c bench/sim_step.c bench/sim_call.c \
     bench/sim_run.c bench/sim_deliver.c bench/sim_move.c
 GENERATOR = bench/generate.c bench/damage.c bench/make_plan.c bench/make_steps.c bench/draft.c
-BENCHMARK = bench/benchmark.c bench/timing.c bench/tool_times.c bench/sim_logs.c bench/sim_convert.c bench/cases.c \
-    bench/make_plan.c bench/make_steps.c bench/draft.c
+BENCHMARK = bench/benchmark.c bench/timing.c bench/tool_times.c bench/sim_finish.c bench/sim_logs.c bench/sim_convert.c \
+    bench/cases.c bench/make_plan.c bench/make_steps.c bench/draft.c
 CONVERTER = bench/converter.c bench/guarded.c bench/sim_convert.c
 REPEATS = bench/repeats.c bench/make_repeats.c bench/rounds.c bench/damage.c bench/make_plan.c bench/draft.c
 COMPARISON = bench/differential.c bench/tally.c bench/guarded.c
@@ -39,9 +41,16 @@ COUNT = 20000
 
 driver: build/driver
 
-$(ARCHIVE): $(PROVED)
-	rt staticlib driver
+target/staticlib/lib%.a: $(PROVED)
+	rt staticlib $*
 	touch $@
+
+# `rt` writes one part at a time.
+target/staticlib/libplanner.a: target/staticlib/libdriver.a
+
+$(ARCHIVE): $(PARTS) | build
+	rm -f $@
+	printf 'CREATE $@\n$(PARTS:%=ADDLIB %\n)SAVE\nEND\n' | ar -M
 
 build:
 	mkdir -p build
@@ -68,6 +77,9 @@ build/calls: bench/calls.c $(SIMULATOR) $(BENCH_HEADERS) | build
 build/finish_vectors: bench/finish_vectors.c bench/sim_finish.c $(SIMULATOR) $(BENCH_HEADERS) | build
 	$(CCALL) -o $@ bench/finish_vectors.c bench/sim_finish.c $(SIMULATOR)
 
+build/finish: bench/finish.c bench/guarded.c bench/sim_finish.c $(GENERATOR) $(SIMULATOR) $(BENCH_HEADERS) $(ARCHIVE) | build
+	$(CCALL) -o $@ bench/finish.c bench/guarded.c bench/sim_finish.c $(GENERATOR) $(SIMULATOR) $(ARCHIVE)
+
 build/repeats_vectors: bench/repeats_vectors.c $(CONVERTER) $(SIMULATOR) $(BENCH_HEADERS) $(ARCHIVE) | build
 	$(CCALL) -DHELD=mortarsedge_convert -o $@ bench/repeats_vectors.c $(CONVERTER) $(SIMULATOR) $(ARCHIVE)
 
@@ -92,7 +104,7 @@ build/stack: $(STACK) $(GENERATOR) $(SIMULATOR) $(BENCH_HEADERS) $(ARCHIVE) | bu
 HEADER_TESTS = build/header_c99 build/header_c11 build/header_cxx11
 
 ctest: build/driver $(HEADER_TESTS) build/vectors build/old_plans build/differential build/logs build/stack build/calls \
-    build/repeats_vectors build/repeats
+    build/finish_vectors build/finish build/repeats_vectors build/repeats
 	build/header_c99
 	build/header_c11
 	build/header_cxx11
@@ -105,6 +117,8 @@ ctest: build/driver $(HEADER_TESTS) build/vectors build/old_plans build/differen
 	build/logs crates/logs_test/data/logs.bin $(SEED) 2000
 	build/repeats_vectors crates/repeats_test/data/repeats.bin
 	build/repeats $(SEED) $(COUNT)
+	build/finish_vectors crates/finish_test/data/finish.bin
+	build/finish $(SEED) 2000
 	build/stack $(SEED) 1000
 
 sanitize: $(ARCHIVE) | build
@@ -118,9 +132,11 @@ test:
 
 mutants: $(ARCHIVE) | build
 	CC="$(CC)" CFLAGS="$(CFLAGS)" bench/mutants.sh
+	CC="$(CC)" CFLAGS="$(CFLAGS)" bench/finish_mutants.sh crates/finish_test/data/finish.bin
 
 bench: build/benchmark
 	build/benchmark 101
+	build/benchmark --finish
 	build/benchmark --logs
 	build/benchmark --convert
 

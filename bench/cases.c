@@ -254,6 +254,73 @@ static void make_to_and_fro(struct bench_case *c)
     lead(c, MAX_STEPS, propose_to_and_fro);
 }
 
+/* Task 1 creates all others. */
+static void create_all(struct draft *d)
+{
+    draft_clear(d, MAX_TASKS);
+    for (uint32_t t = 2; t <= MAX_TASKS; t++)
+        draft_add(d, 1, CREATE, t);
+}
+
+/* A task of the relay: it receives from the one before, adds, and sends to the next. */
+static void add_runner(struct draft *d, uint32_t t, uint32_t place)
+{
+    uint32_t last = place == MAX_TASKS - 1;
+    draft_add(d, t, place == 1 ? SET : RECEIVE, place - 1);
+    while (d->task[t].count + 2 - last < MAX_COUNT)
+        draft_add(d, t, ADD, 1);
+    if (!last)
+        draft_add(d, t, SEND, place);
+    draft_add(d, t, FINISH, 0);
+}
+
+/* One word goes through tasks 64 to 2: a pass over the tasks by rising number executes one instruction. */
+static void make_relay(struct draft *d)
+{
+    create_all(d);
+    for (uint32_t t = MAX_TASKS; t >= 2; t--)
+        add_runner(d, t, MAX_TASKS + 1 - t);
+    draft_add(d, 1, FINISH, 0);
+}
+
+/* Words go to and fro between two tasks, pair after pair. */
+static void make_pairs(struct draft *d)
+{
+    create_all(d);
+    draft_add(d, 1, FINISH, 0);
+    for (uint32_t t = 2; t < MAX_TASKS; t += 2) {
+        for (uint32_t i = 0; i < MAX_COUNT - 2; i++) {
+            draft_add(d, t, i % 2 == 0 ? SEND : RECEIVE, t - i % 2);
+            draft_add(d, t + 1, i % 2 == 0 ? RECEIVE : SEND, t - i % 2);
+        }
+        draft_add(d, t, FINISH, 0);
+        draft_add(d, t + 1, FINISH, 0);
+    }
+    draft_add(d, MAX_TASKS, FINISH, 0);
+}
+
+/* A word goes round all tasks by falling number, and round again: a search over the tasks by rising number finds the
+ * next one last. */
+static void make_rounds(struct draft *d)
+{
+    create_all(d);
+    draft_add(d, 1, FINISH, 0);
+    for (uint32_t t = 2; t <= MAX_TASKS; t++) {
+        uint32_t next = t == 2 ? MAX_TASKS : t - 1;
+        for (uint32_t i = 0; i < MAX_COUNT - 2; i++) {
+            bool sends = (i % 2 == 0) == (t == MAX_TASKS);
+            draft_add(d, t, sends ? SEND : RECEIVE, sends ? next : t);
+        }
+        draft_add(d, t, FINISH, 0);
+    }
+}
+
+const struct finish_case finish_cases[FINISH_CASES] = {
+    {.name = "relay", .about = "64 tasks of 64, a word from task 64 to 2", .make = make_relay},
+    {.name = "pairs", .about = "31 pairs of tasks, words to and fro", .make = make_pairs},
+    {.name = "rounds", .about = "63 tasks, a word round by falling number", .make = make_rounds},
+};
+
 static struct bench_case cases[CASES] = {
     {.name = "check-small", .about = "plan check, 2 tasks", .make = small_plan, .check_only = true},
     {.name = "check-large", .about = "plan check, 64 tasks of 64 instructions", .make = large_plan, .check_only = true},

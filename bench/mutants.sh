@@ -6,7 +6,7 @@
 # tries those two; those from 70 on need no archive. REPEATS names the recorded files.
 set -u
 : "${CC:=cc}" "${CFLAGS:=-O2}" "${SEED:=1}" "${COUNT:=20000}" "${REPEATS:=crates/repeats_test/data/repeats.bin}"
-archive=target/staticlib/libdriver.a
+archive=build/libmortarsedge.a
 simulator='bench/simulator.c bench/sim_plan.c bench/sim_start.c bench/sim_step.c bench/sim_call.c
     bench/sim_run.c bench/sim_deliver.c bench/sim_move.c'
 generator='bench/damage.c bench/make_plan.c bench/draft.c'

@@ -107,8 +107,7 @@ static bool is_finished(const struct sim_rig *rig)
     return true;
 }
 
-/* Writes the whole text, and returns its length. */
-static size_t write_text(const struct sim_rig *rig, uint32_t steps, uint8_t text[SIM_FINISH_ENOUGH])
+size_t sim_finish_text(const struct sim_rig *rig, uint32_t steps, uint8_t text[SIM_FINISH_ENOUGH])
 {
     uint8_t *p = put_verdict(text, is_finished(rig), steps);
     for (uint32_t i = 1; i <= rig->tasks; i++) {
@@ -135,7 +134,7 @@ uint64_t sim_finish(const uint8_t *plan, size_t length, uint8_t *out, size_t out
     if (number != 0)
         return number;
     uint32_t steps = run_to_rest(&rig);
-    size_t filled = write_text(&rig, MUTANT == 66 ? sim_u16(plan + 2) : steps, text);
+    size_t filled = sim_finish_text(&rig, MUTANT == 66 ? sim_u16(plan + 2) : steps, text);
     if (filled > out_length - (MUTANT == 72 && out_length > 0)) {
         number = 20;
         filled = whole_lines(text, out_length);

@@ -2,8 +2,7 @@
 #ifndef SIM_FINISH_H
 #define SIM_FINISH_H
 
-#include <stddef.h>
-#include <stdint.h>
+#include "sim_rig.h"
 
 /* `no` and the most steps, then 64 tasks with a task each. */
 enum { SIM_FINISH_ENOUGH = 8 + 64 * 6 };
@@ -20,5 +19,8 @@ enum { SIM_FINISH_ENOUGH = 8 + 64 * 6 };
  * accepted run steps. Behind `no` each born task that is not done has a line, by rising number: its
  * number, a space and the task it depends on. Bytes behind the last line are unchanged. */
 uint64_t sim_finish(const uint8_t *plan, size_t length, uint8_t *out, size_t out_length);
+
+/* The whole text of a rig at rest after so many accepted run steps, and its length. */
+size_t sim_finish_text(const struct sim_rig *rig, uint32_t steps, uint8_t text[SIM_FINISH_ENOUGH]);
 
 #endif

@@ -35,6 +35,9 @@ static void sizes_are_right(void)
     expect(strlen("over 64\n") == MORTARSEDGE_MAX_OVER_LINE, "longest line of a marked task");
     expect(strlen("end 0 256\n") == MORTARSEDGE_MAX_END_LINE, "longest last line");
     expect(MORTARSEDGE_MAX_LOG == 40960, "longest log");
+    expect(strlen("yes 4096\n") == MORTARSEDGE_MAX_FINISH_LINE, "longest first line of a finish check");
+    expect(strlen("63 64\n") == MORTARSEDGE_MAX_STUCK_LINE, "longest line of a stuck task");
+    expect(MORTARSEDGE_FINISH_ENOUGH == 393, "enough output of a finish check");
 }
 
 /* A plan of one finish, and an empty step file. */
@@ -347,6 +350,54 @@ static void worked_run_is_right(void)
     expect(at == filled && mortarsedge_take_line(out + at, filled - at, &line) == 0, "nothing behind the end");
 }
 
+/* The finish check of a plan into an output of so many bytes: the number, these bytes, and none behind them. */
+static bool finish_is(const uint8_t *plan, size_t length, size_t room, uint32_t number, const char *text)
+{
+    uint8_t out[MORTARSEDGE_FINISH_ENOUGH + 1];
+    size_t filled = strlen(text);
+    memset(out, 0xa5, sizeof out);
+    uint64_t answer = mortarsedge_finish(plan, length, out, room);
+    for (size_t i = filled; i < sizeof out; i++)
+        if (out[i] != 0xa5)
+            return false;
+    return mortarsedge_number(answer) == number && mortarsedge_filled(answer) == filled && memcmp(out, text, filled) == 0;
+}
+
+/* The paper's worked plan finishes. Two tasks that wait for each other do not: create 2, receive 1, send 2, finish;
+ * receive 2, send 1, finish. Then each refusal: the same plan with four bytes changed. */
+static void finish_is_told(void)
+{
+    static const uint8_t waiting[40] = {2, 0, 7, 0, 12, 0, 4, 0, 28, 0, 3, 0, MORTARSEDGE_INSTRUCTION_CREATE, 0, 2, 0,
+                                        MORTARSEDGE_INSTRUCTION_RECEIVE, 0, 1, 0, MORTARSEDGE_INSTRUCTION_SEND, 0, 2, 0,
+                                        MORTARSEDGE_INSTRUCTION_FINISH, 0, 0, 0, MORTARSEDGE_INSTRUCTION_RECEIVE, 0, 2, 0,
+                                        MORTARSEDGE_INSTRUCTION_SEND, 0, 1, 0, MORTARSEDGE_INSTRUCTION_FINISH, 0, 0, 0};
+    static const struct {
+        size_t place;
+        uint8_t bytes[4];
+        uint32_t number;
+    } damages[5] = {{0, {2, 0, 8, 0}, MORTARSEDGE_BAD_LAYOUT},
+                    {12, {MORTARSEDGE_INSTRUCTION_CREATE, 1, 2, 0}, MORTARSEDGE_BAD_INSTRUCTION},
+                    {16, {MORTARSEDGE_INSTRUCTION_FINISH, 0, 0, 0}, MORTARSEDGE_BAD_FINISH},
+                    {12, {MORTARSEDGE_INSTRUCTION_SET, 0, 2, 0}, MORTARSEDGE_BAD_CREATE},
+                    {32, {MORTARSEDGE_INSTRUCTION_SEND, 0, 3, 0}, MORTARSEDGE_BAD_CHANNEL}};
+    const size_t enough = MORTARSEDGE_FINISH_ENOUGH;
+    expect(finish_is(worked_plan, sizeof worked_plan, enough, 0, "yes 8\n"), "finish: yes");
+    expect(finish_is(worked_plan, sizeof worked_plan, 6, 0, "yes 8\n"), "finish: yes, just enough");
+    expect(finish_is(worked_plan, sizeof worked_plan, 5, MORTARSEDGE_OUTPUT_SHORT, ""), "finish: yes, too short");
+    expect(finish_is(waiting, sizeof waiting, enough, 0, "no 3\n1 2\n2 1\n"), "finish: no");
+    expect(finish_is(waiting, sizeof waiting, 13, 0, "no 3\n1 2\n2 1\n"), "finish: no, just enough");
+    expect(finish_is(waiting, sizeof waiting, 12, MORTARSEDGE_OUTPUT_SHORT, "no 3\n1 2\n"), "finish: a line too short");
+    expect(finish_is(waiting, sizeof waiting, 4, MORTARSEDGE_OUTPUT_SHORT, ""), "finish: no, too short");
+    expect(mortarsedge_finish(NULL, 0, NULL, 0) == MORTARSEDGE_BAD_LAYOUT, "finish: an empty plan");
+    for (size_t i = 0; i < 5; i++) {
+        uint8_t plan[sizeof waiting];
+        memcpy(plan, waiting, sizeof plan);
+        memcpy(plan + damages[i].place, damages[i].bytes, 4);
+        expect(finish_is(plan, sizeof plan, enough, damages[i].number, ""), "finish: a refused plan");
+        expect(mortarsedge_plan_check(1, plan, sizeof plan) == damages[i].number, "finish: refused as by plan check");
+    }
+}
+
 /* docs/driver.md, 'A rig that goes on': a step file that grows. */
 struct growing {
     uint8_t steps[MORTARSEDGE_MAX_STEP_FILE + MORTARSEDGE_STEP_BYTES], out[MORTARSEDGE_OUTPUT_ENOUGH];
@@ -401,6 +452,7 @@ int main(void)
     others_are_told();
     bytes_are_told();
     worked_run_is_right();
+    finish_is_told();
     growing_run_is_right();
     return failures != 0;
 }

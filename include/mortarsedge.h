@@ -1,10 +1,10 @@
 /* Mortarsedge: the proved core of a moving rig, for a C driver.
  *
- * Link with libdriver.a. Its four functions, plan check, run, the check of two logs
- * and convert, take numbers and bytes, keep nothing between calls, and may be called
- * from several threads at once. Each returns for every input; none allocates, reads or
- * writes anything else. Everything else in this header is C for a driver's convenience:
- * names for the numbers, and inline functions, which no proof covers.
+ * Link with libmortarsedge.a. Its functions, plan check, run, the finish check, convert
+ * and the check of two logs, take numbers and bytes, keep nothing between calls, and may
+ * be called from several threads at once. Each returns for every input; none allocates,
+ * reads or writes anything else. Everything else in this header is C for a driver's
+ * convenience: names for the numbers, and inline functions, which no proof covers.
  *
  * Where a length is 0 its pointer may be any.
  *
@@ -54,6 +54,13 @@ enum {
     /* An output of so many bytes is never answered 20. Tasks 1 to 9 have one digit less. */
     MORTARSEDGE_OUTPUT_ENOUGH = MORTARSEDGE_MAX_STEPS * MORTARSEDGE_MAX_LINE
         + MORTARSEDGE_MAX_TASKS * MORTARSEDGE_MAX_OVER_LINE - 9 + MORTARSEDGE_MAX_END_LINE,
+    /* The longest first line of a finish check: `yes 4096` and a line feed. */
+    MORTARSEDGE_MAX_FINISH_LINE = 9,
+    /* The longest line of a stuck task: `63 64` and a line feed. */
+    MORTARSEDGE_MAX_STUCK_LINE = 6,
+    /* A finish check with an output of so many bytes is never answered 20. */
+    MORTARSEDGE_FINISH_ENOUGH =
+        MORTARSEDGE_MAX_FINISH_LINE + MORTARSEDGE_MAX_TASKS * MORTARSEDGE_MAX_STUCK_LINE,
     /* A record of a log: a channel and four levels, 2 bytes each. */
     MORTARSEDGE_LOG_RECORD = 10,
     MORTARSEDGE_MAX_LOG_RECORDS = 4096,
@@ -62,6 +69,7 @@ enum {
     /* Stack for a call, with some to spare: make ctest measures what is needed. */
     MORTARSEDGE_PLAN_CHECK_STACK = 16 * 1024,
     MORTARSEDGE_RUN_STACK = 128 * 1024,
+    MORTARSEDGE_FINISH_STACK = 128 * 1024,
     MORTARSEDGE_LOGS_STACK = 64 * 1024,
     MORTARSEDGE_CONVERT_STACK = 128 * 1024
 };
@@ -179,6 +187,35 @@ uint64_t mortarsedge_run(uint32_t desks, const uint8_t *plan, size_t plan_length
                          const uint8_t *steps, size_t steps_length,
                          uint8_t *out, size_t out_length);
 
+/* Will this plan finish? Runs a plan on one desk to rest, and writes what is then to be
+ * said of it.
+ *
+ * The caller supplies
+ *   plan    plan_length readable bytes, any bytes, which nobody writes meanwhile;
+ *   out     out_length bytes that may be read and written, which nobody else
+ *           reads or writes meanwhile, and which do not overlap plan;
+ *   stack   MORTARSEDGE_FINISH_STACK bytes.
+ *
+ * The answer holds a number and how many bytes of out hold lines: take it
+ * apart by mortarsedge_number and mortarsedge_filled.
+ *
+ *   0        out begins with the whole text
+ *   2 to 6   the plan file is refused, as by plan check; out is untouched, filled is 0
+ *   20       the text does not fit: out begins with the longest beginning of
+ *            whole lines that fits, and filled may be 0
+ *
+ * Bytes behind the last line are unchanged. With out_length of
+ * MORTARSEDGE_FINISH_ENOUGH or more, 20 is never answered.
+ *
+ * The first line is `yes` if every task that was born is done, else `no`, and the
+ * number of instructions executed, which is that of accepted run steps. Behind
+ * `no` each task that was born and is not done has a line, by rising number: its
+ * number and the task that it depends on, which is the other end of its channel if
+ * it sends or receives, else its lowest living child. Fields are decimal with one
+ * space between, and a line feed is behind each line. The text is that of every run
+ * of the plan that comes to rest, on one desk or six and with any moves. */
+uint64_t mortarsedge_finish(const uint8_t *plan, size_t plan_length, uint8_t *out, size_t out_length);
+
 /* Holds a sender's log against a receiver's log.
  *
  * A log has a record of MORTARSEDGE_LOG_RECORD bytes for each word: its channel and
@@ -228,8 +265,8 @@ uint64_t mortarsedge_logs(const uint8_t *sent, size_t sent_length,
  * 20 is never answered. */
 uint64_t mortarsedge_convert(const uint8_t *plan, size_t plan_length, uint8_t *out, size_t out_length);
 
-/* The number in the answer of a run, 0 to 6, 8 or 20, of two logs, 0, 24 or 25, or of a conversion, 0, 2 to 6
- * or 20 to 23. */
+/* The number in the answer of a run or a finish check, 0 to 6, 8 or 20, of two logs, 0, 24 or 25, or of a
+ * conversion, 0, 2 to 6 or 20 to 23. */
 static inline uint32_t mortarsedge_number(uint64_t answer)
 {
     return (uint32_t)(answer % 256);
