@@ -118,7 +118,7 @@ ctest: build/driver $(HEADER_TESTS) build/vectors build/old_plans build/differen
 	build/repeats_vectors crates/repeats_test/data/repeats.bin
 	build/repeats $(SEED) $(COUNT)
 	build/finish_vectors crates/finish_test/data/finish.bin
-	build/finish $(SEED) 2000
+	build/finish $(SEED) $(COUNT)
 	build/stack $(SEED) 1000
 
 sanitize: $(ARCHIVE) | build

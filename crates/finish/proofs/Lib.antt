@@ -4,4 +4,3 @@ pub mod Going
 pub mod Reading
 pub mod Outcomes
 pub mod Length
-

@@ -47,10 +47,12 @@ loop-less c = omega arith
 loop-again : tie.Need-loop-again Inv-loop μ-loop
 loop-again c =
     let l = c .before .before .before .before in
-    let k = l .loop .k in
-    (omega arith, omega arith,
-    λ t low high.
-    by-cases (ℕ-discrete t (k + 1)) (λ (e : t ≡ k + 1). rw e (asked (c .before) ∙ c .if1 .left)) (λ ne. l .loop .inv .2 t low (omega arith)))
+    let k = l .loop .k in (
+      omega arith,
+      omega arith,
+      λ t low high.
+          by-cases (ℕ-discrete t (k + 1)) (λ (e : t ≡ k + 1). rw e (asked (c .before) ∙ c .if1 .left)) (λ ne. l .loop .inv .2 t low (omega arith)),
+    )
 
 returns-2 : tie.Need-returns-2 Inv-loop μ-loop
 returns-2 c =
