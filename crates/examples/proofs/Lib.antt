@@ -3,7 +3,7 @@ pub mod Edges
 -- Each run has its trace.
 pub mod Scenes
 -- What demand 3 says of two runs, that its test of letters tells rigs apart, and what is said of moves, of marks, of plans on level 0, of runs at
--- different desks, of logs, of dispatchers, of tablets and of plans with repeats.
+-- different desks, of logs, of dispatchers, of tablets, of plans with repeats and of the finish check.
 pub mod Demand3
 pub mod Bound
 pub mod Suppositions
@@ -15,3 +15,4 @@ pub mod Logs
 pub mod Dispatch
 pub mod Tablets
 pub mod Repeats
+pub mod Finish

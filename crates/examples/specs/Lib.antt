@@ -17,3 +17,5 @@ pub mod Dispatch
 pub mod Tablets
 -- A plan with repeats.
 pub mod Repeats
+-- A plan that is stuck, and one that finishes.
+pub mod Finish

@@ -32,5 +32,7 @@ pub mod LevelCases
 pub mod OverflowCases
 -- numbers in a line, lines, and what fits into an output
 pub mod TraceCases
+-- tasks that are stuck at rest, and the lines of the finish check
+pub mod FinishCases
 -- when a word leaves, the bytes of a log, each answer of the check of two logs
 pub mod LogCases
