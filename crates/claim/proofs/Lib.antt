@@ -50,10 +50,16 @@ pub mod Rounds
 pub mod Tablets
 -- plans with repeats, and written out
 pub mod Repeats
--- the finish check: the lowest living child, the same answer everywhere
+-- the finish check: the lowest living child, the same answer everywhere, never 0
 pub mod Lowest
 pub mod Finish
+pub mod Blocked
+pub mod NeverZero
 -- how many runs are accepted: a run takes its task one place on, and so the number is everywhere the same
+pub mod PlaceRules
 pub mod Places
-pub mod OneProcessor
 pub mod Work
+-- one desk: its rules, its runs and its lists of steps post no letter
+pub mod Silent
+pub mod OneRun
+pub mod OneProcessor

@@ -1,9 +1,9 @@
 -- A run takes its task one place on: "An accepted instruction is executed and the place goes on by one, even if the task then waits."
-use mathlib.Core.Path.{_≡_, refl, sym, ap, _∙_, subst}
-use mathlib.Core.Bool.{true, _&&_, not}
+use mathlib.Core.Path.{_≡_, refl, sym, ap, subst}
+use mathlib.Core.Bool.{true}
 use mathlib.Core.Logic.{_≢_}
 use mathlib.Core.List.{List}
-use Prim.Native.Nat.{ℕ, suc, _+_, _-_, _≤_}
+use Prim.Native.Nat.{suc, _-_, _≤_}
 use native.Mathlib.Omega.{arith}
 use lib.Dec.{eqb}
 use borrow.Author.Tests.{eqb-true, eq-eqb}
@@ -12,7 +12,6 @@ use Rattle.base.proofs.Tests.{and-both, within-low, within-high}
 use Rattle.plan.specs.declared.Plan.{Plan}
 use Rattle.plan.specs.declared.TaskId.{TaskId}
 use Rattle.plan.specs.declared.ChannelId.{ChannelId}
-use Rattle.plan.specs.declared.Instruction.{Instruction}
 use Rattle.plan.specs.declared.Word.{Word}
 use Rattle.plan.specs.Kinds.{opCreate, opSync, opFinish, opSend, opReceive, opSet, isUse}
 use Rattle.plan.specs.Numbers.{taskId, channelId}
@@ -20,23 +19,17 @@ use Rattle.plan.specs.Programs.{programs}
 use Rattle.plan.specs.Users.{senderOf, receiverOf, parentOf}
 use Rattle.plan_laws.proofs.Ends.{sends-on, ends-differ}
 use Rattle.rules.specs.declared.task.Task.{Task}
-use Rattle.rules.specs.declared.rule.Outcome.{Outcome}
-use Rattle.rules.specs.declared.rule.Finished.{Finished}
-use Rattle.rules.specs.declared.rule.Site.{Site}
 use Rattle.rules.specs.declared.step.StepAnswer.the-variants.{Accepted}
-use Rattle.rules.specs.declared.system.ParentEntry.{ParentEntry}
 use Rattle.rules.specs.declared.system.System.{System}
-use Rattle.rules.specs.Numbers.{sameTask, sameProcessor, isNone}
-use Rattle.rules.specs.Hints.{hint, isUnknown, newer}
-use Rattle.rules.specs.Tasks.{isAt, born}
-use Rattle.rules.specs.Cells.{counts, noneCalled}
+use Rattle.rules.specs.Hints.{hint}
+use Rattle.rules.specs.Tasks.{born}
 use Rattle.rules.specs.Systems.{taskAt, withTask, parentAt, meaning, taskProgram}
 use Rattle.rules.specs.Effects.{Effect, changed, completed, siteAt, withOutcome}
 use Rattle.rules.specs.Starts.{located, pointed, birth}
-use Rattle.rules.specs.Local.{createRule, syncRule, finishRule}
+use Rattle.rules.specs.Local.{createRule, finishRule}
 use Rattle.rules.specs.Places.{nextIn, sendNumber}
-use Rattle.rules.specs.Send.{sendPasses, sendWaits, sendRule}
-use Rattle.rules.specs.Receive.{receivePasses, receiveWaits, receiveRule}
+use Rattle.rules.specs.Send.{sendRule}
+use Rattle.rules.specs.Receive.{receiveRule}
 use Rattle.rules.specs.Runs.{ranCreate, ranFinish, ranSend, ranReceive, executed, nextOf, ran, runAnswer}
 use Rattle.rules_laws.specs.Shapes.{Shaped}
 use Rattle.rules_laws.proofs.TaskAt.{taskAt-same, taskAt-other, withTask-shaped}
@@ -47,41 +40,11 @@ use Rattle.net.specs.Nets.{Reached}
 use Rattle.transitions.specs.Readings.{reading}
 use Rattle.transitions.specs.Agreement.{Running}
 use Rattle.transitions.proofs.Rigs.{plan-accepted}
-use Rattle.transitions.proofs.Runs.{run-is-task, run-settled, runs-of}
+use Rattle.transitions.proofs.Runs.{run-is-task, runs-of}
 use Rattle.transitions.proofs.Tasks.{unborn-apart}
 use Rattle.invariant.proofs.Simulation.{creates-unborn}
 use Rattle.invariant.proofs.Next.{Kept}
-
--- what each rule leaves of the task that runs
-sync-place : (x : Task) → syncRule x .pc ≡ suc (x .pc)
-unfolding syncRule
-sync-place x = pick-either (λ (y : Task). y .pc ≡ suc (x .pc)) (eqb (x .children) 0) _ _ (omega arith) (omega arith)
-
-finish-place : (t : TaskId) (x parent : Task) (e : ParentEntry) → finishRule t x parent e .task .pc ≡ suc (x .pc)
-unfolding finishRule
-finish-place t x parent e =
-    let P : Finished → Type 0 = λ o. o .task .pc ≡ suc (x .pc) in
-    pick-either P (sameTask t (taskId 1)) _ _ (omega arith)
-    (pick-either P (isAt (x .processor) parent) _ _ (omega arith)
-    (pick-either P (sameProcessor (newer (e .hint) (x .origin) .processor) (x .processor)) _ _ (omega arith) (omega arith)))
-
-send-place : (x : Site) (c : ChannelId) (w : ℕ) → sendRule x c w .sender .pc ≡ suc (x .sender .pc)
-unfolding sendRule sendPasses sendWaits
-send-place x c w =
-    let P : Outcome → Type 0 = λ o. o .sender .pc ≡ suc (x .sender .pc) in
-    let d = x .sender .processor in
-    pick-either P (isAt d (x .receiver) && (x .receiving && not (x .cell .channel .awaiting))) _ _ (omega arith)
-    (pick-either P (isAt d (x .receiver)) _ _ (omega arith)
-    (pick-either P (isUnknown (x .cell .entry .hint)) _ _ (omega arith)
-    (pick-either P (sameProcessor (x .cell .entry .hint .processor) d) _ _ (omega arith) (omega arith))))
-
-receive-place : (x : Site) (c : ChannelId) (w : ℕ) → receiveRule x c w .receiver .pc ≡ suc (x .receiver .pc)
-unfolding receiveRule receivePasses receiveWaits
-receive-place x c w =
-    let P : Outcome → Type 0 = λ o. o .receiver .pc ≡ suc (x .receiver .pc) in
-    pick-either P (x .sending && isAt (x .receiver .processor) (x .sender)) _ _ (omega arith)
-    (pick-either P (counts (x .cell) (x .cell .channel .carried)) _ _ (omega arith)
-    (pick-either P (noneCalled (x .cell) && not (isNone (x .cell .entry .noted))) _ _ (omega arith) (omega arith)))
+use Rattle.claim.proofs.PlaceRules.{sync-place, finish-place, send-place, receive-place}
 
 -- each instruction of task t
 module _ (r : System) (shaped : Shaped r) (t : TaskId) (low : 1 ≤ t .0) (high : t .0 ≤ 64) where

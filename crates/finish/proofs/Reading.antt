@@ -40,7 +40,7 @@ use Rattle.rig_parts.proofs.Fetching.{last-read}
 use Rattle.rig_parts.proofs.Names.{sender-named, receiver-named}
 use Rattle.board.specs.Lent.{Lent, tasksOf}
 use Rattle.claim.specs.Statement.{from}
-use Rattle.claim.proofs.Finish.{Blocked, sends-or-receives}
+use Rattle.claim.proofs.Blocked.{Blocked, sends-or-receives}
 use Rattle.claim.proofs.Whole.{list-kept}
 use Rattle.finish.specs.Answers.{LastOn, AllDependent, finishesIn, dependsIn, stuckLineIn, stuckLinesIn, linesIn}
 use Rattle.finish.specs.Files.{linesAfter}
