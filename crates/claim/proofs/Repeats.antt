@@ -1,4 +1,4 @@
--- A plan of the new edition and its written-out plan say the same at rest.
+-- A plan of the new edition and its written-out plan say the same at rest; a file without a repeat is written as it is.
 use mathlib.Core.Path.{_≡_, refl, sym, ap, subst, _∙_}
 use mathlib.Core.Bool.{Bool, _&&_}
 use mathlib.Core.List.{List}
@@ -16,6 +16,7 @@ use Rattle.plan.specs.RepeatRefusals.{repeatsAnswer}
 use Rattle.plan_laws.proofs.Canonical.{meaning-canonical}
 use Rattle.repeat_laws.specs.Passed.{RepeatsPassed}
 use Rattle.repeat_laws.proofs.Converted.{repeats-passed, written-accepted}
+use Rattle.repeat_laws.proofs.Plain.{plain-answer, plain-file}
 use Rattle.rules.specs.declared.step.Step.{Step}
 use Rattle.rules.specs.Steps.{receivedOn}
 use Rattle.net.specs.Machines.{Normal}
@@ -27,7 +28,7 @@ use Rattle.transitions.specs.Readings.{reading}
 use Rattle.invariant.proofs.Next.{Kept}
 use Rattle.invariant.proofs.Rest.{at-rest-shows}
 use Rattle.claim.specs.Statement.{from, Rests}
-use Rattle.claim.specs.Repeats.{writtenPlan, RepeatsRest, SameWritten, RepeatsWritten, RepeatsAsWritten}
+use Rattle.claim.specs.Repeats.{writtenPlan, RepeatsRest, SameWritten, RepeatsWritten, RepeatsAsWritten, PlainAsItIs}
 use Rattle.claim.proofs.Whole.{list-kept, start-kept, rested}
 use Rattle.claim.proofs.Demand3.{normal, all-received, no-messages, resting}
 
@@ -92,3 +93,6 @@ repeats-written b a =
       repeats-rest = record { labels = h .labels; state = h .end; reached = h .run; rests = h .normal };
       written-rest = record { list = done .list; rests = done .rests };
     }
+
+pub plain-as-it-is : PlainAsItIs
+plain-as-it-is b bytes h = record { answer = plain-answer b h; file = plain-file b bytes h }

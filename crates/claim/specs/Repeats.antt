@@ -1,17 +1,20 @@
 -- Plans with repeats: "The written-out plan must give on one desk the same words on each channel as this rule does." The rule is the machine of the new
 -- edition (`repeatMachine`), which goes from place to place and writes nothing out; the written-out plan runs on a rig of one desk, by `rules`.
 use mathlib.Core.Path.{_≡_}
-use mathlib.Core.Bool.{_&&_}
+use mathlib.Core.Bool.{true, _&&_}
 use mathlib.Core.List.{List}
 use Prim.Native.Nat.{ℕ}
 use Rattle.plan.specs.declared.ChannelId.{ChannelId}
 use Rattle.plan.specs.declared.Plan.{Plan}
 use Rattle.plan.specs.declared.PlanAnswer.the-variants.{Accepted}
 use Rattle.plan.specs.declared.TaskId.{TaskId}
-use Rattle.plan.specs.Files.{filePrograms}
+use Rattle.plan.specs.Files.{filePrograms, fileAnswer}
 use Rattle.plan.specs.Programs.{Programs, canonical}
 use Rattle.plan.specs.Repeats.{writtenOutPlan}
 use Rattle.plan.specs.RepeatRefusals.{repeatsAnswer}
+use Rattle.plan.specs.Conversions.{convertedFile}
+use Rattle.plan_laws.specs.Bytes.{Bytes}
+use Rattle.repeat_laws.specs.Plain.{withoutRepeats}
 use Rattle.rules.specs.declared.step.Step.{Step}
 use Rattle.rules.specs.declared.system.System.{System}
 use Rattle.rules.specs.declared.task.TaskState.the-variants.{Done}
@@ -54,3 +57,12 @@ pub record RepeatsWritten (b : List ℕ) : Type 0 where
 -- `repeats-written`: for every file that the converter accepts
 abbrev pub RepeatsAsWritten : Type 0
 RepeatsAsWritten = (b : List ℕ) → repeatsAnswer b ≡ Accepted → RepeatsWritten b
+
+-- a file is answered as by plan check and, where it is accepted, written as it is
+pub record AsItIs (b : List ℕ) : Type 0 where
+  pub answer : repeatsAnswer b ≡ fileAnswer b
+  pub file : fileAnswer b ≡ Accepted → convertedFile b ≡ b
+
+-- `plain-as-it-is`: every file of bytes that has neither a repeat nor an end of one
+abbrev pub PlainAsItIs : Type 0
+PlainAsItIs = (b : List ℕ) → Bytes b → withoutRepeats (filePrograms b) ≡ true → AsItIs b

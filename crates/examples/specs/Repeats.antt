@@ -1,4 +1,4 @@
--- A plan with repeats: a sender that sends and adds three times, and its receiver; and a run of it to rest.
+-- A plan with repeats: a sender that sends and adds three times, and its receiver; and a run of it to rest. A plan without repeats.
 use mathlib.Core.Bool.{Bool, true, _&&_}
 use mathlib.Core.List.{List, [], _∷_}
 use Prim.Native.Nat.{ℕ}
@@ -21,6 +21,16 @@ repeatPrograms =
 -- its file
 abbrev pub repeatFile : List ℕ
 repeatFile = layout repeatPrograms
+
+-- a sender and its receiver without a repeat
+abbrev pub plainPrograms : Programs
+plainPrograms =
+    (does opCreate 2 ∷ does opSet 7 ∷ does opSend 3 ∷ does opFinish 0 ∷ [])
+    ∷ (does opReceive 3 ∷ does opFinish 0 ∷ [])
+    ∷ []
+
+abbrev pub plainFile : List ℕ
+plainFile = layout plainPrograms
 
 -- task 1 or 2 does an instruction of its own, or a word passes channel 3
 abbrev one : Label

@@ -45,6 +45,6 @@ fn main() {
     let mut plan = io::large_buffer();
     let mut out = io::buffer();
     let size = load(b"rig.plan", &mut plan);
-    let answer = driver::finish_check::mortarsedge_finish(&plan[..size], &mut out);
+    let answer = planner::finish_check::mortarsedge_finish(&plan[..size], &mut out);
     say(answer, &out);
 }

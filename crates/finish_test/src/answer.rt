@@ -1,7 +1,7 @@
 // An answer compared: its number, how much is filled, and every byte of the output.
 use crate::record::Record;
 use crate::text::put_text;
-use driver::finish_check::mortarsedge_finish;
+use planner::finish_check::mortarsedge_finish;
 
 // The check on the first `room` bytes of the output, and its answer.
 fn finish_in<'a>(plan: &'a [u8], room: usize, out: &'a mut [u8]) -> u64 {

@@ -1,11 +1,13 @@
 -- The exported converter: its answer, the output then, that what is written is accepted by plan check, and that it gives the same words.
 use mathlib.Core.Path.{_≡_}
-use mathlib.Core.List.{List}
-use Prim.Native.Nat.{ℕ, _+_, _*_}
-use lib.ListN.{take}
+use mathlib.Core.Logic.{_≢_}
+use mathlib.Core.List.{List, _++_}
+use Prim.Native.Nat.{ℕ, _+_, _*_, _≤_}
+use lib.ListN.{length, take, drop}
 use Rattle.plan.specs.declared.PlanAnswer.the-variants.{Accepted}
 use Rattle.plan.specs.declared.WriteAnswer.{WriteAnswer}
-use Rattle.plan.specs.declared.WriteAnswer.the-variants.{Written}
+use Rattle.plan.specs.declared.WriteAnswer.the-variants.{Written, Unwritten}
+use Rattle.plan.specs.declared.Refusal.the-variants.{OutputShort}
 use Rattle.plan.specs.Answers.{writeNumber, writeSize}
 use Rattle.plan.specs.Files.{fileAnswer}
 use Rattle.plan.specs.RepeatRefusals.{repeatsAnswer}
@@ -24,11 +26,14 @@ writePacked a = packed (writeNumber a) (writeSize a)
 unfoldable pub convertOutcome : List ℕ → List ℕ → ℕ
 convertOutcome b out = writePacked (convertAnswer b out)
 
--- a conversion answered and wrote so: `result` and `bytes` hold of every call, `accepted` is what plan check says of the written bytes, and where the
--- file is not refused by 2 to 6 or 21 to 23, `same` is the claim about it
+-- a conversion answered and wrote so: `result` and `bytes` hold of every call, and `room` says that an output of `longestPlan` bytes is not refused
+-- by 20. `accepted` is what plan check says of the written bytes; a file that it accepts itself is written as it is. Where the file is not refused
+-- by 2 to 6 or 21 to 23, `same` is the claim about it
 pub record ConvertMeets (b before : List ℕ) (r : ℕ) (after : List ℕ) : Type 0 where
   pub result : r ≡ convertOutcome b before
   pub bytes : after ≡ convertOutput b before
+  pub room : longestPlan ≤ length before → convertAnswer b before ≢ Unwritten OutputShort
   pub accepted : (n : ℕ) → convertAnswer b before ≡ Written n → fileAnswer (take n after) ≡ Accepted
+  pub as-it-is : fileAnswer b ≡ Accepted → length b ≤ length before → after ≡ b ++ drop (length b) before
   -- "The written-out plan must give on one desk the same words on each channel as this rule does."
   pub same : repeatsAnswer b ≡ Accepted → RepeatsWritten b

@@ -1,6 +1,7 @@
 -- What is answered about the written-out plan of a file that has passed 2, 3, 21 and 23, and that what the converter writes is accepted.
 use mathlib.Core.Path.{_≡_, refl, sym, ap, _∙_}
 use mathlib.Core.Bool.{Bool, true, false, true≢false}
+use mathlib.Core.Logic.{_≢_}
 use mathlib.Core.List.{List, [], _∷_, map}
 use Prim.Native.Nat.{ℕ, suc, _≤_}
 use native.Mathlib.Omega.{arith}
@@ -14,12 +15,13 @@ use Rattle.base.proofs.Sums.{sum-at-most}
 use Rattle.base.proofs.Tests.{and-left, and-right, and-both, and-false, second-fails, is-true, within-both}
 use Rattle.plan.specs.declared.PlanAnswer.{PlanAnswer}
 use Rattle.plan.specs.declared.PlanAnswer.the-variants.{Accepted, Refused}
-use Rattle.plan.specs.declared.Refusal.the-variants.{BadLayout, BadInstruction, BadFinish, BadRepeat, RepeatedCreate, TooLong, OutputShort}
+use Rattle.plan.specs.declared.Refusal.{Refusal}
+use Rattle.plan.specs.declared.Refusal.the-variants.{BadLayout, BadInstruction, BadFinish, BadCreate, BadChannel, BadRepeat, RepeatedCreate, TooLong, OutputShort}
 use Rattle.plan.specs.declared.WriteAnswer.{WriteAnswer}
 use Rattle.plan.specs.declared.WriteAnswer.the-variants.{Written, Unwritten}
 use Rattle.plan.specs.Programs.{Program, Programs}
 use Rattle.plan.specs.Layout.{layout}
-use Rattle.plan.specs.Refusals.{sizeOk, sizesOk, finishOk, finishesOk, structureAnswer, planAnswer}
+use Rattle.plan.specs.Refusals.{sizeOk, sizesOk, finishOk, finishesOk, createsOk, channelsOk, structureAnswer, planAnswer}
 use Rattle.plan.specs.Files.{fileTasks, fileCount, layoutOk, filePrograms, fileAnswer}
 use Rattle.plan.specs.Outcomes.{writeAnswerAfter, outputAfter}
 use Rattle.plan.specs.Repeats.{writtenOut, writtenOutPlan}
@@ -88,6 +90,14 @@ module _ (b : List ℕ) where
       let m = filePrograms b in
       written-answer m (file-size (p .layout)) (p .instructions) (p .paired) (p .lengths) (structure-none-empty (writtenOutPlan m) (p .structure)) ∙ p .structure
 
+  -- the written-out plan is a plan file, and has as many bytes as one at most
+  pub converted-size : repeatsAnswer b ≡ Accepted → length (convertedFile b) ≤ 16644
+  converted-size a =
+      let file = convertedFile b in
+      let l = laid file (file-passed file (read-layout (writtenOutPlan (filePrograms b)) (written-accepted a) .0) .layout) in
+      let total = sum-at-most 64 (fileTasks file) (fileCount file) (λ k q. l .counts k q .few) in
+      omega (arith, l .size, l .tasks .few, l .total, total)
+
 -- what was written
 module _ (b out : List ℕ) where
   by-answer : (a : PlanAnswer) (n : ℕ) → writeAnswerAfter a (length (convertedFile b)) (length out) ≡ Written n → (a ≡ Accepted) × (n ≡ length (convertedFile b))
@@ -110,7 +120,35 @@ module _ (b out : List ℕ) where
   unfolding convertAnswer
   converted-few n h =
       let (a, e) = by-answer (repeatsAnswer b) n h in
-      let file = convertedFile b in
-      let l = laid file (file-passed file (read-layout (writtenOutPlan (filePrograms b)) (written-accepted b a) .0) .layout) in
-      let total = sum-at-most 64 (fileTasks file) (fileCount file) (λ k q. l .counts k q .few) in
-      omega (arith, e, l .size, l .tasks .few, l .total, total)
+      omega (arith, e, converted-size b a)
+
+-- 20 is no answer about a file
+past : (ok : Bool) (r : Refusal) (rest : PlanAnswer) → Refused r ≢ Refused OutputShort → rest ≢ Refused OutputShort → unless ok (Refused r) rest ≢ Refused OutputShort
+past true r rest p q = q
+past false r rest p q = p
+
+not-short : (b : List ℕ) → repeatsAnswer b ≢ Refused OutputShort
+unfolding repeatsAnswer structureAnswer
+not-short b =
+    let m = filePrograms b in
+    past (layoutOk b) BadLayout _ (λ e. let z : _≡_ {A = ℕ} 0 1 = cc in omega arith)
+    (past (newInstructionsOk m) BadInstruction _ (λ e. let z : _≡_ {A = ℕ} 0 1 = cc in omega arith)
+    (past (pairedOk m) BadRepeat _ (λ e. let z : _≡_ {A = ℕ} 0 1 = cc in omega arith)
+    (past (repeatedOk m) RepeatedCreate _ (λ e. let z : _≡_ {A = ℕ} 0 1 = cc in omega arith)
+    (past (lengthsOk m) TooLong _ (λ e. let z : _≡_ {A = ℕ} 0 1 = cc in omega arith)
+    (past (finishesOk (writtenOutPlan m)) BadFinish _ (λ e. let z : _≡_ {A = ℕ} 0 1 = cc in omega arith)
+    (past (createsOk (writtenOutPlan m)) BadCreate _ (λ e. let z : _≡_ {A = ℕ} 0 1 = cc in omega arith)
+    (past (channelsOk (writtenOutPlan m)) BadChannel _ (λ e. let z : _≡_ {A = ℕ} 0 1 = cc in omega arith)
+    (λ e. let z : _≡_ {A = ℕ} 0 1 = cc in omega arith))))))))
+
+-- an output of as many bytes as a plan file has at most is never refused by 20
+pub never-short : (b out : List ℕ) → 16644 ≤ length out → convertAnswer b out ≢ Unwritten OutputShort
+unfolding convertAnswer
+never-short b out l = go (repeatsAnswer b) refl
+  where
+    go : (a : PlanAnswer) → repeatsAnswer b ≡ a → writeAnswerAfter a (length (convertedFile b)) (length out) ≢ Unwritten OutputShort
+    go Accepted e h =
+        let fits = le-leb (length (convertedFile b)) (length out) (omega (arith, converted-size b e, l)) in
+        let t : Written (length (convertedFile b)) ≡ Unwritten OutputShort = simp fits at h in
+        let z : _≡_ {A = ℕ} 0 1 = cc in omega arith
+    go (Refused r) e h = let q : Refused r ≡ Refused OutputShort = cc in not-short b (e ∙ q)

@@ -1,9 +1,11 @@
 -- `mortarsedge_convert`.
 use mathlib.Core.Path.{_∙_, ap}
+use native.Mathlib.Omega.{arith}
 use borrow.Author.Needs.{needs}
+use Rattle.repeat_laws.proofs.Plain.{present-output}
 use Rattle.claim.proofs.Repeats.{repeats-written}
 use Rattle.planner.specs.Converts.{writePacked, convertOutcome}
-use Rattle.planner.proofs.Conversions.{written-few}
+use Rattle.planner.proofs.Conversions.{written-few, room-for-all}
 use Rattle.planner.proofs.conversion.mortarsedge_convert.Statement.{statement}
 use Rattle.planner.proofs.conversion.mortarsedge_convert.Tie as tie
 
@@ -19,11 +21,16 @@ same-length c = search needs
 returns : tie.Need-returns
 unfolding convertOutcome
 returns c =
-    let r = c .before .before .before .convert .ensures in
+    let f = c .before .before .before in
+    let r = f .convert .ensures in
+    let known = f .before .before .before in
+    let a = known .before .args in
     record {
       result = c .write-packed .ensures ∙ ap writePacked (r .answer);
       bytes = r .bytes;
+      room = room-for-all (a .plan .now) (a .out .now);
       accepted = λ n e. r .accepted n (r .answer ∙ e);
+      as-it-is = λ h l. r .bytes ∙ present-output (a .plan .now) (a .out .now) (λ i. omega (arith, known .shared-slice-known .given i)) h l;
       same = λ h. repeats-written _ h;
     }
 
