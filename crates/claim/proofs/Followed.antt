@@ -99,7 +99,7 @@ module _ (n : ℕ) (p : Plan) (d : ProcessorId) where
       let (low, high) = deliver-passed r j (sym (answer-deliver r s deliver) ∙ step-passed r s acceptance .rule) in
       let rest = take (j - 1) (mail r) ++ drop j (mail r) in
       let now : mail (step r s .system) ≡ rest ++ ms =
-          then ∙ rw deliver (ap (λ (xs : List Message). xs ++ ms) (messages-dequeued (r .network) j low high (room l))) in
+      then ∙ rw deliver (ap (λ (xs : List Message). xs ++ ms) (messages-dequeued (r .network) j low high (room l))) in
       rw (deliver, all, now)
       (by-cases
       (ℕ-discrete (positionWithout j k) 0)

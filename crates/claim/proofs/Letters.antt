@@ -77,7 +77,7 @@ module _ (n : ℕ) (p : Plan) (d : ProcessorId) where
         let high : i ≤ length (mail r) = omega (arith, first .first, there) in
         let rest = take (i - 1) (mail r) ++ drop i (mail r) in
         let now : mail (step r (deliverStep i) .system) ≡ rest ++ ms =
-            then ∙ ap (λ (xs : List Message). xs ++ ms) (messages-dequeued (r .network) i low (omega (arith, high, length-mail l)) (room l)) in
+        then ∙ ap (λ (xs : List Message). xs ++ ms) (messages-dequeued (r .network) i low (omega (arith, high, length-mail l)) (room l)) in
         by-cases
         (ℕ-discrete i k)
         (λ (e : i ≡ k). inl (rw (eq-eqb i k e) refl))
@@ -122,7 +122,7 @@ module _ (n : ℕ) (p : Plan) (d : ProcessorId) where
       let b = happened (a .system) us in
       let j = followed r (a .steps) k in
       let later : followed r (a .steps ++ b .steps) k ≡ followed (a .system) (b .steps) j =
-          followed-append r (a .steps) (b .steps) k ∙ sym (followed-but (event-runs r e .but) (b .steps) j) in
+      followed-append r (a .steps) (b .steps) k ∙ sym (followed-but (event-runs r e .but) (b .steps) j) in
       rw later
       (follows-then d (pick (isCallAt d e) 1 0) (count (isCallAt d) us) r k (a .system) j (b .system) (followed (a .system) (b .steps) j)
       (event-follows e r l k some there is)

@@ -62,8 +62,12 @@ module _ {A : Type 0} (test : A → Bool) (z : A) where
           there = omega (arith, length-append xs zs);
           same = rw (one, two) (getD-append-add xs zs i z ∙ sym (getD-append-add xs (y ∷ zs) (suc i) z));
           fewer =
-              rw (take-append-add xs zs (suc i), take-append-add xs (y ∷ zs) (suc (suc i)), count-append test xs (take (suc i) zs),
-              count-append test xs (y ∷ take (suc i) zs))
+              rw (
+                take-append-add xs zs (suc i),
+                take-append-add xs (y ∷ zs) (suc (suc i)),
+                count-append test xs (take (suc i) zs),
+                count-append test xs (y ∷ take (suc i) zs),
+              )
               (omega arith);
         }
 

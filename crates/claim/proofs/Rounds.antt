@@ -148,5 +148,5 @@ rounds-rest n p es some few a k enough =
     let l = live-mixed n p es some few a in
     let bound = 10 * (notExecuted n p (mixed n p es .steps) + r .network .used) in
     let most : (us : List Event) → every isCall us ≡ true → done r us ≤ bound =
-        λ us calls. mixed-demand-3 n p es some few a .few-steps us (no-moves r (happened r us .steps) (calls-make us r calls)) in
+    λ us calls. mixed-demand-3 n p es some few a .few-steps us (no-moves r (happened r us .steps) (calls-make us r calls)) in
     stays n p start r l bound most (rests n p start r l bound most (climbs n p start bound r l)) k enough

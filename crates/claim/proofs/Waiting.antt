@@ -87,7 +87,7 @@ module _ (n : ℕ) (p : Plan) (d : ProcessorId) (at : processorOk n d ≡ true) 
     unfolding acceptedOf
     one-accepted =
         let yes : isAccepted (stepAnswer q (runStep t)) ≡ true =
-            ap (λ (z : System). isAccepted (stepAnswer z (runStep t))) same ∙ ap isAccepted (but-answer b (runStep t) ∙ accepted) in
+        ap (λ (z : System). isAccepted (stepAnswer z (runStep t))) same ∙ ap isAccepted (but-answer b (runStep t) ∙ accepted) in
         rw yes refl
 
     not-chosen : eqb (choice q d) t ≡ false

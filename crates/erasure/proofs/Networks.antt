@@ -60,7 +60,12 @@ pub left-erased : (n : Network) (p : ℕ) → dequeued (erasedNetwork n) p ≡ e
 unfolding dequeued erasedMessage
 left-erased n p =
     let used = take (n .used) (n .slots) in
-    rw
-    (← map-take erasedSlot (n .used) (n .slots), ← map-take erasedSlot (p - 1) (n .slots), ← map-drop erasedSlot p used, ← map-drop erasedSlot (n .used) (n .slots),
-    map-append erasedSlot (take (p - 1) (n .slots)) (drop p used ++ (noSlot ∷ drop (n .used) (n .slots))), map-append erasedSlot (drop p used) (noSlot ∷ drop (n .used) (n .slots)))
+    rw (
+      ← map-take erasedSlot (n .used) (n .slots),
+      ← map-take erasedSlot (p - 1) (n .slots),
+      ← map-drop erasedSlot p used,
+      ← map-drop erasedSlot (n .used) (n .slots),
+      map-append erasedSlot (take (p - 1) (n .slots)) (drop p used ++ (noSlot ∷ drop (n .used) (n .slots))),
+      map-append erasedSlot (drop p used) (noSlot ∷ drop (n .used) (n .slots)),
+    )
     refl

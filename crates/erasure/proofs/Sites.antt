@@ -33,9 +33,14 @@ module _ (r : System) (k : Readable r) (s u : TaskId) (hs : s .0 ≤ r .plan .ta
   site-erased : siteAt (erase r) s u c d ≡ erasedSite (siteAt r s u c d)
   unfolding siteAt erase entryAt channelAt
   site-erased =
-      rw
-      (program-of r (k .plan) s, program-of r (k .plan) u, task-erased r s, task-erased r u,
-      sending-erased (taskProgram r s) (taskAt r s) (k .last s hs) c, receiving-erased (taskProgram r u) (taskAt r u) (k .last u hu) c)
+      rw (
+        program-of r (k .plan) s,
+        program-of r (k .plan) u,
+        task-erased r s,
+        task-erased r u,
+        sending-erased (taskProgram r s) (taskAt r s) (k .last s hs) c,
+        receiving-erased (taskProgram r u) (taskAt r u) (k .last u hu) c,
+      )
       refl
 
   -- a rule of the rig, and the one that it is without words

@@ -130,10 +130,11 @@ mail-then r s z a =
     let d = step-performed r z (sound r z (step-passed r s a .system)) s a in
     let e = performed r s in
     let ms = messagesOf (r .processors) (e .posting) in
-    let size : length (standing r s .slots) ≡ 256 = rw (d .fine .system .network) at (d .fine .system .shaped .slots) in
-    (ms,
-    rw (step-accepted r s a, d .fine .system .network, d .fine .system .processors)
-    (messages-enqueuedAll (standing r s) ms (omega (arith, size, d .fitting))))
+    let size : length (standing r s .slots) ≡ 256 = rw (d .fine .system .network) at (d .fine .system .shaped .slots) in (
+      ms,
+      rw (step-accepted r s a, d .fine .system .network, d .fine .system .processors)
+          (messages-enqueuedAll (standing r s) ms (omega (arith, size, d .fitting))),
+    )
 
 -- any step: a refused one leaves the rig as it was
 pub step-kept : (r : System) (s : Step) → Shaped r → systemOk r ≡ true → systemOk (step r s .system) ≡ true

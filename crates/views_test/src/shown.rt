@@ -91,10 +91,7 @@ fn driver_shows(r: System, t: TaskId, bytes: &[u8]) -> bool {
         return false;
     };
     let b = driver_bytes(v);
-    base::both(
-        begins(bytes, &b),
-        v.living == u64::count_ones(v.children),
-    )
+    base::both(begins(bytes, &b), v.living == u64::count_ones(v.children))
 }
 
 // Whether either view shows what is expected.
@@ -124,8 +121,5 @@ pub fn refused_by_ten(r: System, t: TaskId) -> bool {
     let DriverAnswer::Refused(y) = b else {
         return false;
     };
-    base::both(
-        trace::answer_number(x) == 10,
-        trace::answer_number(y) == 10,
-    )
+    base::both(trace::answer_number(x) == 10, trace::answer_number(y) == 10)
 }
