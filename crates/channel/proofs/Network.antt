@@ -8,7 +8,7 @@ use lib.ListN.{getElem?}
 use Rattle.channel.specs.Bags.{without}
 use Rattle.channel.specs.Messages.{ChannelMessage}
 use Rattle.channel.specs.Views.{View}
-use Rattle.channel.specs.Events.{sender-born, sender-arrives, receiver-born, receiver-arrives, sender-departs, receiver-departs, send-passes, send-carried, send-advertised, send-held, send-posted, receive-passes, receive-waits, carried-answered, noted-answered, offer-dropped, offer-answered, offer-carried, offer-forwarded, offer-held, advert-answered, advert-noted, call-taken, word-taken, Event, place, transfer, delivery, placeGuard, placed, transferGuard, transferred, deliveryGuard, delivered, guard, after}
+use Rattle.channel.specs.Events.{sender-born, sender-arrives, receiver-born, receiver-arrives, sender-departs, receiver-departs, send-passes, send-carried, send-advertised, send-held, send-posted, receive-passes, receive-waits, carried-answered, noted-answered, offer-dropped, offer-answered, offer-carried, offer-forwarded, offer-held, advert-answered, advert-noted, call-taken, word-taken, Event, place, transfer, delivery, placeGuard, placed, transferGuard, transferred, deliveryGuard, delivered, guard, after, Change, none, event}
 use Rattle.channel.proofs.Bags.{post-place}
 use Rattle.channel.proofs.Keep.{Met, afterAll}
 
@@ -54,3 +54,7 @@ pub moves-grow : (es : List Event) (v : View) → Met es v → v .receiver .move
 unfolding Met afterAll
 moves-grow [] v m = omega arith
 moves-grow (e ∷ es) v (g, m) = omega (arith, goes e v g .moves, moves-grow es (after e v) m)
+
+pub change-moves : {v w : View} → Change v w → v .receiver .moves ≤ w .receiver .moves
+change-moves none = omega arith
+change-moves {v} (event e g) = goes e v g .moves

@@ -63,3 +63,11 @@ pub mod Work
 pub mod Silent
 pub mod OneRun
 pub mod OneProcessor
+-- the longest chase: what is posted, letters counted, where an offer comes from, one letter of each, its count, how often it is forwarded
+pub mod OfferPostings
+pub mod MailCounts
+pub mod Origins
+pub mod OneOffer
+pub mod OfferLetters
+pub mod Chased
+pub mod Chase

@@ -19,3 +19,5 @@ pub mod Tablets
 pub mod Repeats
 -- A plan that is stuck, and one that finishes.
 pub mod Finish
+-- An offer that follows its receiver.
+pub mod Chase

@@ -51,7 +51,7 @@ use Rattle.invariant.specs.Weights.{weightOf}
 use Rattle.invariant.proofs.Falls.{run-less, deliver-less, move-places}
 use Rattle.invariant.proofs.Work.{Went, work-went}
 use Rattle.invariant.proofs.Counts.{CountsRise, counts-run, counts-deliver, counts-move}
-use Rattle.invariant.proofs.ViewsKept.{views-run, views-deliver, views-move, root-run, root-deliver, root-move}
+use Rattle.invariant.proofs.ViewsKept.{Changes, changes-run, changes-deliver, changes-move, views-changed, root-run, root-deliver, root-move}
 use Rattle.invariant.proofs.FamilyParts.{Families}
 use Rattle.invariant.proofs.Families.{families-run, families-deliver, families-move}
 use Rattle.invariant.proofs.NetSteps.{Follows}
@@ -69,10 +69,11 @@ pub record Kept (p : Plan) (r : System) (received : ChannelId → List Word) : T
   pub reached : Reached (programs p) labels state
   pub running : Running (programs p) histories state (reading r) received
 
--- the rig after an accepted step of task t; a run executes one instruction, by which one place goes on, without a move the measure falls, a move adds one to one task's count,
--- and a run that adds over the top marks its task
+-- the rig after an accepted step of task t: each channel's view changes by one event or not at all; a run executes one instruction, by which one place
+-- goes on, without a move the measure falls, a move adds one to one task's count, and a run that adds over the top marks its task
 pub record Next (p : Plan) {r : System} {w : ChannelId → List Word} (k : Kept p r w) (t : TaskId) (q : System) (got : Received) (runs moves : Bool) : Type 0 where
   pub kept : Kept p q (λ c. w c ++ wordOn c got)
+  pub changes : Changes (programs p) (k .histories) (kept .histories) (reading r) (reading q)
   pub places : Went (programs p) (reading r .tasks) (reading q .tasks) (flag runs)
   pub work : unexecuted (programs p) (reading r .tasks) ≡ flag runs + unexecuted (programs p) (reading q .tasks)
   pub falls : moves ≡ false → weightOf (programs p) (kept .histories) (reading q) < weightOf (programs p) (k .histories) (reading r)
@@ -134,9 +135,10 @@ module _ (p : Plan) (a : planAnswer (programs p) ≡ PlanAccepted) {r : System} 
         let less = run-less m a (k .running) transition in
         record {
           kept =
-              together q (λ c. w c ++ wordOn c got) h shaped ok plan (families-run m a (k .running) transition) (views-run m (k .running) transition)
+              together q (λ c. w c ++ wordOn c got) h shaped ok plan (families-run m a (k .running) transition) (views-changed m (k .running) h (reading q) (changes-run m transition))
               (root-run m (k .running) transition)
               (follows-run m a (k .reached) (k .running) transition);
+          changes = changes-run m transition;
           places = less .places;
           work = less .work;
           falls = λ e. less .weight;
@@ -151,8 +153,9 @@ module _ (p : Plan) (a : planAnswer (programs p) ≡ PlanAccepted) {r : System} 
         record {
           kept =
               together q (λ c. w c ++ wordOn c got) (k .histories) shaped ok plan (families-deliver m a (k .running) transition)
-              (views-deliver m (k .running) transition)
+              (views-changed m (k .running) (k .histories) (reading q) (changes-deliver m transition))
               (root-deliver m (k .running) transition) (follows-deliver m a (k .reached) (k .running) transition);
+          changes = changes-deliver m transition;
           places = less .places;
           work = less .work;
           falls = λ e. less .weight;
@@ -161,13 +164,14 @@ module _ (p : Plan) (a : planAnswer (programs p) ≡ PlanAccepted) {r : System} 
         }
 
     after-move : (h : Histories) → MoveTransition m (k .histories) h (reading r) (reading q) → Next p k t q Nothing false true
-    unfolding wordOn reading
+    unfolding together wordOn reading
     after-move h transition =
         record {
           kept =
-              rw (no-more w)
-              (together q w h shaped ok plan (families-move m a (k .running) transition) (views-move m (k .running) transition) (root-move m (k .running) transition)
-              (follows-move m a (k .reached) (k .running) transition));
+              together q (λ c. w c ++ []) h shaped ok plan (families-move m a (k .running) transition)
+              (views-changed m (k .running) h (reading q) (changes-move m transition))
+              (root-move m (k .running) transition) (rw (no-more w) (follows-move m a (k .reached) (k .running) transition));
+          changes = changes-move m transition;
           places = move-places m a (k .running) transition;
           work = work-went (move-places m a (k .running) transition);
           falls = λ e. absurd (tests-differ refl e);

@@ -50,35 +50,42 @@ departing-change Transitions.Departing.none = none
 departing-change (sender-departure g) = event (place sender-departs) g
 departing-change (receiver-departure e g) = event (place (receiver-departs e)) g
 
--- the invariant of every channel
+-- the invariant of every channel, and a change of every view
 abbrev Views : Programs → Histories → Reading → Type 0
 Views m h y = (c : ChannelId) → 1 ≤ c .0 → c .0 ≤ 128 → Invariant (viewOf m h y c)
 
-module _ (m : Programs) {h : Histories} {s : Net} {x : Reading} {w : ChannelId → List Word} (run : Running m h s x w) where
-  -- a step about a channel, and one that no channel sees
-  channel-views : {y : Reading} {e : Event} {got : Received} → ChannelTransition m h x y e got → Views m h y
-  channel-views {y} {e} transition =
-      channel-cases (λ c. 1 ≤ c .0 → c .0 ≤ 128 → Invariant (viewOf m h y c)) (transition .channel)
-      (λ l u. rw (transition .view) (change-keeps (event e (transition .allowed)) (run .views (transition .channel) l u)))
-      (λ c ne l u. rw (transition .others c l u ne) (run .views c l u))
+abbrev pub Changes : Programs → Histories → Histories → Reading → Reading → Type 0
+Changes m h h' x y = (c : ChannelId) → 1 ≤ c .0 → c .0 ≤ 128 → Change (viewOf m h x c) (viewOf m h' y c)
 
-  unseen-views : {y : Reading} → Unseen m h x y → Views m h y
-  unseen-views {y} a c l u = rw (a .views c l u) (run .views c l u)
+module _ (m : Programs) {h : Histories} {x : Reading} where
+  -- a step about a channel, and one that no channel sees
+  channel-changes : {y : Reading} {e : Event} {got : Received} → ChannelTransition m h x y e got → Changes m h h x y
+  channel-changes {y} {e} transition =
+      channel-cases (λ c. 1 ≤ c .0 → c .0 ≤ 128 → Change (viewOf m h x c) (viewOf m h y c)) (transition .channel)
+      (λ l u. rw (transition .view) (event e (transition .allowed)))
+      (λ c ne l u. rw (transition .others c l u ne) none)
+
+  unseen-changes : {y : Reading} → Unseen m h x y → Changes m h h x y
+  unseen-changes a c l u = rw (a .views c l u) none
 
   -- by each act
-  pub views-run : {h' : Histories} {y : Reading} {got : Received} → RunTransition m h x h' y got → Views m h' y
-  views-run (transfers e transition) = channel-views transition
-  views-run (owns transition) = unseen-views (transition .unseen)
-  views-run (creates transition) = λ c l u. change-keeps (placing-change (transition .views c l u)) (run .views c l u)
-  views-run (finishes transition) = unseen-views (transition .unseen)
+  pub changes-run : {h' : Histories} {y : Reading} {got : Received} → RunTransition m h x h' y got → Changes m h h' x y
+  changes-run (transfers e transition) = channel-changes transition
+  changes-run (owns transition) = unseen-changes (transition .unseen)
+  changes-run (creates transition) = λ c l u. placing-change (transition .views c l u)
+  changes-run (finishes transition) = unseen-changes (transition .unseen)
 
-  pub views-deliver : {y : Reading} {got : Received} → DeliverTransition m h x y got → Views m h y
-  views-deliver (delivers p a transition) = channel-views transition
-  views-deliver (ends transition) = unseen-views (transition .unseen)
-  views-deliver (arrives transition) = λ c l u. change-keeps (placing-change (transition .views c l u)) (run .views c l u)
+  pub changes-deliver : {y : Reading} {got : Received} → DeliverTransition m h x y got → Changes m h h x y
+  changes-deliver (delivers p a transition) = channel-changes transition
+  changes-deliver (ends transition) = unseen-changes (transition .unseen)
+  changes-deliver (arrives transition) = λ c l u. placing-change (transition .views c l u)
 
-  pub views-move : {h' : Histories} {y : Reading} → MoveTransition m h h' x y → Views m h' y
-  views-move transition c l u = change-keeps (departing-change (transition .views c l u)) (run .views c l u)
+  pub changes-move : {h' : Histories} {y : Reading} → MoveTransition m h h' x y → Changes m h h' x y
+  changes-move transition c l u = departing-change (transition .views c l u)
+
+module _ (m : Programs) {h : Histories} {s : Net} {x : Reading} {w : ChannelId → List Word} (run : Running m h s x w) where
+  pub views-changed : (h' : Histories) (y : Reading) → Changes m h h' x y → Views m h' y
+  views-changed h' y changes c l u = change-keeps (changes c l u) (run .views c l u)
 
   -- no ended letter names task 1: none leaves or comes that does
   still-root : {ms : List Message} → ms ≡ x .messages → endedOf (taskId 1) ms ≡ []
