@@ -3,7 +3,7 @@ use mathlib.Core.Path.{_≡_, refl, sym, _∙_}
 use mathlib.Core.Logic.{by-cases, _⊎_, inl, inr, ⊎-elim}
 use mathlib.Core.Option.{some}
 use mathlib.Core.List.{List, [], _∷_, _++_, List·Memᴰ·head, List·Memᴰ·tail, List·Memᴰ·not-nil, List·Memᴰ·cases-cons, List·Memᴰ·append-cases, Memᴰ·append-left, Memᴰ·append-right, List·Memᴰ·eq-of-singleton}
-use Prim.Native.Nat.{ℕ, zero, suc, _+_, _≤_, _<_}
+use Prim.Native.Nat.{ℕ, zero, suc, _+_, _≤_}
 use native.Mathlib.Omega.{arith}
 use native.Mathlib.Decide.{decLe}
 use lib.ListN.{getElem?, length}
@@ -88,27 +88,3 @@ module _ {A : Type 0} where
   length-without [] i e = let z : _≡_ {A = ℕ} 0 1 = cc in absurd (omega arith)
   length-without (x ∷ xs) zero e = refl
   length-without (x ∷ xs) (suc i) e = omega (arith, length-without xs i e)
-
-  -- places: a letter stays at its own while others join the end or one behind it is taken, and moves up when one in front of it is
-  pub post-place : (xs ys : List A) (i : ℕ) (a : A) → getElem? xs i ≡ some a → getElem? (xs ++ ys) i ≡ some a
-  post-place [] ys i a e = let z : _≡_ {A = ℕ} 0 1 = cc in absurd (omega arith)
-  post-place (x ∷ xs) ys zero a e = e
-  post-place (x ∷ xs) ys (suc i) a e = post-place xs ys i a e
-
-  pub last-place : (xs : List A) (a : A) → getElem? (xs ++ one a) (length xs) ≡ some a
-  last-place [] a = refl
-  last-place (x ∷ xs) a = last-place xs a
-
-  pub taken-behind : (xs : List A) (i j : ℕ) (a : A) → i < j → getElem? xs i ≡ some a → getElem? (without xs j) i ≡ some a
-  unfolding without
-  taken-behind [] i j a l e = e
-  taken-behind (x ∷ xs) i zero a l e = absurd (omega arith)
-  taken-behind (x ∷ xs) zero (suc j) a l e = e
-  taken-behind (x ∷ xs) (suc i) (suc j) a l e = taken-behind xs i j a (omega arith) e
-
-  pub taken-in-front : (xs : List A) (i j : ℕ) (a : A) → j ≤ i → getElem? xs (suc i) ≡ some a → getElem? (without xs j) i ≡ some a
-  unfolding without
-  taken-in-front [] i j a l e = e
-  taken-in-front (x ∷ xs) i zero a l e = e
-  taken-in-front (x ∷ xs) zero (suc j) a l e = absurd (omega arith)
-  taken-in-front (x ∷ xs) (suc i) (suc j) a l e = taken-in-front xs i j a (omega arith) e

@@ -11,7 +11,6 @@ pub mod TransfersKeep
 pub mod DeliveriesKeep
 pub mod Keep
 pub mod Claims
-pub mod Network
-pub mod Chases
+pub mod Moves
 pub mod Measure
 pub mod Sample

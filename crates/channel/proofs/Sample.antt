@@ -17,7 +17,6 @@ use Rattle.channel.specs.Places.{takingOver}
 use Rattle.channel.specs.Events.{Event, place, transfer, delivery, sender-born, receiver-born, receiver-departs, receiver-arrives, send-posted, carried-answered, offer-forwarded, offer-held, call-taken, word-taken, guard, after, blank, placeGuard, placed, transferGuard, transferred, deliveryGuard, delivered}
 use Rattle.channel.specs.Invariant.{Invariant}
 use Rattle.channel.proofs.Keep.{Met, afterAll, all-keep, starts}
-use Rattle.channel.proofs.Chases.{forwardedBy, chased}
 
 -- the definitions that an evaluation opens, under one name
 unfoldable pub evaluated : Unit {0}
@@ -69,7 +68,3 @@ pub record Hunted (v : View) : Type 0 where
 pub hunt-ends : Hunted (afterAll (posted ++ hunt) (blank 3))
 unfolding evaluated posted hunt
 hunt-ends = record { moves = refl; messages = refl; held = refl }
-
-pub hunt-twice : chased hunt (afterAll posted (blank 3)) 0 ≡ 2
-unfolding evaluated posted hunt chased forwardedBy
-hunt-twice = refl

@@ -32,7 +32,7 @@ use Rattle.rules.specs.Steps.{isDeliver, stepAnswer, performed, step}
 use Rattle.rules_sound.proofs.Kept.{standing}
 use Rattle.channel.specs.Bags.{one}
 use Rattle.channel.proofs.Bags.{in-new}
-use Rattle.channel.proofs.Network.{change-moves}
+use Rattle.channel.proofs.Moves.{change-moves}
 use Rattle.transitions.specs.Readings.{reading}
 use Rattle.transitions.specs.Views.{viewOf, receiverView}
 use Rattle.invariant.proofs.Next.{Kept, next}
