@@ -28,8 +28,7 @@ use Rattle.rules.specs.Systems.{taskAt, meaning}
 use Rattle.rules.specs.Steps.{isRun, isDeliver, stepAnswer, performed, step}
 use Rattle.claim.specs.Statement.{from}
 
--- the offer letter of channel c with number w: "an offer is known by its channel and its number", since a send posts at most one and forwarding
--- keeps both
+-- the offer letter of channel c with number w: an offer is known by both, since a send posts at most one and forwarding keeps them
 unfoldable pub isOffer : ChannelId → ℕ → Message → Bool
 isOffer c w Empty = false
 isOffer c w (Offered e o h) = sameChannel e c && eqb (o .number) w
