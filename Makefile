@@ -112,6 +112,7 @@ ctest: build/driver $(HEADER_TESTS) build/vectors build/old_plans build/differen
 	build/vectors crates/vectors_test/data/s103.bin crates/vectors_test/data/edges.bin
 	build/calls crates/vectors_test/data/calls.bin
 	scripts/replay_test.sh target/bin/dispatch_program target/bin/trace_program crates/trace_program/data/rig.plan crates/edges_test/data/over.plan
+	scripts/chase_test.sh target/bin/chase_program target/bin/trace_program
 	build/old_plans bench/data/one_level.bin
 	build/differential $(SEED) $(COUNT)
 	build/logs crates/logs_test/data/logs.bin $(SEED) 2000
