@@ -24,8 +24,8 @@ DRIVER = driver/driver.c driver/file.c driver/logs.c
 SIMULATOR = bench/simulator.c bench/sim_plan.c bench/sim_start.c bench/sim_step.c bench/sim_call.c \
     bench/sim_run.c bench/sim_deliver.c bench/sim_move.c
 GENERATOR = bench/generate.c bench/damage.c bench/make_plan.c bench/make_steps.c bench/draft.c
-BENCHMARK = bench/benchmark.c bench/timing.c bench/tool_times.c bench/sim_finish.c bench/sim_logs.c bench/sim_convert.c \
-    bench/cases.c bench/make_plan.c bench/make_steps.c bench/draft.c
+BENCHMARK = bench/benchmark.c bench/timing.c bench/tool_times.c bench/sim_logs.c bench/sim_convert.c bench/cases.c \
+    bench/make_plan.c bench/make_steps.c bench/draft.c
 CONVERTER = bench/converter.c bench/guarded.c bench/sim_convert.c
 REPEATS = bench/repeats.c bench/make_repeats.c bench/rounds.c bench/damage.c bench/make_plan.c bench/draft.c
 COMPARISON = bench/differential.c bench/tally.c bench/guarded.c
@@ -80,6 +80,9 @@ build/finish_vectors: bench/finish_vectors.c bench/sim_finish.c $(SIMULATOR) $(B
 build/finish: bench/finish.c bench/guarded.c bench/sim_finish.c $(GENERATOR) $(SIMULATOR) $(BENCH_HEADERS) $(ARCHIVE) | build
 	$(CCALL) -o $@ bench/finish.c bench/guarded.c bench/sim_finish.c $(GENERATOR) $(SIMULATOR) $(ARCHIVE)
 
+build/finish_times: bench/finish_times.c bench/sim_finish.c bench/draft.c $(SIMULATOR) $(BENCH_HEADERS) $(ARCHIVE) | build
+	$(CCALL) -o $@ bench/finish_times.c bench/sim_finish.c bench/draft.c $(SIMULATOR) $(ARCHIVE)
+
 build/repeats_vectors: bench/repeats_vectors.c $(CONVERTER) $(SIMULATOR) $(BENCH_HEADERS) $(ARCHIVE) | build
 	$(CCALL) -DHELD=mortarsedge_convert -o $@ bench/repeats_vectors.c $(CONVERTER) $(SIMULATOR) $(ARCHIVE)
 
@@ -118,6 +121,7 @@ ctest: build/driver $(HEADER_TESTS) build/vectors build/old_plans build/differen
 	build/logs crates/logs_test/data/logs.bin $(SEED) 2000
 	build/repeats_vectors crates/repeats_test/data/repeats.bin
 	build/repeats $(SEED) $(COUNT)
+	scripts/finish_test.sh target/bin/finish_program crates/finish_program/data
 	build/finish_vectors crates/finish_test/data/finish.bin
 	build/finish $(SEED) $(COUNT)
 	build/stack $(SEED) 1000
@@ -135,9 +139,9 @@ mutants: $(ARCHIVE) | build
 	CC="$(CC)" CFLAGS="$(CFLAGS)" bench/mutants.sh
 	CC="$(CC)" CFLAGS="$(CFLAGS)" bench/finish_mutants.sh crates/finish_test/data/finish.bin
 
-bench: build/benchmark
+bench: build/benchmark build/finish_times
 	build/benchmark 101
-	build/benchmark --finish
+	build/finish_times
 	build/benchmark --logs
 	build/benchmark --convert
 

@@ -2,7 +2,6 @@
  * benchmark --one CASE library|simulator COUNT: so many calls and no more, for
  * a counter of instructions (instructions.sh).
  * benchmark --growing: the library on files that grow by one step at a time.
- * benchmark --finish: the finish check of plans that take long.
  * benchmark --logs: the check of two logs of 4,096 records, and that in C.
  * benchmark --convert: the conversion of the largest plans, and that in C.
  * benchmark --names: the cases. */
@@ -174,8 +173,6 @@ int main(int argc, char **argv)
         return one(argv[2], argv[3], argv[4]);
     if (argc == 2 && strcmp(argv[1], "--growing") == 0)
         return growing();
-    if (argc == 2 && strcmp(argv[1], "--finish") == 0)
-        return finish_times();
     if (argc == 2 && strcmp(argv[1], "--logs") == 0)
         return logs_times();
     if (argc == 2 && strcmp(argv[1], "--convert") == 0)
@@ -184,7 +181,7 @@ int main(int argc, char **argv)
         return names();
     long samples = argc == 2 ? strtol(argv[1], NULL, 10) : 21;
     if (argc > 2 || samples < 1 || samples > MAX_SAMPLES) {
-        fprintf(stderr, "usage: benchmark [SAMPLES] | --growing | --finish | --logs | --convert | --names"
+        fprintf(stderr, "usage: benchmark [SAMPLES] | --growing | --logs | --convert | --names"
                         " | --one CASE library|simulator COUNT\n");
         return 2;
     }

@@ -24,16 +24,6 @@ struct bench_case {
 
 enum { CASES = 12 };
 
-/* Plans whose finish check takes long: each runs to its end, and of 64 tasks only few can run at a time. */
-enum { FINISH_CASES = 3 };
-struct finish_case {
-    const char *name;
-    const char *about;
-    void (*make)(struct draft *d);
-};
-
-extern const struct finish_case finish_cases[FINISH_CASES];
-
 /* The i-th case, made; NULL behind the last. */
 struct bench_case *case_at(unsigned i);
 

@@ -1,12 +1,10 @@
 #include "tool_times.h"
 
 #include <stdio.h>
-#include <string.h>
 
 #include "../include/mortarsedge.h"
 #include "cases.h"
 #include "sim_convert.h"
-#include "sim_finish.h"
 #include "sim_logs.h"
 #include "timing.h"
 
@@ -35,38 +33,6 @@ static int times_of(const char *name, uint64_t (*const tools[2])(void), uint64_t
         r[s] = timing_summary(samples[s], SAMPLES);
     printf("%-15s %10.0f %10.0f %10.0f %10.0f\n", name, r[0].best, r[0].median, r[1].best, r[1].median);
     return 0;
-}
-
-static const uint8_t *plan;
-static size_t plan_length;
-static uint8_t out[MORTARSEDGE_MAX_PLAN];
-
-static uint64_t library_finish(void)
-{
-    return mortarsedge_finish(plan, plan_length, out, sizeof out);
-}
-
-static uint64_t finish_in_c(void)
-{
-    return sim_finish(plan, plan_length, out, sizeof out);
-}
-
-/* Each plan runs to its end: the answer is `yes` and the number of its instructions. */
-int finish_times(void)
-{
-    static struct draft d;
-    static uint8_t bytes[DRAFT_BYTES];
-    uint64_t (*const tools[2])(void) = {library_finish, finish_in_c};
-    int wrong = 0;
-    print_head("the finish check of a plan of 64 tasks of 64 instructions");
-    for (int i = 0; i < FINISH_CASES; i++) {
-        char yes[16];
-        finish_cases[i].make(&d);
-        plan = bytes, plan_length = draft_write(&d, bytes);
-        int length = snprintf(yes, sizeof yes, "yes %u\n", bytes[2] + 256u * bytes[3]);
-        wrong |= times_of(finish_cases[i].name, tools, 256 * (uint64_t)length) || memcmp(out, yes, (size_t)length) != 0;
-    }
-    return wrong;
 }
 
 static uint8_t log_bytes[MORTARSEDGE_MAX_LOG];
@@ -99,6 +65,10 @@ int logs_times(void)
     fill_log(0);
     return wrong | times_of("one channel", tools, 0);
 }
+
+static const uint8_t *plan;
+static size_t plan_length;
+static uint8_t out[MORTARSEDGE_MAX_PLAN];
 
 static uint64_t library_convert(void)
 {

@@ -2,9 +2,6 @@
 #ifndef TOOL_TIMES_H
 #define TOOL_TIMES_H
 
-/* The finish check of plans that take long. */
-int finish_times(void);
-
 /* The check of two logs of 4,096 records. */
 int logs_times(void);
 

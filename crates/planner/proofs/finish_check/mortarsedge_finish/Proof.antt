@@ -3,6 +3,7 @@ use mathlib.Core.Path.{_∙_, ap}
 use Rattle.driver.specs.Runs.{packed}
 use Rattle.planner.proofs.Finished.{filled-few, finish-meets}
 use Prim.Native.Nat.{ℕ}
+use native.Mathlib.Omega.{arith}
 use borrow.Author.Needs.{needs}
 use Rattle.planner.proofs.finish_check.mortarsedge_finish.Statement.{statement}
 use Rattle.planner.proofs.finish_check.mortarsedge_finish.Tie as tie
@@ -14,7 +15,7 @@ run-number-requires : tie.Need-run-number-requires
 run-number-requires c κs = search needs
 
 packed-requires : tie.Need-packed-requires
-packed-requires c κs = (c .run-number .ensures .1, filled-few _ _ (c .before .before .before .finish-file .ensures))
+packed-requires c κs = (omega (arith, c .run-number .ensures .1), omega (arith, filled-few _ _ (c .before .before .before .finish-file .ensures)))
 
 same-length : tie.Need-same-length
 same-length c = search needs
