@@ -80,8 +80,8 @@ build/finish_vectors: bench/finish_vectors.c bench/sim_finish.c $(SIMULATOR) $(B
 build/finish: bench/finish.c bench/guarded.c bench/sim_finish.c $(GENERATOR) $(SIMULATOR) $(BENCH_HEADERS) $(ARCHIVE) | build
 	$(CCALL) -o $@ bench/finish.c bench/guarded.c bench/sim_finish.c $(GENERATOR) $(SIMULATOR) $(ARCHIVE)
 
-build/finish_times: bench/finish_times.c bench/sim_finish.c bench/draft.c $(SIMULATOR) $(BENCH_HEADERS) $(ARCHIVE) | build
-	$(CCALL) -o $@ bench/finish_times.c bench/sim_finish.c bench/draft.c $(SIMULATOR) $(ARCHIVE)
+build/finish_times: bench/finish_times.c bench/timing.c bench/sim_finish.c bench/draft.c $(SIMULATOR) $(BENCH_HEADERS) $(ARCHIVE) | build
+	$(CCALL) -o $@ bench/finish_times.c bench/timing.c bench/sim_finish.c bench/draft.c $(SIMULATOR) $(ARCHIVE)
 
 build/repeats_vectors: bench/repeats_vectors.c $(CONVERTER) $(SIMULATOR) $(BENCH_HEADERS) $(ARCHIVE) | build
 	$(CCALL) -DHELD=mortarsedge_convert -o $@ bench/repeats_vectors.c $(CONVERTER) $(SIMULATOR) $(ARCHIVE)

@@ -1,14 +1,13 @@
 /* finish_times: microseconds of the finish check, library and simulator by turns, on plans whose check takes long: each
  * runs to its end, and of 64 tasks only few can run at a time. */
-#define _POSIX_C_SOURCE 200809L
 #include <stdio.h>
 #include <stdlib.h>
 #include <string.h>
-#include <time.h>
 
 #include "../include/mortarsedge.h"
 #include "draft.h"
 #include "sim_finish.h"
+#include "timing.h"
 
 enum { SAMPLES = 101 };
 
@@ -75,13 +74,6 @@ static const struct {
     void (*make)(struct draft *d);
 } cases[3] = {{"relay", make_relay}, {"pairs", make_pairs}, {"rounds", make_rounds}};
 
-static double now(void)
-{
-    struct timespec t;
-    clock_gettime(CLOCK_MONOTONIC, &t);
-    return (double)t.tv_sec * 1e6 + (double)t.tv_nsec / 1e3;
-}
-
 typedef uint64_t check(const uint8_t *, size_t, uint8_t *, size_t);
 
 /* One check, which has to say yes to all instructions of the plan. */
@@ -90,20 +82,14 @@ static double sample(check *finish, const uint8_t *plan, size_t length)
     uint8_t out[MORTARSEDGE_FINISH_ENOUGH];
     char yes[32];
     size_t expected = (size_t)snprintf(yes, sizeof yes, "yes %u\n", (unsigned)sim_u16(plan + 2));
-    double start = now();
+    double start = timing_now();
     uint64_t answer = finish(plan, length, out, sizeof out);
-    double taken = now() - start;
+    double taken = (timing_now() - start) / 1000;
     if (answer != 256 * (uint64_t)expected || memcmp(out, yes, expected) != 0) {
         fprintf(stderr, "finish_times: a plan does not run to its end\n");
         exit(1);
     }
     return taken;
-}
-
-static int ascending(const void *a, const void *b)
-{
-    double x = *(const double *)a, y = *(const double *)b;
-    return (x > y) - (x < y);
 }
 
 int main(void)
@@ -122,8 +108,8 @@ int main(void)
                 samples[s][n] = sample(finish[s], plan, length);
         printf("%-8s %12u", cases[i].name, (unsigned)sim_u16(plan + 2));
         for (int s = 0; s < 2; s++) {
-            qsort(samples[s], SAMPLES, sizeof samples[s][0], ascending);
-            printf(" %10.0f %10.0f", samples[s][0], samples[s][SAMPLES / 2]);
+            struct result r = timing_summary(samples[s], SAMPLES);
+            printf(" %10.0f %10.0f", r.best, r.median);
         }
         printf("\n");
     }
