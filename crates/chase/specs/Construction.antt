@@ -6,9 +6,10 @@ use Rattle.base.specs.Range.{joined}
 use Rattle.plan.specs.declared.Instruction.{Instruction}
 use Rattle.plan.specs.Kinds.{opCreate, opFinish, opSend, opReceive}
 use Rattle.plan.specs.Programs.{Programs}
-use Rattle.plan.specs.Layout.{bytes16, layout}
+use Rattle.plan.specs.Layout.{layout}
 use Rattle.rules.specs.declared.step.Step.{Step}
 use Rattle.rules.specs.Steps.{runStep, deliverStep, moveStep}
+pub use Rattle.rules.specs.StepFiles.{stepBytes}
 
 -- an instruction that names no level
 abbrev pub instruction : ℕ → ℕ → Instruction
@@ -44,10 +45,7 @@ ending = deliverStep 1 ∷ runStep 2 ∷ deliverStep 1 ∷ deliverStep 1 ∷ del
 unfoldable pub chaseSteps : ℕ → List Step
 chaseSteps m = opening ++ (joined m round ++ ending)
 
--- "A step is 4 bytes: kind .., task, 16-bit number.", little-endian; and the file of a list of steps
-abbrev pub stepBytes : Step → List ℕ
-stepBytes s = s .kind ∷ s .task ∷ bytes16 (s .number)
-
+-- the file of a list of steps
 unfoldable pub stepFile : List Step → List ℕ
 stepFile [] = []
 stepFile (s ∷ ss) = stepBytes s ++ stepFile ss

@@ -9,6 +9,7 @@ use Rattle.base.specs.Lists.{table}
 use Rattle.plan.specs.declared.PlanAnswer.{PlanAnswer}
 use Rattle.plan.specs.declared.PlanAnswer.the-variants.{Accepted, Refused}
 use Rattle.plan.specs.Programs.{canonical}
+use Rattle.plan.specs.Layout.{bytes16}
 use Rattle.plan.specs.Files.{byteAt, word16, filePrograms, startAnswer}
 use Rattle.rules.specs.declared.step.Step.{Step}
 use Rattle.rules.specs.declared.step.RunAnswer.{RunAnswer}
@@ -19,7 +20,10 @@ use Rattle.rules.specs.Starts.{started}
 use Rattle.rules.specs.Steps.{steps}
 use Rattle.rules.specs.Trace.{stepLines, overLines, endLine, refusedLine}
 
--- "A step is 4 bytes: kind .., task, 16-bit number.": the step after the first k
+-- "A step is 4 bytes: kind .., task, 16-bit number.": the bytes of a step, and the step after the first k
+abbrev pub stepBytes : Step → List ℕ
+stepBytes s = s .kind ∷ s .task ∷ bytes16 (s .number)
+
 abbrev pub stepAt : List ℕ → ℕ → Step
 stepAt b k = record { kind = byteAt b (4 * k); task = byteAt b (4 * k + 1); number = word16 b (4 * k + 2) }
 
