@@ -4,15 +4,16 @@ use mathlib.Core.List.{List, [], _∷_}
 use Rattle.rules.specs.declared.message.Message.{Message}
 use Rattle.rules.specs.declared.message.Message.the-variants.{Advert, Migration}
 use Rattle.rules.specs.declared.rule.Received.the-variants.{Nothing}
-use Rattle.rules.specs.declared.step.StepAnswer.the-variants.{Accepted, FinishWithChildren}
+use Rattle.rules.specs.declared.step.StepAnswer.the-variants.{Accepted, BadSystem, NoProcessor, FinishWithChildren}
 use Rattle.rules.specs.declared.step.Report.{Report}
 use Rattle.rules.specs.declared.dispatch.Turn.the-variants.{Skipped, Made}
 use Rattle.rules.specs.declared.dispatch.Dispatched.{Dispatched}
 use Rattle.rules.specs.declared.system.System.{System}
 use Rattle.rules.specs.Numbers.{taskId, channelId}
+use Rattle.rules.specs.Systems.{withTasks, withChosen}
 use Rattle.rules.specs.Steps.{ruledSteps}
-use Rattle.rules.specs.Dispatch.{earliest, nextReady, ruledDispatch}
-use Rattle.rules.proofs.Scripts.{create, finish, run, deliver, move, startOn}
+use Rattle.rules.specs.Dispatch.{earliest, nextReady, ruledDispatch, dispatched}
+use Rattle.rules.proofs.Scripts.{create, finish, send, receive, run, deliver, move, startOn}
 use Rattle.rules.proofs.Sites.{processor}
 use Rattle.rules.proofs.Evaluated.{evaluated}
 
@@ -84,6 +85,18 @@ ready-arrived : ruledSteps moving (deliver 1 ∷ []) .system .tasks .ready ≡ 3
 unfolding evaluated
 ready-arrived = refl
 
+-- a receiver that waits is in no set; a direct pass readies it
+abbrev waiting : System
+waiting = ruledSteps (startOn 1 ((create 2 ∷ send 1 ∷ finish ∷ []) ∷ (receive 1 ∷ finish ∷ []) ∷ [])) (run 1 ∷ run 2 ∷ []) .system
+
+ready-waiting : waiting .tasks .ready ≡ 1 ∷ 0 ∷ 0 ∷ 0 ∷ 0 ∷ 0 ∷ []
+unfolding evaluated
+ready-waiting = refl
+
+ready-passed : ruledSteps waiting (run 1 ∷ []) .system .tasks .ready ≡ 3 ∷ 0 ∷ 0 ∷ 0 ∷ 0 ∷ 0 ∷ []
+unfolding evaluated
+ready-passed = refl
+
 -- a call at desk 1: no letter is for it; task 1 is chosen, and its run is refused, which uses the turn; the next call chooses task 2
 abbrev first : Dispatched
 first = ruledDispatch moving (processor 1)
@@ -124,3 +137,27 @@ arriving-chosen = refl
 idle : ruledDispatch start (processor 2) ≡ record { answer = Accepted; delivery = Skipped; run = Skipped; system = start }
 unfolding evaluated
 idle = refl
+
+-- "It refuses a rig by 9": task 2 is unborn, and desk 2's set has it; the last choice of desk 6 is above T. "then a desk outside the rig by 15": the
+-- second rig is called at a desk that it has not. "and changes nothing"
+abbrev otherSet : System
+otherSet = withTasks start (record { records = start .tasks .records; ready = 1 ∷ 2 ∷ 0 ∷ 0 ∷ 0 ∷ 0 ∷ [] })
+
+refused-set : dispatched otherSet (processor 1) ≡ record { answer = BadSystem; delivery = Skipped; run = Skipped; system = otherSet }
+unfolding evaluated
+refused-set = refl
+
+abbrev chosenAbove : System
+chosenAbove = withChosen start (0 ∷ 0 ∷ 0 ∷ 0 ∷ 0 ∷ 4 ∷ [])
+
+refused-choice : dispatched chosenAbove (processor 3) ≡ record { answer = BadSystem; delivery = Skipped; run = Skipped; system = chosenAbove }
+unfolding evaluated
+refused-choice = refl
+
+refused-desk-0 : dispatched start (processor 0) ≡ record { answer = NoProcessor; delivery = Skipped; run = Skipped; system = start }
+unfolding evaluated
+refused-desk-0 = refl
+
+refused-desk-3 : dispatched start (processor 3) ≡ record { answer = NoProcessor; delivery = Skipped; run = Skipped; system = start }
+unfolding evaluated
+refused-desk-3 = refl
