@@ -1,3 +1,4 @@
+-- `driver_view`: the tablet's record, and word, children and how many live.
 use borrow.Author.Needs.{needs}
 use Rattle.views.proofs.driver_view.Statement.{statement}
 use Rattle.views.proofs.driver_view.Tie as tie

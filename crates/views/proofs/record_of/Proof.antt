@@ -1,3 +1,4 @@
+-- `record_of`: a task of the table.
 use mathlib.Core.Path.{sym}
 use borrow.Author.Needs.{needs}
 use Rattle.views.proofs.record_of.Statement.{statement}

@@ -1,3 +1,4 @@
+-- `tablet` tests 9 and 10, then shows the record.
 use mathlib.Core.Path.{_≡_, sym, _∙_}
 use mathlib.Core.Bool.{true, false}
 use borrow.Author.Tests.{not-true, not-false}
