@@ -24,7 +24,7 @@ DRIVER = driver/driver.c driver/file.c driver/logs.c
 SIMULATOR = bench/simulator.c bench/sim_plan.c bench/sim_start.c bench/sim_step.c bench/sim_call.c \
     bench/sim_run.c bench/sim_deliver.c bench/sim_move.c
 GENERATOR = bench/generate.c bench/damage.c bench/make_plan.c bench/make_steps.c bench/draft.c
-BENCHMARK = bench/benchmark.c bench/timing.c bench/tool_times.c bench/sim_logs.c bench/sim_convert.c bench/cases.c \
+BENCHMARK = bench/benchmark.c bench/timing.c bench/tool_times.c bench/call_times.c bench/sim_logs.c bench/sim_convert.c bench/cases.c \
     bench/make_plan.c bench/make_steps.c bench/draft.c
 CONVERTER = bench/converter.c bench/guarded.c bench/sim_convert.c
 REPEATS = bench/repeats.c bench/make_repeats.c bench/rounds.c bench/damage.c bench/make_plan.c bench/draft.c
@@ -144,6 +144,7 @@ bench: build/benchmark build/finish_times
 	build/finish_times
 	build/benchmark --logs
 	build/benchmark --convert
+	build/benchmark --calls
 
 instructions: build/benchmark
 	bench/instructions.sh build/benchmark

@@ -4,6 +4,7 @@
  * benchmark --growing: the library on files that grow by one step at a time.
  * benchmark --logs: the check of two logs of 4,096 records, and that in C.
  * benchmark --convert: the conversion of the largest plans, and that in C.
+ * benchmark --calls: the steps that dispatchers choose, beside a run of them, and those in C.
  * benchmark --names: the cases. */
 #include <stdio.h>
 #include <stdlib.h>
@@ -177,11 +178,13 @@ int main(int argc, char **argv)
         return logs_times();
     if (argc == 2 && strcmp(argv[1], "--convert") == 0)
         return convert_times();
+    if (argc == 2 && strcmp(argv[1], "--calls") == 0)
+        return calls_times();
     if (argc == 2 && strcmp(argv[1], "--names") == 0)
         return names();
     long samples = argc == 2 ? strtol(argv[1], NULL, 10) : 21;
     if (argc > 2 || samples < 1 || samples > MAX_SAMPLES) {
-        fprintf(stderr, "usage: benchmark [SAMPLES] | --growing | --logs | --convert | --names"
+        fprintf(stderr, "usage: benchmark [SAMPLES] | --growing | --logs | --convert | --calls | --names"
                         " | --one CASE library|simulator COUNT\n");
         return 2;
     }

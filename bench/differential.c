@@ -108,6 +108,19 @@ static void compare_plan_check(void)
                     sim_plan_check(trial.g.desks, trial.plan, trial.g.plan_length));
 }
 
+/* The steps that dispatchers choose, in an output of so many bytes. */
+static void compare_choice(size_t length)
+{
+    static uint8_t library[MORTARSEDGE_MAX_STEP_FILE + MARGIN], simulator[MORTARSEDGE_MAX_STEP_FILE + MARGIN];
+    memset(library, 0xc5, sizeof library);
+    memset(simulator, 0xc5, sizeof simulator);
+    compare_answers("the answers of choices differ",
+                    mortarsedge_choose(trial.g.desks, trial.plan, trial.g.plan_length, library, length),
+                    sim_choose(trial.g.desks, trial.plan, trial.g.plan_length, simulator, length));
+    if (memcmp(library, simulator, sizeof library) != 0)
+        differ("the chosen steps differ");
+}
+
 /* An output in its memory, with the margins that fit there. */
 struct lent {
     uint8_t *out;
@@ -192,6 +205,8 @@ static void one_trial(struct tally *tally)
     trial.plan = guarded_lend(&plan_memory, trial.g.plan, trial.g.plan_length);
     trial.steps = guarded_lend(&steps_memory, trial.g.steps, trial.g.steps_length);
     compare_plan_check();
+    compare_choice(MORTARSEDGE_MAX_STEP_FILE + MARGIN);
+    compare_choice((size_t)(trial.index % 90));
     uint64_t answer = compare_run(ENOUGH, false, tally);
     size_t filled = mortarsedge_filled(answer);
     tally->runs++;

@@ -1,5 +1,8 @@
 /* The dispatcher of a desk. No set is kept: the ready tasks are looked for. */
+#include <string.h>
+
 #include "sim_shared.h"
+#include "simulator.h"
 
 uint64_t sim_ready(const struct sim_rig *rig, uint32_t d)
 {
@@ -53,4 +56,24 @@ uint32_t sim_call(struct sim_rig *rig, uint32_t d, struct sim_made made[2], uint
         make_step(rig, &made[(*count)++], 1, t, 0);
     }
     return 0;
+}
+
+uint64_t sim_choose(uint32_t desks, const uint8_t *plan, size_t plan_length, uint8_t *steps, size_t steps_length)
+{
+    struct sim_rig rig;
+    struct sim_made made[2];
+    size_t filled = 0, room = steps_length < 4 * MAX_STEPS ? steps_length : 4 * MAX_STEPS;
+    uint32_t count, d = 0, number = sim_start(&rig, desks, plan, plan_length);
+    if (number != 0)
+        return number;
+    while (!sim_at_rest(&rig)) {
+        d = d < desks ? d + 1 : 1;
+        sim_call(&rig, d, made, &count);
+        for (uint32_t i = 0; i < count; i++, filled += 4) {
+            if (room - filled < 4)
+                return 20 + 256 * (uint64_t)filled;
+            memcpy(steps + filled, made[i].step, 4);
+        }
+    }
+    return 256 * (uint64_t)filled;
 }

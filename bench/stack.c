@@ -39,6 +39,11 @@ static void call_finish(void)
     mortarsedge_finish(plan, plan_length, out, sizeof out);
 }
 
+static void call_choose(void)
+{
+    mortarsedge_choose(desks, plan, plan_length, out, sizeof out);
+}
+
 static void call_logs(void)
 {
     static uint8_t log[MORTARSEDGE_MAX_LOG];
@@ -70,7 +75,7 @@ static size_t depth(void (*call)(void))
 
 /* The deepest of each call so far. */
 struct depths {
-    size_t check, run, finish, logs, convert;
+    size_t check, run, choose, finish, logs, convert;
 };
 
 static void deepen(size_t *deepest, void (*call)(void))
@@ -85,6 +90,7 @@ static void deepen_all(struct depths *d)
 {
     deepen(&d->check, call_plan_check);
     deepen(&d->run, call_run);
+    deepen(&d->choose, call_choose);
     deepen(&d->finish, call_finish);
     deepen(&d->convert, call_convert);
 }
@@ -120,7 +126,7 @@ static int within(const char *name, size_t measured, size_t promised)
 
 int main(int argc, char **argv)
 {
-    struct depths d = {0, 0, 0, 0, 0};
+    struct depths d = {0, 0, 0, 0, 0, 0};
     if (argc != 3) {
         fprintf(stderr, "usage: stack SEED COUNT\n");
         return 2;
@@ -131,6 +137,7 @@ int main(int argc, char **argv)
     deepen(&d.logs, call_logs);
     int holds = within("plan check", d.check, MORTARSEDGE_PLAN_CHECK_STACK);
     holds &= within("run", d.run, MORTARSEDGE_RUN_STACK);
+    holds &= within("choose", d.choose, MORTARSEDGE_CHOOSE_STACK);
     holds &= within("finish", d.finish, MORTARSEDGE_FINISH_STACK);
     holds &= within("logs", d.logs, MORTARSEDGE_LOGS_STACK);
     holds &= within("convert", d.convert, MORTARSEDGE_CONVERT_STACK);

@@ -8,4 +8,7 @@ int logs_times(void);
 /* The conversion of the largest plans: one without a repeat, and one that repeats make the largest. */
 int convert_times(void);
 
+/* The steps that dispatchers choose, beside a run of them: plans of the cases, on one desk and on six. */
+int calls_times(void);
+
 #endif

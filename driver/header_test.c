@@ -57,6 +57,23 @@ static void calls_link(void)
     expect(answer == MORTARSEDGE_BAD_STEP_FILE, "run: 8");
 }
 
+/* The steps that dispatchers choose for a plan of one finish: a run of task 1. */
+static void steps_are_chosen(void)
+{
+    static const uint8_t plan[12] = {1, 0, 1, 0, 8, 0, 1, 0, MORTARSEDGE_INSTRUCTION_FINISH, 0, 0, 0};
+    static const uint8_t run[4] = {MORTARSEDGE_STEP_RUN, 1, 0, 0};
+    uint8_t steps[5] = {9, 9, 9, 9, 9}, out[16];
+    expect(mortarsedge_choose(7, plan, sizeof plan, steps, sizeof steps) == MORTARSEDGE_BAD_DESKS, "choose: 1");
+    expect(mortarsedge_choose(1, plan, 3, steps, sizeof steps) == MORTARSEDGE_BAD_LAYOUT, "choose: 2");
+    expect(mortarsedge_choose(1, plan, sizeof plan, steps, 3) == MORTARSEDGE_OUTPUT_SHORT, "choose: 20");
+    expect(steps[0] == 9 && steps[4] == 9, "choose: refused, and steps are written");
+    uint64_t answer = mortarsedge_choose(6, plan, sizeof plan, steps, sizeof steps);
+    expect(mortarsedge_number(answer) == 0 && mortarsedge_filled(answer) == 4, "choose: 0");
+    expect(memcmp(steps, run, sizeof run) == 0 && steps[4] == 9, "choose: the steps");
+    answer = mortarsedge_run(6, plan, sizeof plan, steps, mortarsedge_filled(answer), out, sizeof out);
+    expect(answer == 256 * 12 && memcmp(out, "1 0\nend 1 0\n", 12) == 0, "choose: the run of the steps");
+}
+
 /* Two logs: each answer, the records put by the header. */
 static void logs_are_held(void)
 {
@@ -445,6 +462,7 @@ int main(void)
     texts_differ();
     sizes_are_right();
     calls_link();
+    steps_are_chosen();
     logs_are_held();
     repeats_are_converted();
     steps_are_put();

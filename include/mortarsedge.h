@@ -1,7 +1,7 @@
 /* Mortarsedge: the proved core of a moving rig, for a C driver.
  *
- * Link with libmortarsedge.a. Its functions, plan check, run, the finish check, convert
- * and the check of two logs, take numbers and bytes, keep nothing between calls, and may
+ * Link with libmortarsedge.a. Its functions, plan check, run, choose, the finish check,
+ * convert and the check of two logs, take numbers and bytes, keep nothing between calls, and may
  * be called from several threads at once. Each returns for every input; none allocates,
  * reads or writes anything else. Everything else in this header is C for a driver's
  * convenience: names for the numbers, and inline functions, which no proof covers.
@@ -69,6 +69,7 @@ enum {
     /* Stack for a call, with some to spare: make ctest measures what is needed. */
     MORTARSEDGE_PLAN_CHECK_STACK = 16 * 1024,
     MORTARSEDGE_RUN_STACK = 128 * 1024,
+    MORTARSEDGE_CHOOSE_STACK = 128 * 1024,
     MORTARSEDGE_FINISH_STACK = 128 * 1024,
     MORTARSEDGE_LOGS_STACK = 64 * 1024,
     MORTARSEDGE_CONVERT_STACK = 128 * 1024
@@ -187,6 +188,31 @@ uint64_t mortarsedge_run(uint32_t desks, const uint8_t *plan, size_t plan_length
                          const uint8_t *steps, size_t steps_length,
                          uint8_t *out, size_t out_length);
 
+/* Chooses steps: calls the dispatchers of desks 1 to n in turn, round by round, from
+ * the start of a plan until the rig is at rest, and writes the steps that they choose
+ * as a step file. A call delivers the earliest letter for its desk, if there is one,
+ * and then runs the next ready task there, if there is one.
+ *
+ * The caller supplies
+ *   desks   any number;
+ *   plan    plan_length readable bytes, any bytes, which nobody writes meanwhile;
+ *   steps   steps_length bytes that may be read and written, which nobody else
+ *           reads or writes meanwhile, and which do not overlap plan;
+ *   stack   MORTARSEDGE_CHOOSE_STACK bytes.
+ *
+ * The answer holds a number and how many bytes of steps are filled: take it
+ * apart by mortarsedge_number and mortarsedge_filled.
+ *
+ *   0        steps begins with all steps, behind which the rig is at rest
+ *   1 to 6   the plan file is refused, as by plan check; steps is untouched, filled is 0
+ *   20       the steps do not fit, or are more than 2,000: steps begins with the
+ *            longest beginning of whole steps that fits, at most 2,000 of them
+ *
+ * Bytes behind the last step are unchanged. The filled bytes are a step file that
+ * mortarsedge_run takes. More than MORTARSEDGE_MAX_STEP_FILE bytes are never filled. */
+uint64_t mortarsedge_choose(uint32_t desks, const uint8_t *plan, size_t plan_length,
+                            uint8_t *steps, size_t steps_length);
+
 /* Will this plan finish? Runs a plan on one desk to rest, and writes what is then to be
  * said of it.
  *
@@ -272,7 +298,7 @@ static inline uint32_t mortarsedge_number(uint64_t answer)
     return (uint32_t)(answer % 256);
 }
 
-/* How many bytes of the output hold lines, or the written-out plan. */
+/* How many bytes of the output hold lines, steps, or the written-out plan. */
 static inline size_t mortarsedge_filled(uint64_t answer)
 {
     return (size_t)(answer / 256);

@@ -1,5 +1,7 @@
-// The dispatcher of a desk: one call, over any rig.
+// The dispatcher of a desk: one call, over any rig; and calls at the desks in turn, from the start of a plan.
 
+// The steps that calls at the desks in turn choose.
+pub mod choose;
 // Which letter a call delivers.
 mod mail;
 // Whether a rig is at rest.

@@ -2,12 +2,7 @@
 // rest, on the plan in the file `rig.plan` and the number of desks that stands as one digit on standard input. It writes the steps
 // that they chose as the file `rig.steps` and prints the trace, or `refused` and the number.
 
-// The calls, and the steps that they chose.
-mod calls;
-
 ghost use Rattle.io.specs.Counts.{Counts};
-use calls::Chosen;
-use calls::choose;
 use libc::STDIN_FILENO;
 use libc::STDOUT_FILENO;
 
@@ -89,29 +84,31 @@ fn keep_first<'a>(n: u8, plan: &'a [u8], steps: &'a [u8], size: usize) {
     trace(n, plan, &steps[..size]);
 }
 
-// The chosen steps are kept and traced; and it is said where there were more.
-fn keep<'a>(n: u8, plan: &'a [u8], steps: &'a [u8; 8000], c: Chosen) {
-    keep_first(n, plan, steps, c.size);
-    if c.more {
-        io::write_all(STDOUT_FILENO, b"more than 2000 steps: rig.steps has the first 2000\n");
-    }
+// Says that the step file has not all steps.
+fn say_more() {
+    io::write_all(
+        STDOUT_FILENO,
+        b"more than 2000 steps: rig.steps has the first 2000\n",
+    );
 }
 
-// Of a plan file that can be started the steps are chosen.
-fn call_desks(n: u8, plan: &[u8]) {
-    let mut steps = [0u8; 8000];
-    let c = choose(n, plan, &mut steps);
-    keep(n, plan, &steps, c);
-}
-
-// Only a plan file that can be started changes the step file.
+// The steps are chosen, kept and traced, and it is said where there were more. Only a plan file that can be started changes the step
+// file.
 fn dispatch_plan(n: u8, plan: &[u8]) {
-    let number = driver::mortarsedge_plan_check(n as u32, plan);
-    if number != 0 {
-        print_refusal(number as u64);
+    let mut steps = [0u8; 8000];
+    let answer = driver::choice::mortarsedge_choose(n as u32, plan, &mut steps);
+    let number = answer % 256;
+    let size = (answer / 256) as usize;
+    if number == 0 {
+        keep_first(n, plan, &steps, size);
         return;
     }
-    call_desks(n, plan);
+    if number == 20 {
+        keep_first(n, plan, &steps, size);
+        say_more();
+        return;
+    }
+    print_refusal(number);
 }
 
 fn main() {

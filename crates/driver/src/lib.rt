@@ -1,5 +1,7 @@
 // What the C driver calls: numbers and byte slices in, a number out.
 
+// The steps that dispatchers choose.
+pub mod choice;
 // The check of two logs.
 pub mod log_files;
 

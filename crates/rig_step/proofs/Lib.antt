@@ -1,5 +1,5 @@
 -- The laws of one step, and of a rig on a board.
 pub mod Parts
 mod Agreeing
-mod Boards
+pub mod Boards
 mod Reports

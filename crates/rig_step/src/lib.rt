@@ -1,5 +1,7 @@
 // One step of any rig: 9 is tested, the rig is packed, the step is decided and carried out as a run of one step.
 
+// The four bytes of a step.
+pub mod bytes;
 // A rig put on a board, and back.
 mod pack;
 // The run of one step.

@@ -1,12 +1,11 @@
 // One step on the parts of a rig that 9 does not refuse: what it says is decided, and it is carried out as a run of one step.
-ghost use mathlib.Core.List.{_∷_, []};
 ghost use mathlib.Core.Path.{_≡_};
-ghost use Rattle.rules.specs.StepFiles.{fileSteps};
 ghost use Rattle.rig_parts.specs.Facts.{facts};
 ghost use Rattle.rig_parts.specs.Turns.{Rig, turnOf};
 ghost use Rattle.board.specs.Lent.{lent};
 ghost use Rattle.board.specs.Rigs.{factsIn};
 ghost use Rattle.rig_step.specs.Rigs.{RigWith, saidOf};
+use crate::bytes::step_bytes;
 use crate::pack::channels_on;
 use crate::pack::parents_on;
 use crate::pack::put_channels;
@@ -28,18 +27,6 @@ use rules::system::TaskTable;
 use run::all_steps::run_steps;
 use steps::message::message_decided;
 use steps::step_decided;
-
-// A step as the four bytes of a step file.
-fn step_bytes(s: Step) -> [u8; 4]
-    ensures { λ r. ⌜ fileSteps r ≡ s ∷ [] ⌝ }
-{
-    [
-        s.kind,
-        s.task,
-        (s.number % 256) as u8,
-        (s.number / 256) as u8,
-    ]
-}
 
 // What a step would say, with this mail.
 fn decided<'a>(

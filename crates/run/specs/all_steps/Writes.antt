@@ -15,7 +15,7 @@ use Rattle.rules.specs.Trace.{stepLines}
 use Rattle.rules.specs.StepFiles.{text, fitting, fileSteps}
 use Rattle.rig_parts.specs.Facts.{Facts}
 use Rattle.rig_parts.specs.Turns.{turnOf}
-use Rattle.board.specs.Lent.{Lent, tasksOf, keptOf}
+use Rattle.board.specs.Lent.{Lent, Whole, tasksOf, keptOf}
 
 -- as many whole lines as fit: how many bytes are filled, whether all fit, and the output then
 pub record Written (lines : List (List ℕ)) (before : List ℕ) (filled : ℕ) (whole : Bool) (after : List ℕ) : Type 0 where
@@ -70,7 +70,7 @@ pub record RanTo (h : Turns) (before : List ℕ) (ts : TaskTable) (k : Network) 
   pub network : k ≡ h .network
   pub kept : s ≡ h .kept
 
--- the same of the steps of a file, with what is lent before and after them
+-- the same of the steps of a file, with what is lent before and after them; the board has all its numbers
 abbrev pub RanOn : Facts → ℕ → Lent → Network → List ℕ → List ℕ → Lent → Network → List ℕ → List ℕ → Type 0
 RanOn f n l k steps before l' k' progress after =
-    RanTo (turnsOf f n (tasksOf l) k (keptOf l) (fileSteps steps)) before (tasksOf l') k' (keptOf l') progress after
+    RanTo (turnsOf f n (tasksOf l) k (keptOf l) (fileSteps steps)) before (tasksOf l') k' (keptOf l') progress after × Whole (l' .board)

@@ -112,7 +112,7 @@ returns c =
     _
     (said p .decided .ensures)
     (bytes p .step-bytes .ensures)
-    (ran .run-steps .ensures)
+    (ran .run-steps .ensures .0)
     (tasks-from .tasks-on .ensures)
     (channels-from .channels-on .ensures)
     (c .parents-on .ensures)

@@ -374,7 +374,7 @@ returns c =
     let start = begun at-loop in
     let g = at-loop .loop .inv .2 in
     let all : at-loop .loop .k ≡ length (start .args .steps .now) / 4 = omega (arith, c .loop-test .left, at-loop .loop .inv .0) in
-    rw (← all) (going-done _ _ _ _ _ _ g)
+    (rw (← all) (going-done _ _ _ _ _ _ g), at-loop .loop .inv .1)
 
 pub run-steps-spec : {M : Type 1} → statement M
 run-steps-spec =

@@ -108,19 +108,19 @@ emit-marks-requires : tie.Need-emit-marks-requires
 emit-marks-requires c κs =
     let after-run-steps = c .before .before .before .before .before in
     let g = known (with-no-messages after-run-steps) in
-    let h = after-run-steps .run-steps .ensures in
+    let h = after-run-steps .run-steps .ensures .0 in
     (count-few (ran-rig g _ h .parts), h .two, written-room (h .lines))
 
 at-rest-requires : tie.Need-at-rest-requires
 at-rest-requires c κs =
     let after-run-steps = ran (c .before .before .before) in
-    placed (ran-rig (known (with-no-messages after-run-steps)) _ (after-run-steps .run-steps .ensures) .parts)
+    placed (ran-rig (known (with-no-messages after-run-steps)) _ (after-run-steps .run-steps .ensures .0) .parts)
 
 emit-last-requires : tie.Need-emit-last-requires
 emit-last-requires c κs =
     let after-emit-marks = marked (c .before .before) in
     let after-run-steps = ran after-emit-marks in
-    let h = after-run-steps .run-steps .ensures in
+    let h = after-run-steps .run-steps .ensures .0 in
     let lines = after-emit-marks .emit-marks .ensures in
     (rig-messages (ran-rig (known (with-no-messages after-run-steps)) _ h), lines .long ∙ h .two, lines .room (written-room (h .lines)))
 
@@ -140,7 +140,7 @@ returns c p b =
     let after-emit-marks = marked after-at-rest in
     let after-run-steps = ran after-emit-marks in
     let g = rig (with-no-messages after-run-steps) b in
-    let h = after-run-steps .run-steps .ensures in
+    let h = after-run-steps .run-steps .ensures .0 in
     driven g _ h _ (after-at-rest .at-rest .ensures ∙ sym (rest-quiet (ran-rig g _ h .parts))) (after-emit-marks .emit-marks .ensures) (after-emit-last .emit-last .ensures)
 
 pub drive-spec : {M : Type 1} → statement M

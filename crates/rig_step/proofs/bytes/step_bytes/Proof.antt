@@ -6,8 +6,8 @@ use native.Mathlib.Omega.{arith}
 use Rattle.rules.specs.StepFiles.{fileSteps}
 use Rattle.base.specs.Lists.{table, tableBefore}
 use borrow.Author.Needs.{needs}
-use Rattle.rig_step.proofs.turn.step_bytes.Statement.{statement}
-use Rattle.rig_step.proofs.turn.step_bytes.Tie as tie
+use Rattle.rig_step.proofs.bytes.step_bytes.Statement.{statement}
+use Rattle.rig_step.proofs.bytes.step_bytes.Tie as tie
 
 cast-t3 : tie.Need-cast-t3
 cast-t3 c = search needs
