@@ -2,7 +2,7 @@
 use mathlib.Core.Path.{_≡_}
 use mathlib.Core.Bool.{Bool, _&&_}
 use mathlib.Core.List.{List, [], _∷_, _++_, map}
-use Prim.Native.Nat.{ℕ, zero, suc, _+_, _%_, _/_}
+use Prim.Native.Nat.{ℕ, zero, suc, _+_}
 use lib.Dec.{leb, ltb}
 use lib.ListN.{length, drop}
 use Rattle.base.specs.Choice.{pick}
@@ -17,10 +17,7 @@ use Rattle.rules.specs.Numbers.{processorId}
 use Rattle.rules.specs.Steps.{quiescent}
 use Rattle.rules.specs.Dispatch.{dispatched, stepOf}
 use Rattle.rules.specs.StepFiles.{startOf, text, writtenAfter}
-
--- "A step is 4 bytes: kind .., task, 16-bit number."
-abbrev pub stepBytes : Step → List ℕ
-stepBytes s = s .kind ∷ s .task ∷ (s .number % 256) ∷ (s .number / 256) ∷ []
+pub use Rattle.rules.specs.StepFiles.{stepBytes}
 
 -- the desk after d of n desks, round again
 abbrev pub deskAfter : ℕ → ℕ → ℕ

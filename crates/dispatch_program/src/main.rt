@@ -96,7 +96,7 @@ fn say_more() {
 // file.
 fn dispatch_plan(n: u8, plan: &[u8]) {
     let mut steps = [0u8; 8000];
-    let answer = driver::choice::mortarsedge_choose(n as u32, plan, &mut steps);
+    let answer = chooser::choice::mortarsedge_choose(n as u32, plan, &mut steps);
     let number = answer % 256;
     let size = (answer / 256) as usize;
     if number == 0 {

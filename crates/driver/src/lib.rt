@@ -1,7 +1,5 @@
 // What the C driver calls: numbers and byte slices in, a number out.
 
-// The steps that dispatchers choose.
-pub mod choice;
 // The check of two logs.
 pub mod log_files;
 

@@ -4,9 +4,9 @@ use native.Mathlib.Omega.{arith}
 use borrow.Author.Needs.{needs}
 use Rattle.rules.specs.Answers.{runNumber}
 use Rattle.dispatch.proofs.Outcomes.{choose-few}
 use Rattle.driver.specs.Runs.{packed}
-use Rattle.driver.proofs.choice.mortarsedge_choose.Statement.{statement}
-use Rattle.driver.proofs.choice.mortarsedge_choose.Tie as tie
+use Rattle.chooser.proofs.choice.mortarsedge_choose.Statement.{statement}
+use Rattle.chooser.proofs.choice.mortarsedge_choose.Tie as tie
 
 choose-file-requires : tie.Need-choose-file-requires
 choose-file-requires c κs = search needs

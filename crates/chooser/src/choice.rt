@@ -1,7 +1,7 @@
-// The steps that dispatchers choose, for the C driver.
-ghost use Rattle.driver.specs.Choices.{ChooseMeets};
-use super::packed;
-use super::run_number;
+// The steps that dispatchers choose, as a C program calls it.
+ghost use Rattle.chooser.specs.Choices.{ChooseMeets};
+use driver::packed;
+use driver::run_number;
 use dispatch::choose::file::choose_file;
 
 // Choose: the dispatchers of the desks are called in turn from the start of a plan file until the rig is at rest, and the steps that
