@@ -1,8 +1,8 @@
 // The steps that dispatchers choose, as a C program calls it.
 ghost use Rattle.chooser.specs.Choices.{ChooseMeets};
+use dispatch::choose::file::choose_file;
 use driver::packed;
 use driver::run_number;
-use dispatch::choose::file::choose_file;
 
 // Choose: the dispatchers of the desks are called in turn from the start of a plan file until the rig is at rest, and the steps that
 // they choose are written into the lent output as a step file. The number of the answer, and 256 times the number of bytes that are

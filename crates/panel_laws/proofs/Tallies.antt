@@ -133,8 +133,8 @@ pub length-panel : (m n : ℕ) → length (panelSteps m n) ≡ m + 256 + m * n
 unfolding panelSteps
 length-panel m n =
     let all : length (moves m n) ≡ m * n =
-        length-joined m (λ t. movesOf (suc t) n)
-        ∙ fold-same _+_ 0 m (λ t. length (movesOf (suc t) n)) (λ t. n) (λ t l. length-table n (λ d. moveStep (suc t) (suc d)))
-        ∙ sum-const n m
-        ∙ mul-comm n m in
+    length-joined m (λ t. movesOf (suc t) n)
+    ∙ fold-same _+_ 0 m (λ t. length (movesOf (suc t) n)) (λ t. n) (λ t l. length-table n (λ d. moveStep (suc t) (suc d)))
+    ∙ sum-const n m
+    ∙ mul-comm n m in
     simp (length-append, length-table, all) (omega arith)
