@@ -38,6 +38,7 @@ static void sizes_are_right(void)
     expect(strlen("yes 4096\n") == MORTARSEDGE_MAX_FINISH_LINE, "longest first line of a finish check");
     expect(strlen("63 64\n") == MORTARSEDGE_MAX_STUCK_LINE, "longest line of a stuck task");
     expect(MORTARSEDGE_FINISH_ENOUGH == 393, "enough output of a finish check");
+    expect(MORTARSEDGE_MAX_CHASE == 6044, "longest chase");
 }
 
 /* A plan of one finish, and an empty step file. */
@@ -147,6 +148,33 @@ static void repeats_are_converted(void)
     expect(mortarsedge_plan_check(1, repeating_plan, sizeof repeating_plan) == MORTARSEDGE_BAD_INSTRUCTION,
            "a repeat in the present edition");
     expect(mortarsedge_plan_check(1, out, 32) == MORTARSEDGE_ACCEPTED, "the written-out plan is accepted");
+}
+
+/* A chase: each answer, an output of just its length, and the run of what is written. */
+static void chases_are_written(void)
+{
+    uint8_t plan[33], steps[MORTARSEDGE_MAX_CHASE + 1], zeros[MORTARSEDGE_MAX_CHASE + 1] = {0};
+    static uint8_t out[MORTARSEDGE_OUTPUT_ENOUGH];
+    for (uint32_t m = 0; m <= MORTARSEDGE_MAX_FORWARDS; m++) {
+        size_t length = 12 * (size_t)m + 44;
+        memset(plan, 0xa5, sizeof plan);
+        memset(steps, 0xa5, sizeof steps);
+        uint64_t answer = mortarsedge_chase(m, plan, 32, steps, length);
+        expect(mortarsedge_number(answer) == 0 && mortarsedge_filled(answer) == length, "chase: 0");
+        expect(plan[32] == 0xa5 && steps[length] == 0xa5, "chase: bytes behind");
+        answer = mortarsedge_run(3, plan, 32, steps, length, out, sizeof out);
+        size_t filled = mortarsedge_filled(answer);
+        expect(mortarsedge_number(answer) == 0, "chase: the run");
+        expect(filled >= 8 && memcmp(out + filled - 8, "end 1 0\n", 8) == 0, "chase: at rest");
+    }
+    memset(plan, 0, sizeof plan);
+    memset(steps, 0, sizeof steps);
+    expect(mortarsedge_chase(501, plan, 32, steps, sizeof steps) == MORTARSEDGE_TOO_MANY_FORWARDS, "chase: 26");
+    expect(mortarsedge_chase(501, NULL, 0, NULL, 0) == MORTARSEDGE_TOO_MANY_FORWARDS, "chase: 26 before 20");
+    expect(mortarsedge_chase(4294967295u, plan, 32, steps, sizeof steps) == MORTARSEDGE_TOO_MANY_FORWARDS, "chase: 26, the largest");
+    expect(mortarsedge_chase(7, plan, 31, steps, sizeof steps) == MORTARSEDGE_OUTPUT_SHORT, "chase: 20 of the plan");
+    expect(mortarsedge_chase(7, plan, 32, steps, 127) == MORTARSEDGE_OUTPUT_SHORT, "chase: 20 of the steps");
+    expect(memcmp(plan, zeros, sizeof plan) == 0 && memcmp(steps, zeros, sizeof steps) == 0, "chase: outputs untouched");
 }
 
 /* Whether a step is put as these bytes, and no byte around them is written. */
@@ -465,6 +493,7 @@ int main(void)
     steps_are_chosen();
     logs_are_held();
     repeats_are_converted();
+    chases_are_written();
     steps_are_put();
     lines_are_taken();
     others_are_told();

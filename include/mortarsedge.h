@@ -1,7 +1,7 @@
 /* Mortarsedge: the proved core of a moving rig, for a C driver.
  *
  * Link with libmortarsedge.a. Its functions, plan check, run, choose, the finish check,
- * convert and the check of two logs, take numbers and bytes, keep nothing between calls, and may
+ * convert, chase and the check of two logs, take numbers and bytes, keep nothing between calls, and may
  * be called from several threads at once. Each returns for every input; none allocates,
  * reads or writes anything else. Everything else in this header is C for a driver's
  * convenience: names for the numbers, and inline functions, which no proof covers.
@@ -66,13 +66,18 @@ enum {
     MORTARSEDGE_MAX_LOG_RECORDS = 4096,
     /* The longest log that is accepted. */
     MORTARSEDGE_MAX_LOG = MORTARSEDGE_LOG_RECORD * MORTARSEDGE_MAX_LOG_RECORDS,
+    /* The plan of a chase, and the steps of the longest one: 3 for each of 500 forwards, and 11 more. */
+    MORTARSEDGE_CHASE_PLAN = 32,
+    MORTARSEDGE_MAX_FORWARDS = 500,
+    MORTARSEDGE_MAX_CHASE = MORTARSEDGE_STEP_BYTES * (3 * MORTARSEDGE_MAX_FORWARDS + 11),
     /* Stack for a call, with some to spare: make ctest measures what is needed. */
     MORTARSEDGE_PLAN_CHECK_STACK = 16 * 1024,
     MORTARSEDGE_RUN_STACK = 128 * 1024,
     MORTARSEDGE_CHOOSE_STACK = 128 * 1024,
     MORTARSEDGE_FINISH_STACK = 128 * 1024,
     MORTARSEDGE_LOGS_STACK = 64 * 1024,
-    MORTARSEDGE_CONVERT_STACK = 128 * 1024
+    MORTARSEDGE_CONVERT_STACK = 128 * 1024,
+    MORTARSEDGE_CHASE_STACK = 16 * 1024
 };
 
 /* The kinds of an instruction, 4 bytes of a plan file: kind, a second byte, and an
@@ -137,7 +142,9 @@ enum mortarsedge_answer {
     MORTARSEDGE_TOO_LONG = 23,        /* a task over 64 instructions when written out */
     /* Of two logs. */
     MORTARSEDGE_BAD_LOG_LENGTH = 24, /* length no multiple of 10, or over 4,096 records */
-    MORTARSEDGE_BAD_LOG_RECORD = 25  /* a channel outside 1 to 128 */
+    MORTARSEDGE_BAD_LOG_RECORD = 25, /* a channel outside 1 to 128 */
+    /* Of a chase. */
+    MORTARSEDGE_TOO_MANY_FORWARDS = 26 /* more than 500 */
 };
 
 /* May this plan file be started on so many desks?
@@ -291,8 +298,32 @@ uint64_t mortarsedge_logs(const uint8_t *sent, size_t sent_length,
  * 20 is never answered. */
 uint64_t mortarsedge_convert(const uint8_t *plan, size_t plan_length, uint8_t *out, size_t out_length);
 
-/* The number in the answer of a run or a finish check, 0 to 6, 8 or 20, of two logs, 0, 24 or 25, or of a
- * conversion, 0, 2 to 6 or 20 to 23. */
+/* Writes a plan and steps for three desks in which one offer is forwarded exactly
+ * so many times and the rig then comes to rest.
+ *
+ * The caller supplies
+ *   forwards   any number;
+ *   plan       plan_length bytes that may be read and written, which nobody else
+ *              reads or writes meanwhile;
+ *   steps      steps_length bytes, likewise; the two do not overlap;
+ *   stack      MORTARSEDGE_CHASE_STACK bytes.
+ *
+ * The answer holds a number and how many bytes of steps are written: take it
+ * apart by mortarsedge_number and mortarsedge_filled.
+ *
+ *   0    plan begins with a plan file of MORTARSEDGE_CHASE_PLAN bytes, steps with a
+ *        step file of filled bytes: 3 steps for each forward, and 11 more
+ *   26   forwards is above MORTARSEDGE_MAX_FORWARDS
+ *   20   plan or steps is too short
+ *
+ * 26 is tested before 20. A refused call leaves both untouched, and filled is 0.
+ * Bytes behind the written ones are unchanged. MORTARSEDGE_MAX_CHASE bytes hold the
+ * steps of every chase. */
+uint64_t mortarsedge_chase(uint32_t forwards, uint8_t *plan, size_t plan_length,
+                           uint8_t *steps, size_t steps_length);
+
+/* The number in the answer of a run or a choice of steps, 0 to 6, 8 or 20, of a finish check, 0, 2 to 6 or 20,
+ * of two logs, 0, 24 or 25, of a conversion, 0, 2 to 6 or 20 to 23, or of a chase, 0, 20 or 26. */
 static inline uint32_t mortarsedge_number(uint64_t answer)
 {
     return (uint32_t)(answer % 256);
@@ -514,6 +545,8 @@ static inline const char *mortarsedge_refusal_text(uint32_t number)
         return "log's length no multiple of 10, or over 4,096 records";
     case MORTARSEDGE_BAD_LOG_RECORD:
         return "a channel in a log outside 1 to 128";
+    case MORTARSEDGE_TOO_MANY_FORWARDS:
+        return "more than 500 forwards";
     case MORTARSEDGE_BAD_REPEAT:
         return "a repeat or its end nested or unpaired in its task";
     case MORTARSEDGE_REPEATED_CREATE:

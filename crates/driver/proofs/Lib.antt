@@ -2,3 +2,7 @@
 pub mod Traced
 pub mod Numbers
 pub mod Room
+pub mod Finished
+pub mod Conversions
+-- a chase
+pub mod ChaseSizes
