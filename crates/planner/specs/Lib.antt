@@ -1,3 +1,4 @@
 -- What the exported functions answer.
 pub mod Finish
 pub mod Converts
+pub mod Chases

@@ -2,9 +2,9 @@
 use mathlib.Core.Path.{refl, ap}
 use native.Mathlib.Omega.{arith}
 use borrow.Author.Needs.{needs}
-use Rattle.driver.specs.Chases.{chaseSize}
-use Rattle.driver.proofs.chases.chase_packed.Statement.{statement}
-use Rattle.driver.proofs.chases.chase_packed.Tie as tie
+use Rattle.planner.specs.Chases.{chaseSize}
+use Rattle.planner.proofs.chases.chase_packed.Statement.{statement}
+use Rattle.planner.proofs.chases.chase_packed.Tie as tie
 
 enum-known-a : tie.Need-enum-known-a
 enum-known-a c = search needs

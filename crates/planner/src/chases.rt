@@ -1,7 +1,7 @@
-// A chase written, as the C driver calls it.
+// A chase written, as a C program calls it.
 ghost use mathlib.Core.Path.{_≡_};
 ghost use Prim.Native.Nat.{_≤_};
-ghost use Rattle.driver.specs.Chases.{chaseSize, longestChase, chasePacked, ChaseWrites};
+ghost use Rattle.planner.specs.Chases.{chaseSize, longestChase, chasePacked, ChaseWrites};
 use chase::ChaseAnswer;
 use chase::write_chase;
 

@@ -1,10 +1,10 @@
 -- `mortarsedge_chase`.
 use mathlib.Core.Path.{_∙_, ap, sym}
 use borrow.Author.Needs.{needs}
-use Rattle.driver.specs.Chases.{chasePacked}
-use Rattle.driver.proofs.ChaseSizes.{chase-few}
-use Rattle.driver.proofs.chases.mortarsedge_chase.Statement.{statement}
-use Rattle.driver.proofs.chases.mortarsedge_chase.Tie as tie
+use Rattle.planner.specs.Chases.{chasePacked}
+use Rattle.planner.proofs.ChaseSizes.{chase-few}
+use Rattle.planner.proofs.chases.mortarsedge_chase.Statement.{statement}
+use Rattle.planner.proofs.chases.mortarsedge_chase.Tie as tie
 
 write-chase-requires : tie.Need-write-chase-requires
 write-chase-requires c κs = search needs

@@ -12,7 +12,7 @@ use Rattle.chase.specs.declared.ChaseAnswer.the-variants.{Written, TooMany, Out
 use Rattle.chase.specs.Construction.{chasePlan, chaseFile}
 use Rattle.chase.specs.Outcomes.{chaseAnswer}
 use Rattle.chase.proofs.Files.{length-chase-file}
-use Rattle.driver.specs.Chases.{chaseSize, longestChase}
+use Rattle.planner.specs.Chases.{chaseSize, longestChase}
 
 after-tests : (a b : Bool) (n : ℕ) → (a ≡ true → n ≤ longestChase) → chaseSize (unless a TooMany (unless b OutputShort (Written n))) ≤ longestChase
 after-tests true true n h = h refl
