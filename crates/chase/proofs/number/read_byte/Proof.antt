@@ -10,10 +10,10 @@ returns : tie.Need-returns
 returns c = let a = c .before .before .args in ended-read (a .x) (a .b) (not-true _ (c .if1 .taken))
 
 returns-2 : tie.Need-returns-2
-returns-2 c = let a = c .before .before .before .args in low-read (a .x) (a .b) (c .if2 .taken)
+returns-2 c = let a = c .before .before .before .args in low-read (a .x) (a .b) (omega arith)
 
 returns-3 : tie.Need-returns-3
-returns-3 c = let a = c .before .before .before .before .args in high-read (a .x) (a .b) (c .if3 .taken)
+returns-3 c = let a = c .before .before .before .before .args in high-read (a .x) (a .b) (omega arith)
 
 cast-capped : tie.Need-cast-capped
 cast-capped c = search needs
