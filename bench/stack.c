@@ -57,6 +57,12 @@ static void call_convert(void)
     mortarsedge_convert(plan, plan_length, out, sizeof out);
 }
 
+static void call_chase(void)
+{
+    static uint8_t chase_plan[MORTARSEDGE_CHASE_PLAN], chase_steps[MORTARSEDGE_MAX_CHASE];
+    mortarsedge_chase(MORTARSEDGE_MAX_FORWARDS, chase_plan, sizeof chase_plan, chase_steps, sizeof chase_steps);
+}
+
 /* Bytes of stack that a call changes, its own frame and the switch with it. */
 static size_t depth(void (*call)(void))
 {
@@ -75,7 +81,7 @@ static size_t depth(void (*call)(void))
 
 /* The deepest of each call so far. */
 struct depths {
-    size_t check, run, choose, finish, logs, convert;
+    size_t check, run, choose, finish, logs, convert, chase;
 };
 
 static void deepen(size_t *deepest, void (*call)(void))
@@ -126,7 +132,7 @@ static int within(const char *name, size_t measured, size_t promised)
 
 int main(int argc, char **argv)
 {
-    struct depths d = {0, 0, 0, 0, 0, 0};
+    struct depths d = {0, 0, 0, 0, 0, 0, 0};
     if (argc != 3) {
         fprintf(stderr, "usage: stack SEED COUNT\n");
         return 2;
@@ -135,11 +141,13 @@ int main(int argc, char **argv)
     over_generated(strtoull(argv[1], NULL, 10), strtoull(argv[2], NULL, 10), &d);
     over_cases(&d);
     deepen(&d.logs, call_logs);
+    deepen(&d.chase, call_chase);
     int holds = within("plan check", d.check, MORTARSEDGE_PLAN_CHECK_STACK);
     holds &= within("run", d.run, MORTARSEDGE_RUN_STACK);
     holds &= within("choose", d.choose, MORTARSEDGE_CHOOSE_STACK);
     holds &= within("finish", d.finish, MORTARSEDGE_FINISH_STACK);
     holds &= within("logs", d.logs, MORTARSEDGE_LOGS_STACK);
     holds &= within("convert", d.convert, MORTARSEDGE_CONVERT_STACK);
+    holds &= within("chase", d.chase, MORTARSEDGE_CHASE_STACK);
     return holds ? 0 : 1;
 }
