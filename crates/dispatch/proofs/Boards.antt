@@ -1,24 +1,19 @@
 -- A rig on what is lent: its parts, a step of it, a choice.
 use mathlib.Core.Path.{_≡_, refl, sym, ap, _∙_}
-use mathlib.Core.Bool.{true}
-use mathlib.Core.List.{List, [], _∷_, map}
+use mathlib.Core.List.{List, [], _∷_}
 use Prim.Native.Nat.{ℕ, _-_, _≤_}
 use native.Mathlib.Omega.{arith}
 use lib.ListN.{set, getD, length-set}
 use borrow.Author.Tests.{eq-eqb, ne-eqb}
 use Rattle.base.proofs.Tests.{within-low, within-high}
-use Rattle.plan.specs.declared.Plan.{Plan}
 use Rattle.plan.specs.declared.ProcessorId.{ProcessorId}
 use Rattle.rules.specs.declared.message.Network.{Network}
 use Rattle.rules.specs.declared.step.Step.{Step}
 use Rattle.rules.specs.declared.system.System.{System}
-use Rattle.rules.specs.declared.system.TaskTable.{TaskTable}
 use Rattle.rules.specs.Networks.{messages}
-use Rattle.rules.specs.Systems.{chosenAt, readyAt}
-use Rattle.rules.specs.Sound.{systemOk}
 use Rattle.rules.specs.Steps.{step, runStep, quiescent}
 use Rattle.rules.specs.StepFiles.{fileSteps}
-use Rattle.rules.specs.Dispatch.{made, skipped, deliverStep, earliest, choice, choosing, nextReady, deliveryTurn, runTurn, stepOf}
+use Rattle.rules.specs.Dispatch.{deliverStep, earliest, choice, choosing, nextReady, deliveryTurn, runTurn, stepOf}
 use Rattle.rules_laws.specs.Shapes.{Shaped}
 use Rattle.rules_laws.proofs.Steps.{ruled-step}
 use Rattle.rules_laws.proofs.Shapes.{step-shaped, step-plan, step-processors, step-chosen}
@@ -37,7 +32,7 @@ use Rattle.rig.proofs.rest.Refusals.{rest-quiet}
 use Rattle.board.specs.declared.act.Size.{Size}
 use Rattle.board.specs.Lent.{Lent, tasksOf, keptOf}
 use Rattle.board.specs.Rigs.{factsIn}
-use Rattle.run.specs.all_steps.Writes.{turnsOf, RanOn, LinesNext, LineNext}
+use Rattle.run.specs.all_steps.Writes.{turnsOf, RanOn, LineNext}
 use Rattle.run.proofs.all_steps.Progress.{next-none}
 use Rattle.dispatch.specs.Calls.{stepBytes}
 use Rattle.dispatch.specs.Boards.{On, TurnMade}

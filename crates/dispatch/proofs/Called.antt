@@ -1,15 +1,13 @@
 -- Calls one after the other: what the first of them have left and written.
-use mathlib.Core.Path.{_≡_, refl, sym, ap, _∙_, subst}
+use mathlib.Core.Path.{_≡_, refl, sym, ap, _∙_}
 use mathlib.Core.Bool.{Bool, true, false}
 use mathlib.Core.List.{List, [], _∷_, _++_, map, append-assoc, append-nil}
-use Prim.Native.Nat.{ℕ, zero, suc, _+_, _-_, _≤_, _<_}
+use Prim.Native.Nat.{ℕ, zero, suc, _+_, _≤_}
 use native.Mathlib.Omega.{arith}
 use lib.ListN.{length, getD}
 use lib.Dec.{ltb}
 use borrow.Author.Tests.{ne-eqb, ltb-true}
-use Rattle.base.specs.Choice.{within}
 use Rattle.base.proofs.Tests.{tests-differ, within-both}
-use Rattle.plan.specs.declared.ProcessorId.{ProcessorId}
 use Rattle.rules.specs.declared.message.Network.{Network}
 use Rattle.rules.specs.declared.step.Step.{Step}
 use Rattle.rules.specs.declared.dispatch.Dispatched.{Dispatched}
@@ -19,7 +17,7 @@ use Rattle.rules.specs.Steps.{quiescent}
 use Rattle.rules.specs.Dispatch.{deliveryTurn, runTurn, ruledDispatch, dispatched, stepOf}
 use Rattle.board.specs.declared.act.Size.{Size}
 use Rattle.board.specs.Lent.{Lent}
-use Rattle.run.specs.all_steps.Writes.{WrittenBy, LinesNext, filledBy, wholeBy}
+use Rattle.run.specs.all_steps.Writes.{WrittenBy, filledBy, wholeBy}
 use Rattle.run.proofs.all_steps.Progress.{next-stopped, next-then}
 use Rattle.dispatch.specs.Calls.{stepBytes, deskAfter, Called, called}
 use Rattle.dispatch.specs.Boards.{On, TurnMade, Ended}

@@ -1,7 +1,7 @@
 -- The outcome of a choice of steps, in the order 1 to 6, 20; 2,000 steps at most.
 use mathlib.Core.Path.{_≡_, refl, sym, ap, _∙_, subst}
 use mathlib.Core.Bool.{Bool, true, false, _&&_}
-use mathlib.Core.List.{List, [], _∷_, _++_, append-assoc}
+use mathlib.Core.List.{List, [], _++_, append-assoc}
 use Prim.Native.Nat.{ℕ, _≤_, _<_}
 use mathlib.Core.Logic.{by-cases}
 use native.Mathlib.Decide.{decLe}
@@ -21,7 +21,7 @@ use Rattle.rules.specs.declared.step.RunAnswer.{RunAnswer}
 use Rattle.rules.specs.declared.step.RunAnswer.the-variants.{Traced, Unstarted, OutputShort}
 use Rattle.rules.specs.declared.system.System.{System}
 use Rattle.rules.specs.Steps.{quiescent}
-use Rattle.rules.specs.StepFiles.{startOf, text, fitting, writtenAfter}
+use Rattle.rules.specs.StepFiles.{startOf, text, writtenAfter}
 use Rattle.run.specs.all_steps.Writes.{Written}
 use Rattle.run.proofs.all_steps.Fits.{fitting-room, written-filled}
 use Rattle.dispatch.specs.Calls.{called, chosenFrom, chosenLines, roomIn, chosenAnswer, chooseAnswer, chooseText, Chooses}

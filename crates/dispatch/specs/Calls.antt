@@ -39,8 +39,7 @@ called (suc k) r d =
     (record { steps = []; system = r })
     (record { steps = (stepOf (o .delivery) ++ stepOf (o .run)) ++ h .steps; system = h .system })
 
--- from the start of plan file p on n desks: 2,001 rounds of six calls at most. A round that makes no step leaves a rig at rest, so that these make more
--- than 2,000 steps, or come to rest
+-- from the start of plan file p on n desks: 2,001 rounds of six calls at most
 unfoldable pub chosenFrom : ℕ → List ℕ → Called
 chosenFrom n p = called 12006 (startOf n p) 0
 

@@ -1,10 +1,10 @@
 -- `call_desks`: after k calls, the steps that they made are written, and the rig then is on what is lent.
-use mathlib.Core.Path.{_≡_, refl, sym, _∙_}
-use Prim.Native.Nat.{ℕ, suc, _+_, _-_, _≤_}
+use mathlib.Core.Path.{_≡_, sym, _∙_}
+use Prim.Native.Nat.{suc, _+_, _-_, _≤_}
 use native.Mathlib.Omega.{arith}
 use borrow.Author.Needs.{needs}
 use Rattle.rules.specs.declared.system.System.{System}
-use Rattle.board.specs.Lent.{Lent, lent}
+use Rattle.board.specs.Lent.{lent}
 use Rattle.steps.proofs.instruction.Refusals.{placed}
 use Rattle.run.proofs.all_steps.Fits.{written-length}
 use Rattle.dispatch.specs.Boards.{On, noChoices}

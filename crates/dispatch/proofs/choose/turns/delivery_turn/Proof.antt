@@ -1,5 +1,5 @@
 -- `delivery_turn`: the earliest letter is delivered.
-use mathlib.Core.Path.{_≡_, sym, _∙_}
+use mathlib.Core.Path.{sym, _∙_}
 use borrow.Author.Needs.{needs}
 use Rattle.dispatch.proofs.Boards.{few-letters, no-delivery, some-delivery}
 use Rattle.dispatch.proofs.choose.turns.delivery_turn.Statement.{statement}

@@ -1,7 +1,6 @@
 -- `run_turn`: the next ready task is run.
 use mathlib.Core.Path.{_≡_, sym, ap, _∙_}
 use Prim.Native.Nat.{ℕ, _-_}
-use native.Mathlib.Omega.{arith}
 use borrow.Author.Needs.{needs}
 use Rattle.rules.specs.declared.system.System.{System}
 use Rattle.rules.specs.Dispatch.{choice}
