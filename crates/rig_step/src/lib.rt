@@ -3,12 +3,17 @@
 // The four bytes of a step.
 pub mod bytes;
 // A rig put on a board, and back.
+// The parts of a rig put on a board, and back.
 mod pack;
+// A rig put on a board.
+pub mod put;
 // The run of one step.
 mod turn;
 
 ghost use mathlib.Core.Path.{_≡_};
+ghost use Rattle.rules.specs.Sound.{systemOk};
 ghost use Rattle.rules.specs.Steps.{step, refused};
+ghost use Rattle.rules_laws.specs.Shapes.{Shaped};
 use rig_parts::kept::Kept;
 use rules::rule::Received;
 use rules::step::Report;
@@ -33,11 +38,18 @@ fn refused(r: System, a: StepAnswer) -> Stepped
     }
 }
 
+// Whether 9 does not refuse a rig; a rig's arrays have their sizes.
+pub fn passes(r: System) -> bool
+    ensures { λ b. ⌜ (b ≡ systemOk r) × (Shaped r) ⌝ }
+{
+    rig_check::system::system_ok(r)
+}
+
 // 9 first, then as the paper orders. The rig is taken apart, and put together again.
 pub fn step(r: System, s: Step) -> Stepped
     ensures { λ q. ⌜ q ≡ step r s ⌝ }
 {
-    if !rig_check::system::system_ok(r) {
+    if !passes(r) {
         return refused(r, StepAnswer::BadSystem);
     }
     let plan = r.plan;

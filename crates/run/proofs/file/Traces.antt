@@ -52,10 +52,10 @@ lines-of {ps = ps} r eh et em eb eu =
 
 -- the trace of a rig, by its parts
 module _ {f : Facts} {n : ℕ} {ts : TaskTable} {k : Network} {s : Kept} (g : Rig f n ts k s) (xs : List Step) where
-  abbrev ranIn : Turns
+  abbrev pub ranIn : Turns
   ranIn = turnsOf f n ts k s xs
 
-  stood-in : Stood f n ranIn (steps (g .parts .system) xs)
+  pub stood-in : Stood f n ranIn (steps (g .parts .system) xs)
   stood-in = rw (ruled-steps (g .parts .system) xs (g .parts .shaped) (g .parts .sound)) at (stood f n g xs)
 
   trace-lines : (b : Bool) → b ≡ restIn f n (ranIn .tasks) (ranIn .kept) (ranIn .network .used)

@@ -24,7 +24,7 @@ fn refused(answer: RunAnswer) -> Outcome
 }
 
 // Whether 8 is not answered.
-fn steps_ok(steps: &[u8]) -> bool
+pub fn steps_ok(steps: &[u8]) -> bool
     ensures { λ r. ⌜ r ≡ stepsOk (now (steps .entry)) ⌝ }
 {
     if steps.len() % 4 != 0 {

@@ -1,8 +1,8 @@
 -- `turn` puts the parts on a board, decides the step, runs it, and takes the parts from the board.
-use mathlib.Core.Path.{_≡_, refl, _∙_}
+use mathlib.Core.Path.{refl}
 use mathlib.Core.List.{List}
 use Prim.Native.Nat.{ℕ}
-use Rattle.board.specs.Lent.{lent, tasksOn, channelsOn}
+use Rattle.board.specs.Lent.{lent}
 use Rattle.rig_step.specs.Rigs.{RigWith}
 use Rattle.rig_step.proofs.Boards.{lentBy, packed-rig, packed-turn, few-of, one-step}
 use borrow.Author.Needs.{needs}
@@ -12,41 +12,22 @@ use Rattle.rig_step.proofs.turn.turn.Tie as tie
 build-requires : tie.Need-build-requires
 build-requires c κs = (refl, few-of (c .before .pre .parts))
 
-put-tasks-requires : tie.Need-put-tasks-requires
-put-tasks-requires c κs = search needs
+put-rig-requires : tie.Need-put-rig-requires
+put-rig-requires c κs = search needs
 
-put-channels-requires : tie.Need-put-channels-requires
-put-channels-requires c κs = search needs
+-- the parts are on the board; before that the table of who uses what, and the function's entry
+abbrev on : tie.After-board2 → tie.After-put-rig
+on c = c .before .before .before .before .before .before .before .before .before .before .before .before .before .before
 
-put-parents-requires : tie.Need-put-parents-requires
-put-parents-requires c κs = search needs
+abbrev built : tie.After-put-rig → tie.After-build
+built c = c .before .before
 
--- the parents are on the board; before that the channels, the tasks, the table of who uses what, and the function's entry
-abbrev on : tie.After-board4 → tie.After-put-parents
-on c = c .before .before .before .before .before .before .before .before .before .before .before .before .before
-
-abbrev channels-on : tie.After-put-parents → tie.After-put-channels
-channels-on c = c .before .before .before
-
-abbrev tasks-on : tie.After-put-parents → tie.After-put-tasks
-tasks-on c = channels-on c .before .before .before .before
-
-abbrev built : tie.After-put-parents → tie.After-build
-built c = tasks-on c .before .before
-
-abbrev start : tie.After-put-parents → tie.Start
+abbrev start : tie.After-put-rig → tie.Start
 start c = built c .before .before
 
-module _ (c : tie.After-put-parents) where
+module _ (c : tie.After-put-rig) where
   abbrev board : List ℕ
-  board = c .put-parents .last .0
-
-  -- what is on it
-  has-tasks : tasksOn board ≡ start c .args .tasks
-  has-tasks = c .put-parents .ensures .2 ∙ channels-on c .put-channels .ensures .2 ∙ tasks-on c .put-tasks .ensures .1
-
-  has-channels : channelsOn board ≡ start c .args .kept .store .channels
-  has-channels = c .put-parents .ensures .3 ∙ channels-on c .put-channels .ensures .1
+  board = c .put-rig .last .0
 
   rig : let a = start c .args in
       RigWith (a .codes .now) (a .numbers .now) (built c .build .last .1 .1 .1 .0) (record { tasks = a .count; processors = a .processors; used = a .network .used }) (a .network) (lentBy (a .kept) board)
@@ -54,11 +35,11 @@ module _ (c : tie.After-put-parents) where
       let a = start c .args in
       packed-rig (a .count) (a .codes .now) (a .numbers .now) (a .senders .now) (a .receivers .now) (a .parents .now) (a .processors) (a .tasks) (a .network) (a .kept) _ board
       (built c .build .ensures)
-      has-tasks
-      has-channels
-      (c .put-parents .ensures .1)
+      (c .put-rig .ensures .1)
+      (c .put-rig .ensures .2)
+      (c .put-rig .ensures .3)
       (start c .pre)
-      (c .put-parents .ensures .0)
+      (c .put-rig .ensures .0)
 
 decided-requires : tie.Need-decided-requires
 decided-requires c κs = rig (on c)
@@ -104,9 +85,9 @@ returns c =
     let h = ran .run-steps .last .1 .1 .1 in
     packed-turn (a .count) (a .codes .now) (a .numbers .now) (a .senders .now) (a .receivers .now) (a .parents .now) (a .processors) (a .tasks) (a .network) (a .kept) _ (board o)
     (built o .build .ensures)
-    (has-tasks o)
-    (has-channels o)
-    (o .put-parents .ensures .1)
+    (o .put-rig .ensures .1)
+    (o .put-rig .ensures .2)
+    (o .put-rig .ensures .3)
     (a .s)
     (lent (h .0) (h .1 .0) (h .1 .1 .0) (h .1 .1 .1 .0) (h .1 .1 .1 .1 .0) (h .1 .1 .1 .1 .1 .0))
     _
@@ -122,9 +103,7 @@ turn-spec =
     tie.close
     (tie.spec
     build-requires
-    put-tasks-requires
-    put-channels-requires
-    put-parents-requires
+    put-rig-requires
     decided-requires
     step-bytes-requires
     slice-aggregate-run-steps
