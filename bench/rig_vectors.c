@@ -1,10 +1,12 @@
-/* rig_vectors panel FILE | views FILE: holds the simulator's panel and views to
- * recorded answers of another model.
+/* rig_vectors panel FILE [ROUNDS] | views FILE: holds the simulator's panel and
+ * views to recorded answers of another model; with ROUNDS, each panel is made so
+ * many times more, for a clock outside.
  *
  * A record begins with the desks (1 byte) and the lengths of plan and steps
  * (2 bytes each, little-endian). Then come plan, steps and what is expected:
  * for `panel` 27 counts of 2 bytes, for `views` 20 bytes a task. */
 #include <stdio.h>
+#include <stdlib.h>
 #include <string.h>
 
 #include "sim_ask.h"
@@ -55,12 +57,16 @@ static void run_all(struct record *record)
         sim_step(&record->rig, record->steps + i, &received);
 }
 
+static unsigned long rounds;
+
 static bool panel_holds(struct rest *rest, struct record *record)
 {
     uint16_t counts[ANSWERS];
     const uint8_t *expected = take(rest, 2 * ANSWERS);
     run_all(record);
     sim_panel(&record->rig, counts);
+    for (unsigned long i = 0; i < rounds; i++)
+        sim_panel(&record->rig, counts);
     for (uint32_t a = 0; a < ANSWERS; a++)
         if (expected == NULL || counts[a] != sim_u16(expected + 2 * a))
             return false;
@@ -99,13 +105,15 @@ static const struct kind *kind_named(const char *name)
 int main(int argc, char **argv)
 {
     static struct record record;
-    const struct kind *kind = argc == 3 ? kind_named(argv[1]) : NULL;
+    const struct kind *kind = argc == 3 || argc == 4 ? kind_named(argv[1]) : NULL;
     struct rest rest = {NULL, 0};
     unsigned records = 0;
     if (kind == NULL) {
-        fprintf(stderr, "usage: rig_vectors panel|views FILE\n");
+        fprintf(stderr, "usage: rig_vectors panel FILE [ROUNDS] | views FILE\n");
         return 2;
     }
+    if (argc == 4)
+        rounds = strtoul(argv[3], NULL, 10);
     rest.bytes = read_whole(argv[2], &rest.length);
     if (rest.bytes == NULL || rest.length == 0) {
         fprintf(stderr, "rig_vectors: %s cannot be read\n", argv[2]);

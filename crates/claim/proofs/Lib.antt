@@ -71,3 +71,5 @@ pub mod OneOffer
 pub mod OfferLetters
 pub mod Chased
 pub mod Chase
+-- what a panel shows
+pub mod Panel

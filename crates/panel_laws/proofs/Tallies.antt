@@ -27,7 +27,7 @@ use Rattle.rules.specs.Answers.{stepNumber}
 use Rattle.rules.specs.Sound.{systemOk}
 use Rattle.rules.specs.Steps.{stepAnswer, moveStep}
 use Rattle.rules.specs.Panel.{panelSteps, answering, countable, panel}
-use Rattle.panel_laws.specs.Tallies.{tallied, all-get, movesOf, moves}
+use Rattle.panel_laws.specs.Tallies.{tallied, allGet, movesOf, moves}
 
 -- a number of the paper's answers to steps
 pub number-few : (a : StepAnswer) → stepNumber a < 27
@@ -104,7 +104,7 @@ module _ (r : System) where
       (λ a l. rw (getD-tallied xs a l, getD-tallied ys a l) (sym (count-append (λ s. eqb (numberOf s) a) xs ys)))
 
   -- steps that all get number q
-  pub tallied-same : (q : ℕ) (ss : List Step) → every (λ s. eqb (numberOf s) q) ss ≡ true → tallied r ss ≡ all-get q (length ss)
+  pub tallied-same : (q : ℕ) (ss : List Step) → every (λ s. eqb (numberOf s) q) ss ≡ true → tallied r ss ≡ allGet q (length ss)
   unfolding tallied answering
   tallied-same q ss all =
       table-same 27 (λ a. answering r a ss) (λ a. pick (eqb q a) (length ss) 0)
@@ -116,7 +116,7 @@ module _ (r : System) where
   every-nine bad [] = refl
   every-nine bad (s ∷ ss) = and-both (eqb (numberOf s) 9) (every (λ s. eqb (numberOf s) 9) ss) (rw bad refl) (every-nine bad ss)
 
-  pub tallied-nine : systemOk r ≡ false → (ss : List Step) → tallied r ss ≡ all-get 9 (length ss)
+  pub tallied-nine : systemOk r ≡ false → (ss : List Step) → tallied r ss ≡ allGet 9 (length ss)
   tallied-nine bad ss = tallied-same 9 ss (every-nine bad ss)
 
   -- a panel

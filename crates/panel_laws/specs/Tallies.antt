@@ -16,8 +16,8 @@ unfoldable pub tallied : System → List Step → List ℕ
 tallied r ss = table 27 (λ a. answering r a ss)
 
 -- so many steps that all get number q
-abbrev pub all-get : ℕ → ℕ → List ℕ
-all-get q n = table 27 (λ a. pick (eqb q a) n 0)
+abbrev pub allGet : ℕ → ℕ → List ℕ
+allGet q n = table 27 (λ a. pick (eqb q a) n 0)
 
 -- runs of tasks 1 .. m, deliveries at 1 .. p, moves of task t to desks 1 .. n, and of tasks 1 .. m
 abbrev pub runs : ℕ → List Step

@@ -1,0 +1,6 @@
+-- Why a panel's counts are those of its rig.
+mod Counting
+mod Answers
+mod Packed
+mod Reached
+mod Shown

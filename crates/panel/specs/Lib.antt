@@ -1,0 +1,3 @@
+-- What the counting of a panel is stated with.
+pub mod Counted
+pub mod Files
