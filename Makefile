@@ -72,6 +72,9 @@ build/vectors: bench/vectors.c bench/whole_file.c $(SIMULATOR) $(BENCH_HEADERS) 
 build/rig_vectors: $(RIG_VECTORS) $(SIMULATOR) $(BENCH_HEADERS) | build
 	$(CCALL) -o $@ $(RIG_VECTORS) $(SIMULATOR)
 
+build/panels: bench/panels.c bench/whole_file.c bench/sim_ask.c $(SIMULATOR) $(BENCH_HEADERS) $(ARCHIVE) | build
+	$(CCALL) -o $@ bench/panels.c bench/whole_file.c bench/sim_ask.c $(SIMULATOR) $(ARCHIVE)
+
 build/calls: bench/calls.c $(SIMULATOR) $(BENCH_HEADERS) | build
 	$(CCALL) -o $@ bench/calls.c $(SIMULATOR)
 
@@ -107,7 +110,7 @@ build/stack: $(STACK) $(GENERATOR) $(SIMULATOR) $(BENCH_HEADERS) $(ARCHIVE) | bu
 
 HEADER_TESTS = build/header_c99 build/header_c11 build/header_cxx11
 
-ctest: build/driver $(HEADER_TESTS) build/vectors build/old_plans build/differential build/logs build/stack build/calls \
+ctest: build/driver $(HEADER_TESTS) build/vectors build/old_plans build/differential build/logs build/stack build/calls build/panels \
     build/finish_vectors build/finish build/repeats_vectors build/repeats
 	build/header_c99
 	build/header_c11
@@ -115,6 +118,7 @@ ctest: build/driver $(HEADER_TESTS) build/vectors build/old_plans build/differen
 	driver/test.sh build/driver crates/trace_program/data
 	build/vectors crates/vectors_test/data/s103.bin crates/vectors_test/data/edges.bin
 	build/calls crates/vectors_test/data/calls.bin
+	build/panels crates/panel_test/data/panel.bin
 	scripts/replay_test.sh target/bin/dispatch_program target/bin/trace_program crates/trace_program/data/rig.plan crates/edges_test/data/over.plan
 	scripts/chase_test.sh target/bin/chase_program target/bin/trace_program
 	build/old_plans bench/data/one_level.bin
@@ -140,7 +144,8 @@ mutants: $(ARCHIVE) | build
 	CC="$(CC)" CFLAGS="$(CFLAGS)" bench/mutants.sh
 	CC="$(CC)" CFLAGS="$(CFLAGS)" bench/finish_mutants.sh crates/finish_test/data/finish.bin
 
-bench: build/benchmark build/finish_times
+bench: build/benchmark build/finish_times build/panels
+	build/panels bench/data/wide_panel.bin 101
 	build/benchmark 101
 	build/finish_times
 	build/benchmark --logs

@@ -34,6 +34,12 @@ static void call_run(void)
     mortarsedge_run(desks, plan, plan_length, steps, steps_length, out, sizeof out);
 }
 
+static void call_panel(void)
+{
+    static uint32_t counts[MORTARSEDGE_PANEL_COUNTS];
+    mortarsedge_panel_after(desks, plan, plan_length, steps, steps_length, counts, MORTARSEDGE_PANEL_COUNTS);
+}
+
 static void call_finish(void)
 {
     mortarsedge_finish(plan, plan_length, out, sizeof out);
@@ -81,7 +87,7 @@ static size_t depth(void (*call)(void))
 
 /* The deepest of each call so far. */
 struct depths {
-    size_t check, run, choose, finish, logs, convert, chase;
+    size_t check, run, panel, choose, finish, logs, convert, chase;
 };
 
 static void deepen(size_t *deepest, void (*call)(void))
@@ -96,6 +102,7 @@ static void deepen_all(struct depths *d)
 {
     deepen(&d->check, call_plan_check);
     deepen(&d->run, call_run);
+    deepen(&d->panel, call_panel);
     deepen(&d->choose, call_choose);
     deepen(&d->finish, call_finish);
     deepen(&d->convert, call_convert);
@@ -132,7 +139,7 @@ static int within(const char *name, size_t measured, size_t promised)
 
 int main(int argc, char **argv)
 {
-    struct depths d = {0, 0, 0, 0, 0, 0, 0};
+    struct depths d = {0};
     if (argc != 3) {
         fprintf(stderr, "usage: stack SEED COUNT\n");
         return 2;
@@ -144,6 +151,7 @@ int main(int argc, char **argv)
     deepen(&d.chase, call_chase);
     int holds = within("plan check", d.check, MORTARSEDGE_PLAN_CHECK_STACK);
     holds &= within("run", d.run, MORTARSEDGE_RUN_STACK);
+    holds &= within("panel", d.panel, MORTARSEDGE_RUN_STACK);
     holds &= within("choose", d.choose, MORTARSEDGE_CHOOSE_STACK);
     holds &= within("finish", d.finish, MORTARSEDGE_FINISH_STACK);
     holds &= within("logs", d.logs, MORTARSEDGE_LOGS_STACK);

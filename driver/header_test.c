@@ -75,6 +75,21 @@ static void steps_are_chosen(void)
     expect(answer == 256 * 12 && memcmp(out, "1 0\nend 1 0\n", 12) == 0, "choose: the run of the steps");
 }
 
+/* The panel of one task that only finishes, on one desk: its run is accepted, its move is to where it is. */
+static void panel_is_counted(void)
+{
+    static const uint8_t plan[12] = {1, 0, 1, 0, 8, 0, 1, 0, MORTARSEDGE_INSTRUCTION_FINISH, 0, 0, 0};
+    uint32_t counts[MORTARSEDGE_PANEL_COUNTS + 1] = {0};
+    counts[MORTARSEDGE_PANEL_COUNTS] = 7;
+    expect(mortarsedge_panel_after(0, plan, sizeof plan, NULL, 0, counts, 28) == MORTARSEDGE_BAD_DESKS, "panel: 1");
+    expect(mortarsedge_panel_after(1, plan, sizeof plan, plan, 3, counts, 28) == MORTARSEDGE_BAD_STEP_FILE, "panel: 8");
+    expect(mortarsedge_panel_after(1, plan, sizeof plan, NULL, 0, counts, 26) == MORTARSEDGE_OUTPUT_SHORT, "panel: 20");
+    expect(counts[0] == 0, "panel: a refused call writes");
+    expect(mortarsedge_panel_after(1, plan, sizeof plan, NULL, 0, counts, 28) == MORTARSEDGE_ACCEPTED, "panel: 0");
+    expect(counts[0] == 1 && counts[14] == 256 && counts[16] == 1, "panel: the counts");
+    expect(counts[MORTARSEDGE_PANEL_COUNTS] == 7, "panel: behind the counts");
+}
+
 /* Two logs: each answer, the records put by the header. */
 static void logs_are_held(void)
 {
@@ -491,6 +506,7 @@ int main(void)
     sizes_are_right();
     calls_link();
     steps_are_chosen();
+    panel_is_counted();
     logs_are_held();
     repeats_are_converted();
     chases_are_written();

@@ -1,10 +1,11 @@
 /* Mortarsedge: the proved core of a moving rig, for a C driver.
  *
- * Link with libmortarsedge.a. Its functions, plan check, run, choose, the finish check,
- * convert, chase and the check of two logs, take numbers and bytes, keep nothing between calls, and may
- * be called from several threads at once. Each returns for every input; none allocates,
- * reads or writes anything else. Everything else in this header is C for a driver's
- * convenience: names for the numbers, and inline functions, which no proof covers.
+ * Link with libmortarsedge.a. Its functions, plan check, run, choose, panel, the finish check,
+ * convert, chase and the check of two logs, take numbers and bytes, keep nothing between
+ * calls, and may be called from several threads at once. Each returns for every input;
+ * none allocates, reads or writes anything else. Everything else in this header is C for
+ * a driver's convenience: names for the numbers, and inline functions, which no proof
+ * covers.
  *
  * Where a length is 0 its pointer may be any.
  *
@@ -70,6 +71,8 @@ enum {
     MORTARSEDGE_CHASE_PLAN = 32,
     MORTARSEDGE_MAX_FORWARDS = 500,
     MORTARSEDGE_MAX_CHASE = MORTARSEDGE_STEP_BYTES * (3 * MORTARSEDGE_MAX_FORWARDS + 11),
+    /* The answers that a panel counts, 0 to 26. */
+    MORTARSEDGE_PANEL_COUNTS = 27,
     /* Stack for a call, with some to spare: make ctest measures what is needed. */
     MORTARSEDGE_PLAN_CHECK_STACK = 16 * 1024,
     MORTARSEDGE_RUN_STACK = 128 * 1024,
@@ -248,6 +251,26 @@ uint64_t mortarsedge_choose(uint32_t desks, const uint8_t *plan, size_t plan_len
  * space between, and a line feed is behind each line. The text is that of every run
  * of the plan that comes to rest, on one desk or six and with any moves. */
 uint64_t mortarsedge_finish(const uint8_t *plan, size_t plan_length, uint8_t *out, size_t out_length);
+
+/* The step panel: how many of all runs, all deliveries at 1 to 256 and all moves
+ * to desks of the rig would get each answer, in the rig that a step file leaves.
+ *
+ * The caller supplies desks, plan and steps as for mortarsedge_run, and
+ *   counts   counts_length numbers that may be read and written, which nobody else
+ *            reads or writes meanwhile, and which do not overlap plan or steps;
+ *   stack    MORTARSEDGE_RUN_STACK bytes.
+ *
+ *   0        counts[a] is how many steps would get the answer a, 0 to 26, 0 for
+ *            accepted; together they are T + 256 + T * desks
+ *   1 to 6   the plan file is refused, as by plan check
+ *   8        the step file is refused, as by mortarsedge_run
+ *   20       counts_length is under MORTARSEDGE_PANEL_COUNTS
+ *
+ * The numbers are tested in this order. A refused call leaves counts untouched, and
+ * numbers behind the first MORTARSEDGE_PANEL_COUNTS are unchanged. */
+uint32_t mortarsedge_panel_after(uint32_t desks, const uint8_t *plan, size_t plan_length,
+                                 const uint8_t *steps, size_t steps_length,
+                                 uint32_t *counts, size_t counts_length);
 
 /* Holds a sender's log against a receiver's log.
  *

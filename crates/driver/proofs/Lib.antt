@@ -2,3 +2,6 @@
 pub mod Traced
 pub mod Numbers
 pub mod Room
+pub mod Finished
+pub mod Conversions
+pub mod Panels

@@ -1,0 +1,46 @@
+// The step panel after a step file, for the C driver.
+ghost use mathlib.Core.Path.{_≡_};
+ghost use mathlib.Core.List.{_++_};
+ghost use Prim.Native.Nat.{_≤_};
+ghost use lib.ListN.{length, drop};
+ghost use Rattle.driver.specs.Panels.{PanelMeets};
+use super::run_number;
+use panel::file::panel_file;
+
+// The counts become the first 27 of the lent numbers.
+fn put_counts(out: &mut [u32], counts: [u16; 27])
+    requires { ⌜ 27 ≤ length (now out) ⌝ }
+    ensures { λ r. ⌜ now (out .exit) ≡ counts ++ drop 27 (now (out .entry)) ⌝ }
+{
+    let mut k: usize = 0;
+    while k < 27 {
+        let c = counts[k];
+        out[k] = c as u32;
+        k += 1;
+    }
+}
+
+// The panel: how many runs, deliveries and moves get each of the numbers 0 to 26, of the rig that a step file leaves, into the lent
+// numbers. 0, or the number of the refusal.
+#[no_mangle]
+pub extern "C" fn mortarsedge_panel_after<'a>(
+    processors: u32,
+    plan: &'a [u8],
+    steps: &'a [u8],
+    counts: &'a mut [u32],
+) -> u32
+    ensures { λ r. ⌜ PanelMeets processors (now (plan .entry)) (now (steps .entry)) (now (counts .entry)) r (now (counts .exit)) ⌝ }
+{
+    let s = panel_file(processors, plan, steps);
+    let answer = s.answer;
+    let number = run_number(answer);
+    if number != 0 {
+        return number;
+    }
+    if counts.len() < 27 {
+        return 20;
+    }
+    let shown = s.counts;
+    put_counts(counts, shown);
+    0
+}
