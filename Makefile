@@ -15,8 +15,9 @@ WARNINGS = -Wall -Wextra -Wpedantic -Wconversion -Werror
 CCALL = $(CC) -std=c11 $(WARNINGS) $(CFLAGS) -Iinclude
 SANITIZE = -O1 -g -fsanitize=address,undefined -fno-sanitize-recover=all
 
-# Three parts, each compiled by itself: a function that parts share is compiled for each.
-PARTS = target/staticlib/libdriver.a target/staticlib/libplanner.a target/staticlib/libchooser.a
+# Four parts, each compiled by itself: a function that parts share is compiled for each.
+PARTS = target/staticlib/libdriver.a target/staticlib/libplanner.a target/staticlib/libchooser.a \
+    target/staticlib/libstep_panel.a
 ARCHIVE = build/libmortarsedge.a
 PROVED = crates.txt $(shell find crates -type f)
 HEADER = include/mortarsedge.h
@@ -48,6 +49,7 @@ target/staticlib/lib%.a: $(PROVED)
 # `rt` writes one part at a time.
 target/staticlib/libplanner.a: target/staticlib/libdriver.a
 target/staticlib/libchooser.a: target/staticlib/libplanner.a
+target/staticlib/libstep_panel.a: target/staticlib/libchooser.a
 
 $(ARCHIVE): $(PARTS) | build
 	rm -f $@

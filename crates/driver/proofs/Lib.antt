@@ -2,6 +2,3 @@
 pub mod Traced
 pub mod Numbers
 pub mod Room
-pub mod Finished
-pub mod Conversions
-pub mod Panels

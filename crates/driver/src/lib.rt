@@ -2,12 +2,6 @@
 
 // The check of two logs.
 pub mod log_files;
-// Whether a plan finishes.
-pub mod finish_check;
-// A plan with repeats converted.
-pub mod conversion;
-// The step panel after a step file.
-pub mod panel_counts;
 
 ghost use mathlib.Core.Path.{_≡_};
 ghost use Prim.Native.Nat.{_≤_};

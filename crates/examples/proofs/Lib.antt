@@ -3,9 +3,7 @@ pub mod Edges
 -- Each run has its trace.
 pub mod Scenes
 -- What demand 3 says of two runs, that its test of letters tells rigs apart, and what is said of moves, of marks, of plans on level 0, of runs at
--- different desks, of logs, of dispatchers, of tablets, of plans with repeats and of the finish check.
--- different desks, of logs, of dispatchers, of tablets, of plans with repeats and of chases.
--- different desks, of logs, of dispatchers, of tablets, of plans with repeats and of panels.
+-- different desks, of logs, of dispatchers, of tablets, of plans with repeats, of the finish check, of chases and of panels.
 pub mod Demand3
 pub mod Bound
 pub mod Suppositions

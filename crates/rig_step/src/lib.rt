@@ -2,7 +2,6 @@
 
 // The four bytes of a step.
 pub mod bytes;
-// A rig put on a board, and back.
 // The parts of a rig put on a board, and back.
 mod pack;
 // A rig put on a board.

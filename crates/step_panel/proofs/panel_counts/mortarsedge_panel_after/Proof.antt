@@ -2,9 +2,9 @@
 use mathlib.Core.Path.{_≡_}
 use native.Mathlib.Omega.{arith}
 use borrow.Author.Needs.{needs}
-use Rattle.driver.proofs.Panels.{refused-panel, short-panel, shown-panel}
-use Rattle.driver.proofs.panel_counts.mortarsedge_panel_after.Statement.{statement}
-use Rattle.driver.proofs.panel_counts.mortarsedge_panel_after.Tie as tie
+use Rattle.step_panel.proofs.Panels.{refused-panel, short-panel, shown-panel}
+use Rattle.step_panel.proofs.panel_counts.mortarsedge_panel_after.Statement.{statement}
+use Rattle.step_panel.proofs.panel_counts.mortarsedge_panel_after.Tie as tie
 
 panel-file-requires : tie.Need-panel-file-requires
 panel-file-requires c κs = search needs

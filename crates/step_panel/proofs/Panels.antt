@@ -24,7 +24,7 @@ use Rattle.rules.specs.Panel.{panel}
 use Rattle.rules.specs.StepFiles.{stepsOk, startOf, fileSteps}
 use Rattle.rules.specs.Steps.{steps}
 use Rattle.panel.specs.Files.{answerBefore, PanelFile}
-use Rattle.driver.specs.Panels.{panelAnswer, PanelMeets}
+use Rattle.step_panel.specs.Panels.{panelAnswer, PanelMeets}
 
 refusal-some : (r : Refusal) → refusalNumber r ≢ 0
 refusal-some BadProcessors e = omega arith

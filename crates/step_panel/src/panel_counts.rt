@@ -1,10 +1,10 @@
-// The step panel after a step file, for the C driver.
+// The step panel after a step file, as a C program calls it.
 ghost use mathlib.Core.Path.{_≡_};
 ghost use mathlib.Core.List.{_++_};
 ghost use Prim.Native.Nat.{_≤_};
 ghost use lib.ListN.{length, drop};
-ghost use Rattle.driver.specs.Panels.{PanelMeets};
-use super::run_number;
+ghost use Rattle.step_panel.specs.Panels.{PanelMeets};
+use driver::run_number;
 use panel::file::panel_file;
 
 // The counts become the first 27 of the lent numbers.

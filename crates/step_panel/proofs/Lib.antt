@@ -1,0 +1,2 @@
+-- What the exported function leaves.
+pub mod Panels
