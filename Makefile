@@ -8,6 +8,7 @@
 #   make bench    times of library and simulator
 #   make instructions   instructions of both, by callgrind
 #   make clean    removes build/
+#   make tools, toolstest, examples, install, uninstall   the command: tools/tools.mk
 
 CFLAGS ?= -O2
 CXXFLAGS ?= -O2
@@ -159,3 +160,5 @@ instructions: build/benchmark
 
 clean:
 	rm -rf build
+
+include tools/tools.mk
