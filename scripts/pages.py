@@ -11,7 +11,7 @@ import sys
 
 TOP = pathlib.Path(__file__).resolve().parent.parent
 PAGES = [TOP / "README.md"] + sorted((TOP / "docs").rglob("*.md"))
-SOURCES = ["crates", "include", "driver", "bench", "scripts", ".ci"]
+SOURCES = ["crates", "include", "driver", "bench", "tools", "examples", "scripts", ".ci"]
 SUFFIXES = {".rt", ".antt", ".edit", ".h", ".c", ".sh", ".py", ".txt", ""}
 PATH = re.compile(r"^(crates|docs|scripts|include|driver|bench)/[\w./*-]*$|^(crates\.txt|Makefile|README\.md)$")
 WORD = re.compile(r"^[A-Za-z_][\w'-]*$")
