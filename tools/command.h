@@ -40,6 +40,7 @@ int command_unplan(const struct call *call);
 int command_steps(const struct call *call);
 int command_unsteps(const struct call *call);
 int command_chart(const struct call *call);
+int command_dispatch(const struct call *call);
 
 /* DESKS PLAN STEPS: what chart, run, steps and unsteps are called with. */
 int read_show(const struct call *call, bool steps_bytes, struct show *show);

@@ -19,6 +19,8 @@ static const struct command commands[] = {
     {"steps", "DESKS PLAN TEXT", "write a step file from its text", OPTION_OUTPUT | OPTION_BYTES, command_steps},
     {"unsteps", "DESKS PLAN STEPS", "write steps as text from their file",
      OPTION_OUTPUT | OPTION_POSITIONS | OPTION_BYTES, command_unsteps},
+    {"dispatch", "DESKS PLAN", "write the steps that the dispatchers of the desks choose, until rest",
+     OPTION_OUTPUT | OPTION_TEXT | OPTION_BYTES, command_dispatch},
     {"chart", "DESKS PLAN STEPS", "draw a run, as SVG or for a terminal", OPTION_OUTPUT | OPTION_TEXT | OPTION_BYTES,
      command_chart},
 };
@@ -32,7 +34,7 @@ static const struct {
     {"-o", "is written, whole or not at all, instead of standard output", OPTION_OUTPUT},
     {"--explain", "in words", OPTION_EXPLAIN},
     {"--quiet", "nothing is said of refused steps", OPTION_QUIET},
-    {"--text", "for a terminal", OPTION_TEXT},
+    {"--text", "as text: a chart for a terminal, steps in their notation", OPTION_TEXT},
     {"--bytes", "PLAN and STEPS are bytes, also where no byte of them is zero", OPTION_BYTES},
     {"--repeats", "the new edition, with its repeats", OPTION_REPEATS},
     {"--positions", "letters by their positions", OPTION_POSITIONS},

@@ -12,7 +12,7 @@ worked=$top/examples/worked
 data=$top/crates/trace_program/data
 cp "$worked/plan.txt" "$worked/steps.txt" "$data/rig.plan" "$data/rig.steps" "$scratch"
 
-commands='check run finish convert logs plan unplan steps unsteps chart'
+commands='check run finish convert logs plan unplan steps unsteps dispatch chart'
 
 # Usage: --help on standard output, status 0; wrong usage on standard error, status 2.
 for words in --help help; do
@@ -71,6 +71,19 @@ call unsteps 2 plan.txt rig.steps
 grep -q '^deliver offer cue  *# 5, position 2$' "$scratch/stdout" || fail 'unsteps: letters are not named'
 call unsteps --positions 2 rig.plan rig.steps
 grep -q '^deliver 2  *# 5, position 2$' "$scratch/stdout" || fail 'unsteps --positions: letters have no positions'
+
+# What dispatchers choose is run to rest, and as text it is the same steps.
+for desks in 1 2 6; do
+    call dispatch -o chosen $desks plan.txt
+    status_is 0 'dispatch'
+    call run --quiet $desks plan.txt chosen
+    [ "$(tail -n 1 "$scratch/stdout")" = 'end 1 0' ] || fail 'dispatch: not at rest'
+    call dispatch --text -o chosen.txt $desks plan.txt
+    call steps $desks plan.txt chosen.txt
+    cmp -s "$scratch/stdout" "$scratch/chosen" || fail 'dispatch --text: other steps'
+done
+call dispatch 7 plan.txt
+status_is 1 'dispatch on 7 desks'; says '7 desks refused, 1: ' 'dispatch on 7 desks'
 
 # Standard input and output are -.
 for sub in plan 'check 2' finish; do
