@@ -41,8 +41,9 @@ int command_steps(const struct call *call);
 int command_unsteps(const struct call *call);
 int command_chart(const struct call *call);
 int command_dispatch(const struct call *call);
+int command_panel(const struct call *call);
 
-/* DESKS PLAN STEPS: what chart, run, steps and unsteps are called with. */
+/* DESKS PLAN STEPS: what chart, panel, run, steps and unsteps are called with. */
 int read_show(const struct call *call, bool steps_bytes, struct show *show);
 
 #endif

@@ -21,6 +21,8 @@ static const struct command commands[] = {
      OPTION_OUTPUT | OPTION_POSITIONS | OPTION_BYTES, command_unsteps},
     {"dispatch", "DESKS PLAN", "write the steps that the dispatchers of the desks choose, until rest",
      OPTION_OUTPUT | OPTION_TEXT | OPTION_BYTES, command_dispatch},
+    {"panel", "DESKS PLAN STEPS", "what can be pressed after these steps: how many steps would get each answer",
+     OPTION_OUTPUT | OPTION_EXPLAIN | OPTION_BYTES, command_panel},
     {"chart", "DESKS PLAN STEPS", "draw a run, as SVG or for a terminal", OPTION_OUTPUT | OPTION_TEXT | OPTION_BYTES,
      command_chart},
 };

@@ -79,7 +79,7 @@ static void call_all(struct random *r, uint64_t index)
         "run --bytes -o out %u plan steps", "finish -o out plan", "finish --explain -o out plan", "convert -o out plan",
         "logs steps plan", "logs steps steps", "plan -o out plan", "plan --repeats -o out plan", "unplan -o out plan",
         "steps -o out %u plan steps", "unsteps -o out %u plan steps", "unsteps --positions -o out %u plan steps",
-        "dispatch -o out %u plan", "dispatch --text -o out %u plan", "chart -o out %u plan steps",
+        "panel -o out %u plan steps", "dispatch -o out %u plan", "dispatch --text -o out %u plan", "chart -o out %u plan steps",
         "chart --text -o out %u plan steps", "chart -o out %u steps plan"};
     uint32_t desks = random_from(r, 1, 6);
     for (size_t i = 0; i < sizeof all / sizeof all[0]; i++) {

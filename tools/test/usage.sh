@@ -12,7 +12,7 @@ worked=$top/examples/worked
 data=$top/crates/trace_program/data
 cp "$worked/plan.txt" "$worked/steps.txt" "$data/rig.plan" "$data/rig.steps" "$scratch"
 
-commands='check run finish convert logs plan unplan steps unsteps dispatch chart'
+commands='check run finish convert logs plan unplan steps unsteps dispatch panel chart'
 
 # Usage: --help on standard output, status 0; wrong usage on standard error, status 2.
 for words in --help help; do
@@ -84,6 +84,17 @@ for desks in 1 2 6; do
 done
 call dispatch 7 plan.txt
 status_is 1 'dispatch on 7 desks'; says '7 desks refused, 1: ' 'dispatch on 7 desks'
+
+# The panel after the first four steps of the worked run: two deliveries; both tasks are busy.
+head -c 16 "$data/rig.steps" > "$scratch/four"
+call panel 2 plan.txt four
+status_is 0 'panel'; writes '0 2
+11 6
+14 254' 'panel'
+call panel --explain 2 plan.txt four
+grep -q '^    6 refused, 11: task not ready$' "$scratch/stdout" || fail "panel --explain: $(cat "$scratch/stdout")"
+call panel 7 plan.txt four
+status_is 1 'panel on 7 desks'; says '7 desks refused, 1: ' 'panel on 7 desks'
 
 # Standard input and output are -.
 for sub in plan 'check 2' finish; do
