@@ -93,9 +93,9 @@ static void tell_finish(const char *answer, struct text *to)
 /* Yes is status 0, no is 1. */
 static int finish(const struct call *call)
 {
-    char out[FINISH_ENOUGH + 1];
+    char out[MORTARSEDGE_FINISH_ENOUGH + 1];
     struct text words = {NULL, 0, 0};
-    uint64_t answer = mortarsedge_finish(input.plan, input.length, (uint8_t *)out, FINISH_ENOUGH);
+    uint64_t answer = mortarsedge_finish(input.plan, input.length, (uint8_t *)out, MORTARSEDGE_FINISH_ENOUGH);
     if (mortarsedge_number(answer) != MORTARSEDGE_ACCEPTED)
         return why_plan(&input, mortarsedge_number(answer));
     out[mortarsedge_filled(answer)] = '\0';
