@@ -116,7 +116,7 @@ counts-on-requires c κs =
     let n = with-no-messages r in
     record {
       whole = w .is-whole .ensures;
-      parts = ran-rig (known n) _ (r .run-steps .ensures) .parts;
+      parts = ran-rig (known n) _ (r .run-steps .ensures .0) .parts;
       indexed = tabled (boarded n) .before .build .ensures .indexed;
     }
 
@@ -127,7 +127,7 @@ returns c p b =
     let a = begin (tabled (boarded n) .before) .args in
     let users = tabled (boarded n) .before .build .last .1 .1 .1 .0 in
     let g = rig n b in
-    let h = r .run-steps .ensures in
+    let h = r .run-steps .ensures .0 in
     let xs = fileSteps (a .steps .now) in
     run-shows (a .codes .now) (a .numbers .now) users (a .count) (a .processors) g xs (left-on r) (r .run-steps .result) h _
     (c .counts-on .ensures _ (run-lends (a .codes .now) (a .numbers .now) users (a .count) (a .processors) g xs (left-on r) (r .run-steps .result) h))
