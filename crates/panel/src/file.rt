@@ -4,11 +4,9 @@ ghost use Prim.Native.Nat.{_≤_, _/_};
 ghost use lib.ListN.{length};
 ghost use Rattle.rules.specs.StepFiles.{stepsOk};
 ghost use Rattle.rig_parts.specs.Facts.{facts};
-ghost use Rattle.board.specs.Lent.{Whole};
 ghost use Rattle.run.specs.file.Begins.{Begun};
 ghost use Rattle.panel.specs.Files.{PanelOf, PanelFile};
 use crate::counts::counts_on;
-use board::Board;
 use board::act::Size;
 use board::sweeps::locate;
 use plan::PlanAnswer;
@@ -28,11 +26,6 @@ pub struct Shown {
     pub answer: RunAnswer,
     pub counts: [u16; 27],
 }
-
-// A board has all its numbers.
-fn is_whole(board: Board)
-    ensures { λ r. ⌜ Whole board ⌝ }
-{}
 
 // The counts after the steps of an accepted plan from its start, by what is derived of it. The birth of task 1 at desk 1 sets
 // pointers; the other tables have nothing yet.
@@ -101,7 +94,6 @@ fn counts_after<'a>(
         &mut out,
         &mut progress,
     );
-    is_whole(board);
     let n = Size {
         tasks: count,
         processors: processors,

@@ -98,12 +98,9 @@ run-steps-requires c κs =
       blank = refl;
     }
 
-is-whole-requires : tie.Need-is-whole-requires
-is-whole-requires c κs = search needs
-
 -- where the steps were run
 abbrev ran : tie.After-counts-on → tie.After-run-steps
-ran c = c .before .before .before .before .before .before .before .before .before .before
+ran c = c .before .before .before .before .before .before .before .before .before
 
 -- what they leave
 abbrev left-on : tie.After-run-steps → Lent
@@ -111,11 +108,10 @@ left-on c = let z = c .run-steps .last .1 .1 .1 in lent (z .0) (z .1 .0) (z .1 .
 
 counts-on-requires : tie.Need-counts-on-requires
 counts-on-requires c κs =
-    let w = c .before .before .before .before .before .before .before in
-    let r = w .before .before in
+    let r = c .before .before .before .before .before .before .before .before in
     let n = with-no-messages r in
     record {
-      whole = w .is-whole .ensures;
+      whole = r .run-steps .ensures .1;
       parts = ran-rig (known n) _ (r .run-steps .ensures .0) .parts;
       indexed = tabled (boarded n) .before .build .ensures .indexed;
     }
@@ -143,6 +139,5 @@ counts-after-spec =
     no-messages-requires
     slice-aggregate-run-steps
     run-steps-requires
-    is-whole-requires
     counts-on-requires
     returns)
