@@ -110,7 +110,7 @@ enum mortarsedge_step {
 };
 
 /* The answers: of a call 0 to 6, 8, 20, 24 and 25, of the converter 0, 2 to 6 and 20 to 23, of a
- * step in the trace 0 and 10 to 19. */
+ * chase 0, 20 and 26, of a step in the trace 0 and 10 to 19. */
 enum mortarsedge_answer {
     MORTARSEDGE_ACCEPTED = 0,
     /* Of the plan file. */
