@@ -1,19 +1,22 @@
 -- A rig on what is lent: its parts, a step of it, a choice.
-use mathlib.Core.Path.{_≡_, refl, sym, ap, _∙_}
-use mathlib.Core.List.{List, [], _∷_}
-use Prim.Native.Nat.{ℕ, _-_, _≤_}
+use mathlib.Core.Path.{_≡_, refl, sym, ap, _∙_, subst}
+use mathlib.Core.Bool.{true}
+use mathlib.Core.List.{List}
+use Prim.Native.Nat.{ℕ, _+_, _-_, _≤_, _<_}
 use native.Mathlib.Omega.{arith}
-use lib.ListN.{set, getD, length-set}
+use lib.ListN.{length, set, getD, length-set}
 use borrow.Author.Tests.{eq-eqb, ne-eqb}
-use Rattle.base.proofs.Tests.{within-low, within-high}
+use Rattle.base.proofs.Tests.{within-low, within-high, within-both}
 use Rattle.plan.specs.declared.ProcessorId.{ProcessorId}
 use Rattle.rules.specs.declared.message.Network.{Network}
+use Rattle.rules.specs.declared.message.Slot.{Slot}
+use Rattle.rules.specs.declared.step.Report.{Report}
 use Rattle.rules.specs.declared.step.Step.{Step}
 use Rattle.rules.specs.declared.system.System.{System}
-use Rattle.rules.specs.Networks.{messages}
+use Rattle.rules.specs.Networks.{messages, noSlot, messageAt, dequeued, enqueuedAll, messagesOf}
+use Rattle.rules.specs.Sound.{messageOk}
 use Rattle.rules.specs.Steps.{step, runStep, quiescent}
-use Rattle.rules.specs.StepFiles.{fileSteps}
-use Rattle.rules.specs.Dispatch.{deliverStep, earliest, choice, choosing, nextReady, deliveryTurn, runTurn, stepOf}
+use Rattle.rules.specs.Dispatch.{Turned, deliverStep, earliest, choice, choosing, nextReady, deliveryTurn, runTurn, stepOf}
 use Rattle.rules_laws.specs.Shapes.{Shaped}
 use Rattle.rules_laws.proofs.Steps.{ruled-step}
 use Rattle.rules_laws.proofs.Shapes.{step-shaped, step-plan, step-processors, step-chosen}
@@ -23,19 +26,45 @@ use Rattle.rules_laws.proofs.Dispatch.{last-few, choosing-ok}
 use Rattle.rules_sound.proofs.Kept.{step-kept}
 use Rattle.rules_sound.proofs.Sound.{sound}
 use Rattle.rules_sound.proofs.Frames.{tasks-few}
+use Rattle.rig_parts.specs.declared.change.Verdict.{Verdict}
+use Rattle.rig_parts.specs.declared.change.Verdict.the-variants.{Accepted}
 use Rattle.rig_parts.specs.Facts.{Facts, factsOf}
+use Rattle.rig_parts.specs.Openings.{openedIn}
 use Rattle.rig_parts.specs.declared.turn.Turn.{Turn}
-use Rattle.rig_parts.specs.Turns.{Rig, turnOf, partsOf}
+use Rattle.rig_parts.specs.Turns.{Rig, turned, turnOf, partsOf}
+use Rattle.rig_parts.proofs.Bounds.{message-ok}
 use Rattle.rig_parts.proofs.Rigs.{rig-turn, rig-rest}
 use Rattle.rig.specs.rest.Rests.{quietIn}
 use Rattle.rig.proofs.rest.Refusals.{rest-quiet}
+use Rattle.plan_index.specs.user_table.Users.{sendersOf, receiversOf}
+use Rattle.network.specs.Positions.{positionOf}
+use Rattle.network.specs.Rounds.{roundsOf, messageOf}
+use Rattle.network.proofs.Shift.{shifted}
+use Rattle.network.proofs.Gaps.{holding}
+use Rattle.board.specs.declared.act.Act.{Act}
 use Rattle.board.specs.declared.act.Size.{Size}
-use Rattle.board.specs.Lent.{Lent, tasksOf, keptOf}
-use Rattle.board.specs.Rigs.{factsIn}
-use Rattle.run.specs.all_steps.Writes.{turnsOf, RanOn, LineNext}
+use Rattle.board.specs.Lent.{Lent, lent, Whole, tasksOf, keptOf}
+use Rattle.board.specs.Acted.{Acted, actOf}
+use Rattle.board.specs.Rigs.{RigOn, factsIn}
+use Rattle.board.specs.Verdicts.{stepVerdict}
+use Rattle.run.specs.all_steps.Writes.{LineNext}
 use Rattle.run.proofs.all_steps.Progress.{next-none}
+use Rattle.run.proofs.all_steps.Mail.{opened-posts, delivered-mail}
+use Rattle.run.proofs.all_steps.Acting.{step-room, delivered-made, other-made}
 use Rattle.dispatch.specs.Calls.{stepBytes}
 use Rattle.dispatch.specs.Boards.{On, TurnMade}
+
+-- a turn that was made, with what is lent and written by other names
+pub turn-as : {codes numbers users : List ℕ} {size : Size} {o : Turned} {last progress out : List ℕ} {k k' : Network} {a a' b b' c c' d d' e e' f f' g g' h h' : List ℕ}
+    → a ≡ a' → b ≡ b' → c ≡ c' → d ≡ d' → e ≡ e' → f ≡ f' → g ≡ g' → h ≡ h' → k ≡ k'
+    → TurnMade codes numbers users size o k' (lent a' b' c' d' e' f') last progress out h' g'
+    → TurnMade codes numbers users size o k (lent a b c d e f) last progress out h g
+turn-as pa pb pc pd pe pf pg ph pk t = rw (pa, pb, pc, pd, pe, pf, pg, ph, pk) t
+
+-- a run that makes no step leaves the rig as it is
+pub run-skipped : (r : System) (d : ProcessorId) → choice r d ≡ 0 → runTurn r d .system ≡ r
+unfolding runTurn
+run-skipped r d z = rw (eq-eqb (choice r d) 0 z) refl
 
 choosing-shaped : (r : System) (d : ProcessorId) (t : ℕ) → Shaped r → Shaped (choosing r d t)
 choosing-shaped r d t s = let six = length-set (r .chosen) (d .0 - 1) t ∙ s .chosen in search
@@ -69,6 +98,19 @@ module _ {codes numbers users : List ℕ} {size : Size} {k : Network} {l : Lent}
   pub few-letters : k .used ≤ 256
   few-letters = rw (o .network) (messages-fit r (o .sound))
 
+  pub full-mail : length (k .slots) ≡ 256
+  full-mail = rw (o .network) (o .shaped .slots)
+
+  -- a letter can be delivered, and a task be run
+  pub rig-on : RigOn codes numbers users (record { tasks = size .tasks; processors = size .processors; used = k .used }) l
+  rig-on = record { whole = o .whole; parts = rig-of .parts; indexed = o .indexed }
+
+  pub letter-ok : (place : ℕ) → place < k .used → messageOk (size .processors) (size .tasks) (getD (k .slots) place noSlot .message) ≡ true
+  unfolding messageAt
+  letter-ok place there =
+      let back : place + 1 - 1 ≡ place = omega arith in
+      subst (λ (i : ℕ). messageOk (size .processors) (size .tasks) (getD (k .slots) i noSlot .message) ≡ true) back (message-ok rig-of (place + 1) (omega arith) (omega arith))
+
   tasks-of : size .tasks ≡ r .plan .tasks
   tasks-of = ap (λ (f : Facts). f .tasks) (o .facts-of)
 
@@ -85,23 +127,63 @@ module _ {codes numbers users : List ℕ} {size : Size} {k : Network} {l : Lent}
   turn-of : (x : Step) → turnOf given (size .processors) (tasksOf l) k (keptOf l) x ≡ partsOf (step r x)
   turn-of x = rig-turn rig-of x ∙ ap partsOf (ruled-step r x (o .sound))
 
-  pub on-step : (x : Step) (b : List ℕ) {before progress after : List ℕ} (k' : Network) (l' : Lent) → fileSteps b ≡ x ∷ []
-      → RanOn given (size .processors) l k b before l' k' progress after → On codes numbers users size k' l' last (step r x .system)
-  unfolding turnsOf
-  on-step x b k' l' e q =
-      let h = rw e at (q .0) in
+  on-turn : (x : Step) {q : Report} {k' : Network} {l' : Lent} → Whole (l' .board)
+      → turned q (tasksOf l') k' (keptOf l') ≡ turnOf given (size .processors) (tasksOf l) k (keptOf l) x → On codes numbers users size k' l' last (step r x .system)
+  on-turn x w e =
+      let h = e ∙ turn-of x in
       record {
         shaped = step-shaped r x (o .shaped);
         sound = step-kept r x (o .shaped) (o .sound);
         facts-of = o .facts-of ∙ ap factsOf (sym (step-plan r x));
         processors = o .processors ∙ sym (step-processors r x);
-        tasks = h .tasks ∙ ap (λ (t : Turn). t .tasks) (turn-of x);
-        kept = h .kept ∙ ap (λ (t : Turn). t .kept) (turn-of x);
-        network = h .network ∙ ap (λ (t : Turn). t .network) (turn-of x);
+        tasks = ap (λ (t : Turn). t .tasks) h;
+        kept = ap (λ (t : Turn). t .kept) h;
+        network = ap (λ (t : Turn). t .network) h;
         chosen = o .chosen ∙ sym (step-chosen r x);
-        whole = q .1;
+        whole = w;
         indexed = o .indexed;
       }
+
+  -- the letter at a place of the mail was delivered: it left, and what it posts stands last
+  module _ (place : ℕ) (there : place < k .used) where
+    back : place + 1 - 1 ≡ place
+    back = omega arith
+
+    position-is : place + 1 ≡ positionOf (k .used) (deliverStep (place + 1))
+    unfolding positionOf
+    position-is = rw (within-both 1 (k .used) (place + 1) (omega arith) (omega arith)) refl
+
+    pub delivered-posts : {act : Act} → act ≡ actOf (Accepted (openedIn given (tasksOf l) (keptOf l) (getD (k .slots) place noSlot .message)))
+        → (j : ℕ) → place + j ≡ k .used - 1 → {z : Network} → z ≡ holding (k .used) (shifted (k .slots) place j)
+        → {w : Slot} → w .message ≡ messageOf (act .posting) 0 → {u : ℕ} → u ≡ roundsOf 1 (act .posting)
+        → holding (k .used - 1 + u) (set (z .slots) (k .used - 1) w) ≡ enqueuedAll (dequeued k (place + 1)) (messagesOf (size .processors) (act .posting))
+    delivered-posts {act} e j all {z} moved w u =
+        delivered-mail (size .processors) k full-mail few-letters (place + 1) (omega arith) (omega arith) (act .posting)
+        (opened-posts given (tasksOf l) (keptOf l) (getD (k .slots) place noSlot .message) e) j (omega arith)
+        (subst (λ (i : ℕ). z ≡ holding (k .used) (shifted (k .slots) i j)) (sym back) moved) w u
+
+    pub on-delivery : {act : Act} {k' : Network} {l' : Lent}
+        → Acted (sendersOf users) (receiversOf users) (Accepted (openedIn given (tasksOf l) (keptOf l) (getD (k .slots) place noSlot .message))) l act l'
+        → k' ≡ enqueuedAll (dequeued k (place + 1)) (messagesOf (size .processors) (act .posting))
+        → On codes numbers users size k' l' last (step r (deliverStep (place + 1)) .system)
+    unfolding messageAt
+    on-delivery {act} {k'} {l'} a e =
+        on-turn (deliverStep (place + 1)) (a .whole)
+        (delivered-made given (size .processors) k (deliverStep (place + 1)) l l' act (place + 1) position-is (λ z. omega (arith, z))
+        (subst (λ (i : ℕ). Acted (sendersOf users) (receiversOf users) (Accepted (openedIn given (tasksOf l) (keptOf l) (getD (k .slots) i noSlot .message))) l act l') (sym back) a) e)
+
+  -- a task was run: there is room for its letters, which stand last
+  module _ (t : ℕ) where
+    abbrev verdict : Verdict
+    verdict = stepVerdict given (size .processors) (tasksOf l) (keptOf l) (k .used) (runStep t)
+
+    pub run-room : {act : Act} → act ≡ actOf verdict → k .used + length (messagesOf (size .processors) (act .posting)) ≤ 256
+    run-room e = step-room (rig-of .parts) (runStep t) e
+
+    pub on-run : {act : Act} {k' : Network} {l' : Lent} → Acted (sendersOf users) (receiversOf users) verdict l act l'
+        → k' ≡ enqueuedAll k (messagesOf (size .processors) (act .posting)) → On codes numbers users size k' l' last (step r (runStep t) .system)
+    unfolding positionOf
+    on-run {act} {k'} {l'} a e = on-turn (runStep t) (a .whole) (other-made given (size .processors) k (runStep t) l l' act refl a e)
 
   -- what desk d's dispatcher chooses
   pub choice-of : (d : ProcessorId) → nextReady (size .tasks) (getD last (d .0 - 1) 0) (getD (tasksOf l .ready) (d .0 - 1) 0) ≡ choice r d
@@ -145,6 +227,13 @@ module _ {codes numbers users : List ℕ} {size : Size} {k : Network} {l : Lent}
     pub no-run : choice r d ≡ 0 → TurnMade codes numbers users size (runTurn r d) k l last progress out progress out
     unfolding runTurn stepOf
     no-run z = rw (eq-eqb (choice r d) 0 z) (record { on = o; lines = next-none progress out })
+
+    -- it leaves the rig as it is
+    pub delivery-skipped : earliest d (messages k) ≡ 0 → deliveryTurn r d .system ≡ r
+    unfolding deliveryTurn
+    delivery-skipped e =
+        let z : earliest d (messages (r .network)) ≡ 0 = rw (o .network) at e in
+        rw (eq-eqb (earliest d (messages (r .network))) 0 z) refl
 
     -- one that makes one
     module _ {k' : Network} {l' : Lent} {progress' out' : List ℕ} where

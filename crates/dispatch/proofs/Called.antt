@@ -55,8 +55,8 @@ map-append : (xs ys : List Step) → map stepBytes (xs ++ ys) ≡ map stepBytes 
 map-append [] ys = refl
 map-append (x ∷ xs) ys = ap (λ (t : List (List ℕ)). stepBytes x ∷ t) (map-append xs ys)
 
--- after the first calls from rig r: j are left, at the desks after d
-pub record Going (codes numbers users : List ℕ) (size : Size) (m : ℕ) (r : System) (before : List ℕ) (j d : ℕ) (k : Network) (l : Lent) (last progress out : List ℕ) : Type 0 where
+-- after the first calls from rig r: j are left, at the desks after d; where the rig is awake, it is not at rest
+pub record Going (codes numbers users : List ℕ) (size : Size) (m : ℕ) (r : System) (before : List ℕ) (j d : ℕ) (awake : Bool) (k : Network) (l : Lent) (last progress out : List ℕ) : Type 0 where
   pub system : System
   pub steps : List Step
   pub on : On codes numbers users size k l last system
@@ -64,14 +64,15 @@ pub record Going (codes numbers users : List ℕ) (size : Size) (m : ℕ) (r : S
   pub written : WrittenBy (map stepBytes steps) before progress out
   pub two : length progress ≡ 2
   pub room : filledBy progress ≤ length out
+  pub woken : awake ≡ true → quiescent system ≡ false
 
 pub going-start : {codes numbers users : List ℕ} {size : Size} (m : ℕ) {r : System} {k : Network} {l : Lent} {last : List ℕ} → On codes numbers users size k l last r
-    → (before : List ℕ) {progress : List ℕ} → progress ≡ 0 ∷ 0 ∷ [] → Going codes numbers users size m r before m 0 k l last progress before
+    → (before : List ℕ) {progress : List ℕ} → progress ≡ 0 ∷ 0 ∷ [] → Going codes numbers users size m r before m 0 false k l last progress before
 going-start m {r} o before e =
-    rw e (record { system = r; steps = []; on = o; left = refl; written = nothing-written before; two = refl; room = omega arith })
+    rw e (record { system = r; steps = []; on = o; left = refl; written = nothing-written before; two = refl; room = omega arith; woken = λ e. absurd (tests-differ e refl) })
 
-module _ {codes numbers users : List ℕ} {size : Size} {m : ℕ} {r : System} {before : List ℕ} {j d : ℕ} {k : Network} {l : Lent} {last progress out : List ℕ}
-    (g : Going codes numbers users size m r before j d k l last progress out) where
+module _ {codes numbers users : List ℕ} {size : Size} {m : ℕ} {r : System} {before : List ℕ} {j d : ℕ} {awake : Bool} {k : Network} {l : Lent} {last progress out : List ℕ}
+    (g : Going codes numbers users size m r before j d awake k l last progress out) where
   -- a step did not fit
   pub ended-short : {rest : Bool} → (getD progress 1 0 ≡ 0 → ⊥) → Ended (called m r 0) before (filledBy progress) (wholeBy progress) rest out
   ended-short h =
@@ -103,7 +104,7 @@ module _ {codes numbers users : List ℕ} {size : Size} {m : ℕ} {r : System} {
       let ok : processorOk (g .system .processors) (processorId desk) ≡ true = rw (← g .on .processors) (within-both 1 (size .processors) desk (h .0) (h .1)) in
       rw (g .on .sound, ok) refl
 
-  module _ {i : ℕ} (count : j ≡ suc i) (some : 1 ≤ size .processors) (awake : quiescent (g .system) ≡ false)
+  module _ {i : ℕ} (count : j ≡ suc i) (some : 1 ≤ size .processors) (unrest : quiescent (g .system) ≡ false)
       {k' k'' : Network} {l' l'' : Lent} {last'' progress' out' progress'' out'' : List ℕ}
       (a : TurnMade codes numbers users size (deliveryTurn (g .system) (processorId desk)) k' l' last progress out progress' out')
       (b : TurnMade codes numbers users size (runTurn (deliveryTurn (g .system) (processorId desk) .system) (processorId desk)) k'' l'' last'' progress' out' progress'' out'') where
@@ -119,12 +120,13 @@ module _ {codes numbers users : List ℕ} {size : Size} {m : ℕ} {r : System} {
         let e : called j (g .system) d ≡ called (suc i) (g .system) d = ap (λ (x : ℕ). called x (g .system) d) count in
         let same : deskAfter (g .system .processors) d ≡ desk = rw (← g .on .processors) refl in
         e
-        ∙ called-more i (g .system) d awake
+        ∙ called-more i (g .system) d unrest
         ∙ ap (λ (x : ℕ). let o = dispatched (g .system) (processorId x) in after (stepOf (o .delivery) ++ stepOf (o .run)) (called i (o .system) x)) same
         ∙ ap (λ (o : Dispatched). after (stepOf (o .delivery) ++ stepOf (o .run)) (called i (o .system) desk)) (ruled some)
 
-    pub going-more : Going codes numbers users size m r before i desk k'' l'' last'' progress'' out''
-    going-more =
+    pub going-more : {awake' : Bool} → (awake' ≡ true → quiescent (runTurn delivered (processorId desk) .system) ≡ false)
+        → Going codes numbers users size m r before i desk awake' k'' l'' last'' progress'' out''
+    going-more w =
         let c = called i (runTurn delivered (processorId desk) .system) desk in
         let lines = next-then (a .lines) (b .lines) in
         record {
@@ -136,12 +138,14 @@ module _ {codes numbers users : List ℕ} {size : Size} {m : ℕ} {r : System} {
               (lines .more (map stepBytes (g .steps)) before (g .written));
           two = lines .long ∙ g .two;
           room = lines .room (g .room);
+          woken = w;
         }
 
   -- at whatever desk that is
-  module _ {i : ℕ} (count : j ≡ suc i) (some : 1 ≤ size .processors) (awake : quiescent (g .system) ≡ false) {e : ℕ} (q : e ≡ desk)
+  module _ {i : ℕ} (count : j ≡ suc i) (some : 1 ≤ size .processors) (unrest : quiescent (g .system) ≡ false) {e : ℕ} (q : e ≡ desk)
       {k' k'' : Network} {l' l'' : Lent} {last'' progress' out' progress'' out'' : List ℕ} where
     pub going-next : TurnMade codes numbers users size (deliveryTurn (g .system) (processorId e)) k' l' last progress out progress' out'
         → TurnMade codes numbers users size (runTurn (deliveryTurn (g .system) (processorId e) .system) (processorId e)) k'' l'' last'' progress' out' progress'' out''
-        → Going codes numbers users size m r before i e k'' l'' last'' progress'' out''
-    going-next a b = rw q (going-more count some awake (rw q at a) (rw q at b))
+        → {awake' : Bool} → (awake' ≡ true → quiescent (runTurn (deliveryTurn (g .system) (processorId e) .system) (processorId e) .system) ≡ false)
+        → Going codes numbers users size m r before i e awake' k'' l'' last'' progress'' out''
+    going-next a b w = rw q (going-more count some unrest (rw q at a) (rw q at b) (rw q at w))

@@ -1,6 +1,6 @@
 -- The earliest letter for a desk, by the places of the mail.
 use mathlib.Core.Path.{_≡_, refl, sym, _∙_, ap}
-use mathlib.Core.Bool.{Bool, true, false, not}
+use mathlib.Core.Bool.{true, false, not}
 use mathlib.Core.List.{List, [], _∷_}
 use Prim.Native.Nat.{ℕ, zero, suc, _+_, _-_, _<_, _≤_}
 use native.Mathlib.Omega.{arith}
@@ -12,14 +12,10 @@ use Rattle.plan.specs.declared.ProcessorId.{ProcessorId}
 use Rattle.rules.specs.declared.message.Message.{Message}
 use Rattle.rules.specs.declared.message.Message.the-variants.{Empty}
 use Rattle.rules.specs.declared.message.Network.{Network}
-use Rattle.rules.specs.Numbers.{sameProcessor}
 use Rattle.rules.specs.Networks.{messages, messageAt, noSlot}
-use Rattle.rules.specs.Dispatch.{addressee, earliest}
+use Rattle.rules.specs.Dispatch.{earliest}
 use Rattle.rules_laws.proofs.Messages.{length-messages, messageAt-messages}
-
--- a letter is for desk d
-abbrev pub isFor : ProcessorId → Message → Bool
-isFor d m = sameProcessor (addressee m) d
+use Rattle.dispatch.specs.Letters.{isFor}
 
 module _ (d : ProcessorId) where
   -- none of the letters is

@@ -5,14 +5,12 @@ use mathlib.Core.List.{List, map}
 use Prim.Native.Nat.{ℕ, _≤_}
 use lib.ListN.{length, replicate}
 use Rattle.plan.specs.declared.Plan.{Plan}
-use Rattle.plan.specs.declared.ProcessorId.{ProcessorId}
 use Rattle.rules.specs.declared.message.Network.{Network}
-use Rattle.rules.specs.declared.step.Step.{Step}
 use Rattle.rules.specs.declared.system.System.{System}
 use Rattle.rules.specs.Sound.{systemOk}
 use Rattle.rules.specs.Starts.{started}
-use Rattle.rules.specs.Steps.{step, quiescent}
-use Rattle.rules.specs.Dispatch.{Turned, deliveryTurn, runTurn, stepOf}
+use Rattle.rules.specs.Steps.{quiescent}
+use Rattle.rules.specs.Dispatch.{Turned, stepOf}
 use Rattle.rules_laws.specs.Shapes.{Shaped}
 use Rattle.plan_index.specs.user_table.Users.{Indexed}
 use Rattle.rig_parts.specs.Facts.{Facts, factsOf, keptIn}
@@ -37,12 +35,7 @@ pub record On (codes numbers users : List ℕ) (size : Size) (k : Network) (l : 
   pub whole : Whole (l .board)
   pub indexed : Indexed users
 
--- some rig, with some last choices or with these
-pub record Some (codes numbers users : List ℕ) (size : Size) (k : Network) (l : Lent) : Type 0 where
-  pub last : List ℕ
-  pub system : System
-  pub on : On codes numbers users size k l last system
-
+-- some rig, with these last choices
 pub record SomeBy (codes numbers users : List ℕ) (size : Size) (k : Network) (l : Lent) (last : List ℕ) : Type 0 where
   pub system : System
   pub on : On codes numbers users size k l last system
@@ -51,24 +44,10 @@ pub record SomeBy (codes numbers users : List ℕ) (size : Size) (k : Network) (
 abbrev pub Room : List ℕ → List ℕ → Type 0
 Room progress out = (length progress ≡ 2) × (filledBy progress ≤ length out)
 
--- whatever rig was lent, the step x was made of it, and written
-abbrev pub StepOn : List ℕ → List ℕ → List ℕ → Size → Step → Network → Lent → Network → Lent → Type 0
-StepOn codes numbers users size x k l k' l' =
-    (last : List ℕ) (r : System) → On codes numbers users size k l last r → On codes numbers users size k' l' last (step r x .system)
-
 -- the rig after a turn, and its step written
 pub record TurnMade (codes numbers users : List ℕ) (size : Size) (o : Turned) (k : Network) (l : Lent) (last progress out progress' out' : List ℕ) : Type 0 where
   pub on : On codes numbers users size k l last (o .system)
   pub lines : LinesNext (map stepBytes (stepOf (o .turn))) progress out progress' out'
-
--- the turns of a call at desk d, of whatever rig was lent
-abbrev pub DeliveryOn : List ℕ → List ℕ → List ℕ → Size → ProcessorId → Network → Lent → Network → Lent → List ℕ → List ℕ → List ℕ → List ℕ → Type 0
-DeliveryOn codes numbers users size d k l k' l' progress out progress' out' =
-    (last : List ℕ) (r : System) → On codes numbers users size k l last r → TurnMade codes numbers users size (deliveryTurn r d) k' l' last progress out progress' out'
-
-abbrev pub RunOn : List ℕ → List ℕ → List ℕ → Size → ProcessorId → Network → Lent → List ℕ → Network → Lent → List ℕ → List ℕ → List ℕ → List ℕ → List ℕ → Type 0
-RunOn codes numbers users size d k l last k' l' last' progress out progress' out' =
-    (r : System) → On codes numbers users size k l last r → TurnMade codes numbers users size (runTurn r d) k' l' last' progress out progress' out'
 
 -- the steps that calls chose are written as far as they fit; and where they all do, it is known whether the rig is at rest
 pub record Ended (c : Called) (before : List ℕ) (filled : ℕ) (whole rest : Bool) (after : List ℕ) : Type 0 where

@@ -39,7 +39,7 @@ called (suc k) r d =
     (record { steps = []; system = r })
     (record { steps = (stepOf (o .delivery) ++ stepOf (o .run)) ++ h .steps; system = h .system })
 
--- from the start of plan file p on n desks: 2,001 rounds of six calls at most
+-- from the start of plan file p on n desks: 2,001 rounds of six calls at most, which end no choice of 2,000 steps or fewer (`calls-enough` of `chooser`)
 unfoldable pub chosenFrom : ℕ → List ℕ → Called
 chosenFrom n p = called 12006 (startOf n p) 0
 

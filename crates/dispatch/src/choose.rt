@@ -6,7 +6,9 @@ mod bytes;
 mod calls;
 // The choice from a plan file.
 pub mod file;
+// Whether the rig is at rest.
+mod rest;
+// The run of a task.
+mod runs;
 // The choice from the start of a plan.
 mod start;
-// The two turns of a call.
-mod turns;

@@ -3,7 +3,7 @@
 // The steps that calls at the desks in turn choose.
 pub mod choose;
 // Which letter a call delivers.
-mod mail;
+pub mod mail;
 // Whether a rig is at rest.
 pub mod rest;
 

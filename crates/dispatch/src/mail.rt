@@ -3,6 +3,7 @@ ghost use mathlib.Core.Path.{_≡_};
 ghost use Prim.Native.Nat.{_≤_};
 ghost use Rattle.rules.specs.Networks.{messages};
 ghost use Rattle.rules.specs.Dispatch.{addressee, earliest};
+ghost use Rattle.dispatch.specs.Letters.{isFor};
 use plan::ProcessorId;
 use rules::message::Message;
 use rules::message::Network;
@@ -23,7 +24,14 @@ fn addressee(m: Message) -> ProcessorId
     }
 }
 
-// Its position from 1, or 0 where there is none.
+// The letter is addressed to desk d.
+pub fn is_for(m: Message, d: ProcessorId) -> bool
+    ensures { λ r. ⌜ r ≡ isFor d m ⌝ }
+{
+    same_processor(addressee(m), d)
+}
+
+// The position from 1 of the earliest letter for desk d, or 0 where there is none.
 pub fn earliest(n: Network, d: ProcessorId) -> u16
     requires { ⌜ n .used ≤ 256 ⌝ }
     ensures { λ r. ⌜ r ≡ earliest d (messages n) ⌝ }
@@ -34,7 +42,7 @@ pub fn earliest(n: Network, d: ProcessorId) -> u16
         let at = base::wide16(k);
         let slot = n.slots[at];
         let m = slot.message;
-        if same_processor(addressee(m), d) {
+        if is_for(m, d) {
             return k + 1;
         }
         k = k + 1;

@@ -100,6 +100,24 @@ module _ (f : Facts) (n : ℕ) (ts : TaskTable) (k : Network) (s : Kept) (x : St
       (λ y. absurd (some (rw (d, y) at at))))
       (λ d. absurd (some (rw d at at)))
 
+-- what was carried out, with the mail then, is the turn
+module _ (f : Facts) (n : ℕ) (k : Network) (x : Step) (before after : Lent) (r : Act) {k' : Network} where
+  pub delivered-made : (p : ℕ) → p ≡ positionOf (k .used) x → (p ≡ 0 → ⊥)
+      → Acted (f .senders) (f .receivers) (Accepted (openedIn f (tasksOf before) (keptOf before) (messageAt k p))) before r after
+      → k' ≡ enqueuedAll (dequeued k p) (messagesOf n (r .posting)) → turned (reportOf r) (tasksOf after) k' (keptOf after) ≡ turnOf f n (tasksOf before) k (keptOf before) x
+  delivered-made p at some a e =
+      ap (λ (z : Network). turned (reportOf r) (tasksOf after) z (keptOf after)) e
+      ∙ acted-turn (f .senders) (f .receivers) n (dequeued k p) before after r (Accepted (openedIn f (tasksOf before) (keptOf before) (messageAt k p))) a
+      ∙ message-turn f n (tasksOf before) k (keptOf before) x p at some
+
+  pub other-made : positionOf (k .used) x ≡ 0
+      → Acted (f .senders) (f .receivers) (stepVerdict f n (tasksOf before) (keptOf before) (k .used) x) before r after
+      → k' ≡ enqueuedAll k (messagesOf n (r .posting)) → turned (reportOf r) (tasksOf after) k' (keptOf after) ≡ turnOf f n (tasksOf before) k (keptOf before) x
+  other-made none a e =
+      ap (λ (z : Network). turned (reportOf r) (tasksOf after) z (keptOf after)) e
+      ∙ acted-turn (f .senders) (f .receivers) n k before after r (stepVerdict f n (tasksOf before) (keptOf before) (k .used) x) a
+      ∙ other-turn f n (tasksOf before) k (keptOf before) x none
+
 -- of one or the other
 either : (P : Verdict → Type 0) (t : Bool) (a b : Verdict) → P a → P b → P (unless t a b)
 either P true a b p q = q

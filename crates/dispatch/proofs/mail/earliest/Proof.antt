@@ -9,7 +9,8 @@ use native.Mathlib.Numerals.{add-one}
 use lib.ListN.{length, getD, length-map}
 use borrow.Author.Needs.{needs}
 use Rattle.rules.specs.Networks.{noSlot}
-use Rattle.dispatch.proofs.Letters.{isFor, none-earliest, first-earliest}
+use Rattle.dispatch.specs.Letters.{isFor}
+use Rattle.dispatch.proofs.Letters.{none-earliest, first-earliest}
 use Rattle.dispatch.proofs.mail.earliest.Statement.{statement}
 use Rattle.dispatch.proofs.mail.earliest.Tie as tie
 
@@ -34,29 +35,26 @@ mul-slot c = omega arith
 element-copy-out-slot : tie.Need-element-copy-out-slot Inv-loop μ-loop
 element-copy-out-slot c = omega arith
 
-addressee-requires : tie.Need-addressee-requires Inv-loop μ-loop
-addressee-requires c κs = search needs
-
-same-processor-requires : tie.Need-same-processor-requires Inv-loop μ-loop
-same-processor-requires c κs = search needs
+is-for-requires : tie.Need-is-for-requires Inv-loop μ-loop
+is-for-requires c κs = search needs
 
 add-result : tie.Need-add-result Inv-loop μ-loop
 add-result c = omega arith
 
 -- what was found of the letter after the first k
-found : (b : Bool) (s : tie.After-same-processor Inv-loop μ-loop) → s .same-processor .result ≡ b
-    → let l = s .before .before .before .before .before .before in
+found : (b : Bool) (s : tie.After-is-for Inv-loop μ-loop) → s .is-for .result ≡ b
+    → let l = s .before .before .before .before .before in
     isFor (l .before .args .d) (getD (l .before .args .t1 .slots) (l .loop .k) noSlot .message) ≡ b
 found b s e =
-    let w = s .before .before .before in
-    sym (rw (s .before .addressee .ensures, w .wide162 .ensures) at (s .same-processor .ensures)) ∙ e
+    let w = s .before .before in
+    sym (rw (w .wide162 .ensures) at (s .is-for .ensures)) ∙ e
 
 long : (s : tie.Start Inv-loop μ-loop) → length (s .args .t1 .slots) ≡ 256
 long s = simp length-map at (s .good .0 .1 .1 .0 .1 .0 .1)
 
 returns : tie.Need-returns Inv-loop μ-loop
 returns c =
-    let l = c .before .before .before .before .before .before .before in
+    let l = c .before .before .before .before .before .before in
     let a = l .before .args in
     add-one (l .loop .k)
     ∙ sym (first-earliest (a .d) (a .t1) (long (l .before)) (l .before .pre) (l .loop .k) (omega arith) (l .loop .inv .2) (found true (c .before) (c .if2 .taken)))
@@ -69,7 +67,7 @@ loop-less c = omega arith
 
 loop-again : tie.Need-loop-again Inv-loop μ-loop
 loop-again c =
-    let l = c .before .before .before .before .before .before .before in (
+    let l = c .before .before .before .before .before .before in (
       omega arith,
       l .loop .inv .1,
       λ i b.
@@ -96,8 +94,7 @@ earliest-spec =
     wide16-requires-2
     mul-slot
     element-copy-out-slot
-    addressee-requires
-    same-processor-requires
+    is-for-requires
     add-result
     returns
     add-k

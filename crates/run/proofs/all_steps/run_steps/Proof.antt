@@ -11,30 +11,26 @@ use borrow.Author.Tests.{not-true, not-false}
 use lib.ListN.{length, getD, set, drop}
 use lib.Seq.{paste-zero}
 use Rattle.rules.specs.declared.message.Network.{Network}
-use Rattle.rules.specs.declared.message.Slot.{Slot}
 use Rattle.rules.specs.declared.rule.Posting.the-variants.{Nothing}
-use Rattle.rules.specs.Networks.{slot, noSlot, messageAt, dequeued, enqueued}
+use Rattle.rules.specs.Networks.{noSlot, messageAt}
 use Rattle.rules.specs.StepFiles.{fileSteps}
-use Rattle.rig_parts.specs.declared.change.Verdict.the-variants.{Accepted}
-use Rattle.rig_parts.specs.Openings.{openedIn}
 use Rattle.rig_parts.proofs.BoundsParts.{processors-few}
-use Rattle.rig_parts.specs.Turns.{turned, turnOf}
+use Rattle.rig_parts.specs.Turns.{turnOf}
 use Rattle.rig_parts.proofs.Bounds.{message-ok}
 use Rattle.network.proofs.Shift.{shift-more}
-use Rattle.network.specs.Rounds.{messageOf}
 use Rattle.network.specs.Positions.{positionOf}
 use Rattle.network.proofs.Gaps.{holding}
-use Rattle.network.proofs.Posted.{after, after-none, after-skipped, after-posted, few-rounds, posted-none}
+use Rattle.network.proofs.Posted.{after, after-none, few-rounds, posted-none}
 use Rattle.board.specs.Lent.{lent, tasksOf, keptOf}
 use Rattle.board.specs.Acted.{plainAct}
-use Rattle.board.specs.Verdicts.{stepVerdict}
 use Rattle.board.specs.Rigs.{RigOn}
 use Rattle.run.proofs.all_steps.Going.{going-start, going-length, going-done, going-more}
-use Rattle.run.proofs.all_steps.Acting.{reportOf, acted-turn, other-turn, message-turn}
+use Rattle.run.proofs.all_steps.Mail.{round-posted, round-skipped}
+use Rattle.run.proofs.all_steps.Acting.{delivered-made, other-made}
 use Rattle.run.proofs.all_steps.run_steps.Statement.{statement}
 use Rattle.run.proofs.all_steps.run_steps.Tie as tie
 use Rattle.run.proofs.all_steps.run_steps.Proof.Stages.{Inv-loop2, μ-loop2, Inv-loop3, μ-loop3, Inv-loop, μ-loop, opened, tried, chosen, entered, begun, given, here, size-at, parts, rig-on, few, line-asks, with-board, message-there}
-use Rattle.run.proofs.all_steps.run_steps.Proof.Networks.{joins, other-left, word-kept, other-acted, free-one, free, network-is, network-then}
+use Rattle.run.proofs.all_steps.run_steps.Proof.Networks.{other-left, word-kept, other-acted, free-one, free, network-is, network-then}
 
 loop-holds : tie.Need-loop-holds Inv-loop2 μ-loop2 Inv-loop3 μ-loop3 Inv-loop μ-loop
 loop-holds c =
@@ -259,17 +255,11 @@ loop3-again c =
     let x = after-other .other .result .posting in
     let e = at-loop3 .loop3 .e in
     let start = at-loop .loop .network in
-    let now = at-loop3 .loop3 .network in
     let so-far = at-loop3 .loop3 .inv .1 in
     let next : c .if4 .network ≡ after x start (e + 1) =
     ⊎-elim
-    (λ w.
-    w .2
-    ∙ ap (λ (l : Slot). holding (now .used + 1) (set (now .slots) (now .used) l)) (ap slot (w .1 .ensures))
-    ∙ joins now (messageOf x e)
-    ∙ ap (λ (k : Network). enqueued k (messageOf x e)) so-far
-    ∙ sym (after-posted x start e (sym (after-skips .skips .ensures) ∙ not-true (after-skips .skips .result) (w .0 .taken))))
-    (λ w. w .1 ∙ so-far ∙ sym (after-skipped x start e (sym (after-skips .skips .ensures) ∙ not-false (after-skips .skips .result) (w .0 .left))))
+    (λ w. w .2 ∙ round-posted x start e so-far (sym (after-skips .skips .ensures) ∙ not-true (after-skips .skips .result) (w .0 .taken)) (w .1 .ensures))
+    (λ w. w .1 ∙ round-skipped x start e so-far (sym (after-skips .skips .ensures) ∙ not-false (after-skips .skips .result) (w .0 .left)))
     (c .if4 .came) in
     (omega (arith, in-loop3 .loop3-test .taken), next)
 
@@ -301,9 +291,7 @@ loop-again c =
     let d = after-deliver .deliver .ensures (f .tasks) (f .numbers) in
     let last = after-deliver .deliver .last .1 .1 in
     let then = lent (last .0) (last .1 .0) (last .1 .1 .0) (last .1 .1 .1 .0) (last .1 .1 .1 .1 .0) (last .1 .1 .1 .1 .1 .0) in
-    let turn = ap (λ (k : Network). turned (reportOf r) (tasksOf then) k (keptOf then)) (network-is after-wide8)
-    ∙ acted-turn (f .senders) (f .receivers) n (dequeued (b .network) p) here then r (Accepted (openedIn f (tasksOf here) (keptOf here) (getD (b .network .slots) (p - 1) noSlot .message))) d
-    ∙ message-turn f n (tasksOf here) (b .network) (keptOf here) x p (after-position .position .ensures .0) (then1 .if1 .taken)
+    let turn = delivered-made f n (b .network) x here then r p (after-position .position .ensures .0) (then1 .if1 .taken) d (network-is after-wide8)
     ∙ ap (turnOf f n (tasksOf here) (b .network) (keptOf here)) (after-step-at .step-at .ensures) in
     (omega (arith, in-loop .loop-test .taken), d .whole, going-more _ _ _ _ _ _ (b .inv .2) turn (after-emit-next .emit-next .ensures))
 
@@ -329,9 +317,7 @@ loop-again-2 c =
     let d = after-word-run .word-run .ensures .1 (then2 .if2 .taken) (f .numbers) (start .args .users .now) (b .hintprocessors) (b .hintmoves) (b .heldprocessors) (b .heldnumbers) (b .notes) in
     let then = with-board at-loop (after-word-run .word-run .last .1 .0) in
     let none : positionOf (b .network .used) x ≡ 0 = sym (after-position .position .ensures .0) ∙ else1 .if1 .left in
-    let turn = ap (λ (k : Network). turned (reportOf plainAct) (tasksOf then) k (keptOf then)) (sym (posted-none n (b .network) Nothing tt refl))
-    ∙ acted-turn (f .senders) (f .receivers) n (b .network) here then plainAct (stepVerdict f n (tasksOf here) (keptOf here) (b .network .used) x) d
-    ∙ other-turn f n (tasksOf here) (b .network) (keptOf here) x none
+    let turn = other-made f n (b .network) x here then plainAct none d (sym (posted-none n (b .network) Nothing tt refl))
     ∙ ap (turnOf f n (tasksOf here) (b .network) (keptOf here)) (after-step-at .step-at .ensures) in
     (omega (arith, in-loop .loop-test .taken), d .whole, going-more _ _ _ _ _ _ (b .inv .2) turn (after-emit-next2 .emit-next2 .ensures))
 
@@ -358,9 +344,7 @@ loop-again-3 c =
     let d = other-acted after-other in
     let then = other-left after-other in
     let none : positionOf (b .network .used) x ≡ 0 = sym (after-position .position .ensures .0) ∙ else1 .if1 .left in
-    let turn = ap (λ (k : Network). turned (reportOf r) (tasksOf then) k (keptOf then)) (network-then joined3)
-    ∙ acted-turn (f .senders) (f .receivers) n (b .network) here then r (stepVerdict f n (tasksOf here) (keptOf here) (b .network .used) x) d
-    ∙ other-turn f n (tasksOf here) (b .network) (keptOf here) x none
+    let turn = other-made f n (b .network) x here then r none d (network-then joined3)
     ∙ ap (turnOf f n (tasksOf here) (b .network) (keptOf here)) (after-step-at .step-at .ensures) in
     (omega (arith, in-loop .loop-test .taken), d .whole, going-more _ _ _ _ _ _ (b .inv .2) turn (after-emit-next3 .emit-next3 .ensures))
 

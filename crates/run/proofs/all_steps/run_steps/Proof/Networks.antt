@@ -1,5 +1,5 @@
 -- The mail after a delivery, and after any other step.
-use mathlib.Core.Path.{_≡_, refl, sym, ap, _∙_, subst}
+use mathlib.Core.Path.{_≡_, sym, ap, _∙_, subst}
 use mathlib.Core.Bool.{true}
 use mathlib.Core.List.{List}
 use mathlib.Core.Logic.{⊎-elim}
@@ -7,29 +7,20 @@ use Prim.Native.Nat.{ℕ, _+_, _-_, _≤_, _<_}
 use native.Mathlib.Omega.{arith}
 use borrow.Author.Tests.{not-true}
 use lib.ListN.{length, getD, set}
-use Rattle.rules.specs.declared.message.Message.{Message}
 use Rattle.rules.specs.declared.message.Network.{Network}
 use Rattle.rules.specs.declared.message.Slot.{Slot}
-use Rattle.rules.specs.Networks.{slot, noSlot, dequeued, enqueued, enqueuedAll, messagesOf}
-use Rattle.rig_parts.specs.Fetches.{siteIn}
-use Rattle.rig_parts.specs.Scopes.{messageScope}
-use Rattle.rig_parts.specs.Openings.{openedIn}
+use Rattle.rules.specs.Networks.{slot, noSlot, dequeued, enqueuedAll, messagesOf}
 use Rattle.network.specs.Rounds.{isMessage, roundsOf, messageOf}
-use Rattle.network.proofs.Gaps.{holding, gap-closed}
-use Rattle.network.proofs.Posted.{after, after-room, rounds-all, AtMostOne, posted-one}
-use Rattle.board.specs.declared.act.Act.{Act}
+use Rattle.network.proofs.Gaps.{holding}
+use Rattle.network.proofs.Posted.{after, after-room, rounds-all, posted-one}
 use Rattle.board.specs.Lent.{Lent, lent, tasksOf, keptOf}
 use Rattle.board.specs.Acted.{Acted}
 use Rattle.board.specs.Verdicts.{stepVerdict}
-use Rattle.run.proofs.all_steps.Posts.{message-posts, one-room, posted-last}
+use Rattle.run.proofs.all_steps.Posts.{one-room}
+use Rattle.run.proofs.all_steps.Mail.{joins, opened-posts, delivered-mail}
 use Rattle.run.proofs.all_steps.Acting.{step-room}
 use Rattle.run.proofs.all_steps.run_steps.Tie as tie
 use Rattle.run.proofs.all_steps.run_steps.Proof.Stages.{Inv-loop2, μ-loop2, Inv-loop3, μ-loop3, Inv-loop, μ-loop, opened, tried, chosen, entered, begun, given, here, parts, with-board, message-there}
-
--- a letter more
-pub joins : (k : Network) (m : Message) → holding (k .used + 1) (set (k .slots) (k .used) (slot m)) ≡ enqueued k m
-unfolding enqueued
-joins k m = refl
 
 -- what a step that delivers nothing leaves
 abbrev pub other-left : tie.After-other Inv-loop2 μ-loop2 Inv-loop3 μ-loop3 Inv-loop μ-loop → Lent
@@ -90,31 +81,6 @@ free c =
     (room after-other))
 
 -- the mail without the letter, and with what is posted
-taken-is : (c : tie.After-loop2 Inv-loop2 μ-loop2 Inv-loop3 μ-loop3 Inv-loop μ-loop) → holding (entered (opened (c .before .before) .before) .before .loop .network .used - 1) (set (c .before .loop2 .network .slots) (entered (opened (c .before .before) .before) .before .loop .network .used - 1) noSlot) ≡ dequeued (entered (opened (c .before .before) .before) .before .loop .network) (opened (c .before .before) .before .position .result)
-taken-is c =
-    let at-loop2 = c .before in
-    let then1 = opened (at-loop2 .before) in
-    let after-position = then1 .before in
-    let at-loop = entered after-position .before in
-    let k = at-loop .loop .network in
-    let h = message-there then1 in
-    ap (λ (z : Network). holding (k .used - 1) (set (z .slots) (k .used - 1) noSlot)) (at-loop2 .loop2 .inv .1)
-    ∙ gap-closed k (h .3) (h .2) (after-position .position .result) (h .0) (h .1) (at-loop2 .loop2 .j) (omega (arith, at-loop2 .loop2 .inv .0, c .loop2-test .left, h .0, h .1))
-
--- one letter at most is posted
-at-most : (c : tie.After-deliver Inv-loop2 μ-loop2 Inv-loop3 μ-loop3 Inv-loop μ-loop) → AtMostOne (c .deliver .result .posting)
-unfolding openedIn
-at-most c =
-    let after-position = opened c .before in
-    let at-loop = entered after-position .before in
-    let start = begun at-loop in
-    let f = given start in
-    let b = at-loop .loop in
-    let m = getD (b .network .slots) (after-position .position .result - 1) noSlot .message in
-    let k = messageScope (f .senders) (f .receivers) (f .parents) m in
-    subst (λ (r : Act). AtMostOne (r .posting)) (sym (c .deliver .ensures (f .tasks) (f .numbers) .act))
-    (message-posts k m (siteIn (f .codes) (tasksOf (here at-loop)) (keptOf (here at-loop) .store) k) _)
-
 pub network-is : (c : tie.After-wide8 Inv-loop2 μ-loop2 Inv-loop3 μ-loop3 Inv-loop μ-loop)
     → let k = entered (opened (c .before .before .before .before .before) .before) .before .loop .network in
     holding (k .used - 1 + c .wide8 .result) (set (c .before .before .before .before .loop2 .network .slots) (k .used - 1) (c .before .before .message .result))
@@ -125,16 +91,19 @@ network-is c =
     let after-loop2 = after-message .before in
     let at-loop2 = after-loop2 .before in
     let after-deliver = at-loop2 .before in
-    let at-loop = entered (opened after-deliver .before) .before in
+    let then1 = opened after-deliver in
+    let at-loop = entered (then1 .before) .before in
     let start = begun at-loop in
-    let u = at-loop .loop .network .used - 1 in
-    let l = at-loop2 .loop2 .network .slots in
-    let n = start .args .size .processors in
-    let x = after-deliver .deliver .result .posting in
-    ap (λ (i : ℕ). holding (u + i) (set l u (after-message .message .result))) (c .wide8 .ensures ∙ after-rounds .rounds .ensures)
-    ∙ ap (λ (m : Message). holding (u + roundsOf 1 x) (set l u (slot m))) (after-message .message .ensures)
-    ∙ posted-last n u l x (at-most after-deliver)
-    ∙ ap (λ (k : Network). enqueuedAll k (messagesOf n x)) (taken-is after-loop2)
+    let f = given start in
+    let l = here at-loop in
+    let k = at-loop .loop .network in
+    let p = then1 .before .position .result in
+    let h = message-there then1 in
+    let d = after-deliver .deliver in
+    delivered-mail (start .args .size .processors) k (h .3) (h .2) p (h .0) (h .1) (d .result .posting)
+    (opened-posts f (tasksOf l) (keptOf l) (getD (k .slots) (p - 1) noSlot .message) (d .ensures (f .tasks) (f .numbers) .act))
+    (at-loop2 .loop2 .j) (omega (arith, at-loop2 .loop2 .inv .0, after-loop2 .loop2-test .left, h .0, h .1)) (at-loop2 .loop2 .inv .1)
+    (after-message .message .ensures) (c .wide8 .ensures ∙ after-rounds .rounds .ensures)
 
 -- the mail with what another step posts
 pub network-then : (c : tie.Joined3 Inv-loop2 μ-loop2 Inv-loop3 μ-loop3 Inv-loop μ-loop)

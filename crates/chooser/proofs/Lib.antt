@@ -1,0 +1,2 @@
+-- A round of calls without a step is rest.
+pub mod Enough
