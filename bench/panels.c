@@ -1,7 +1,9 @@
 /* panels FILE [SAMPLES]: the library's panel after a step file and the
  * simulator's, held to recorded counts of another model (README of rig_vectors.c
- * has the record); with SAMPLES also nanoseconds a call of the first record, by
- * turns, best and median. */
+ * has the record); with SAMPLES also nanoseconds of the first record, by turns,
+ * best and median: of the whole call, of the panel of the same rig as lent bytes,
+ * and of the panel alone. The library's panel alone is the panel of lent bytes less
+ * the question for rest of the same bytes, which opens them in the same way. */
 #define _POSIX_C_SOURCE 200809L
 #include <stdio.h>
 #include <stdlib.h>
@@ -9,6 +11,7 @@
 
 #include "../include/mortarsedge.h"
 #include "sim_ask.h"
+#include "sim_live.h"
 #include "whole_file.h"
 
 enum { HEADER = 5, CALLS = 200, MAX_SAMPLES = 201 };
@@ -87,22 +90,75 @@ static int ascending(const void *a, const void *b)
     return (x > y) - (x < y);
 }
 
+/* The rig after the record's steps: as bytes, and the simulator's. */
+static uint8_t image[MORTARSEDGE_RIG_SIZE];
+static struct sim_rig still;
+
+static void prepare(const struct record *r)
+{
+    uint8_t word[MORTARSEDGE_LOG_RECORD];
+    mortarsedge_start(r->desks, r->plan, r->plan_length, image, sizeof image);
+    for (size_t i = 0; i + 4 <= r->steps_length; i += 4)
+        mortarsedge_step(image, sizeof image, r->steps[i], r->steps[i + 1], sim_u16(r->steps + i + 2), word, sizeof word);
+    sim_live_read(image, sizeof image, &still);
+}
+
+static uint32_t library_live(const struct record *r, uint32_t counts[ANSWERS])
+{
+    (void)r;
+    return mortarsedge_panel(image, sizeof image, counts, ANSWERS);
+}
+
+static uint32_t simulator_live(const struct record *r, uint32_t counts[ANSWERS])
+{
+    (void)r;
+    return sim_live_panel(image, sizeof image, counts, ANSWERS);
+}
+
+static uint32_t library_rest(const struct record *r, uint32_t counts[ANSWERS])
+{
+    (void)r;
+    counts[0] = (uint32_t)mortarsedge_rest(image, sizeof image);
+    return 0;
+}
+
+static uint32_t simulator_alone(const struct record *r, uint32_t counts[ANSWERS])
+{
+    uint16_t shown[ANSWERS];
+    (void)r;
+    sim_panel(&still, shown);
+    for (uint32_t a = 0; a < ANSWERS; a++)
+        counts[a] = shown[a];
+    return 0;
+}
+
+/* Nanoseconds a call. */
+static double sample(panel_after *subject, const struct record *r)
+{
+    uint32_t counts[ANSWERS];
+    double start = now();
+    for (int calls = 0; calls < CALLS; calls++)
+        subject(r, counts);
+    return (now() - start) / CALLS;
+}
+
+enum { SUBJECTS = 6 };
+
 static void measure(const struct record *r, unsigned count)
 {
-    static double samples[2][MAX_SAMPLES];
-    uint32_t counts[ANSWERS];
+    static panel_after *const all[SUBJECTS] = {library, simulator, library_live, simulator_live, library_rest, simulator_alone};
+    static double samples[SUBJECTS][MAX_SAMPLES];
+    prepare(r);
     for (unsigned i = 0; i < count; i++)
-        for (int s = 0; s < 2; s++) {
-            double start = now();
-            for (int calls = 0; calls < CALLS; calls++)
-                subjects[s](r, counts);
-            samples[s][i] = (now() - start) / CALLS;
-        }
-    for (int s = 0; s < 2; s++) {
+        for (int s = 0; s < SUBJECTS; s++)
+            samples[s][i] = sample(all[s], r);
+    for (int s = 0; s < SUBJECTS; s++)
         qsort(samples[s], count, sizeof samples[s][0], ascending);
-        printf("%-10s best %8.0f ns, median %8.0f ns\n", s == 0 ? "library" : "simulator", samples[s][0], samples[s][count / 2]);
-    }
-    printf("ratio %.2f\n", samples[0][0] / samples[1][0]);
+    double alone[2] = {samples[2][0] - samples[4][0], samples[5][0]};
+    printf("%-22s %10s %10s %8s\n", "best, nanoseconds", "library", "simulator", "ratio");
+    printf("%-22s %10.0f %10.0f %8.2f\n", "after a step file", samples[0][0], samples[1][0], samples[0][0] / samples[1][0]);
+    printf("%-22s %10.0f %10.0f %8.2f\n", "of a rig in bytes", samples[2][0], samples[3][0], samples[2][0] / samples[3][0]);
+    printf("%-22s %10.0f %10.0f %8.2f\n", "the panel alone", alone[0], alone[1], alone[0] / alone[1]);
 }
 
 int main(int argc, char **argv)

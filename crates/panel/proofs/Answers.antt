@@ -1,10 +1,12 @@
 -- The answers that are found on what is lent are those of the rig.
-use mathlib.Core.Path.{_≡_, refl, ap, _∙_}
+use mathlib.Core.Path.{_≡_, refl, sym, ap, _∙_}
 use mathlib.Core.Bool.{Bool, true, false}
 use mathlib.Core.Logic.{_≢_}
 use mathlib.Core.List.{List}
-use Prim.Native.Nat.{ℕ}
+use Prim.Native.Nat.{ℕ, _+_, _<_, _≤_}
 use native.Mathlib.Omega.{arith}
+use lib.ListN.{length}
+use borrow.Author.Tests.{le-leb}
 use Rattle.base.specs.Choice.{pick, within}
 use Rattle.base.proofs.Tests.{within-low}
 use Rattle.plan.specs.declared.TaskId.{TaskId}
@@ -14,20 +16,26 @@ use Rattle.rules.specs.declared.step.StepAnswer.the-variants.{Accepted, BadSyst
 use Rattle.rules.specs.declared.system.System.{System}
 use Rattle.rules.specs.declared.system.TaskTable.{TaskTable}
 use Rattle.rules.specs.Numbers.{taskId, processorId}
+use Rattle.rules.specs.Networks.{messagesOf}
+use Rattle.rules.specs.Systems.{taskIn}
 use Rattle.rules.specs.Runs.{nextOf, runAnswer, fits}
 use Rattle.rules.specs.Deliver.{deliverAnswer}
 use Rattle.rules.specs.Moves.{moved, moveAnswer}
 use Rattle.rules.specs.Sound.{systemOk}
 use Rattle.rules.specs.Steps.{wellFormed, kindAnswer, ruledAnswer, stepAnswer, runStep, deliverStep, moveStep}
 use Rattle.rules_laws.specs.Shapes.{Shaped}
+use Rattle.rules_laws.proofs.Messages.{few-messages}
 use Rattle.rules_sound.proofs.Sound.{sound}
 use Rattle.network.specs.Positions.{positionOf}
 use Rattle.rig_parts.specs.declared.change.Change.{Change}
-use Rattle.rig_parts.specs.Answers.{verdictOf}
+use Rattle.rig_parts.specs.declared.change.Verdict.{Verdict}
+use Rattle.rig_parts.specs.declared.change.Verdict.the-variants.{Accepted as Allowed}
+use Rattle.rig_parts.specs.Answers.{unlessRefused, verdictOf}
 use Rattle.rig_parts.specs.declared.kept.Kept.{Kept}
 use Rattle.rig_parts.specs.Effects.{ranOf}
 use Rattle.rig_parts.specs.Facts.{Facts, factsOf, keptIn}
-use Rattle.rig_parts.specs.RunVerdicts.{judgedRun}
+use Rattle.rig_parts.specs.Fetches.{instructionIn}
+use Rattle.rig_parts.specs.RunVerdicts.{fittingIn, ranIn, runRefusal, judgedRun}
 use Rattle.rig_parts.specs.MoveVerdicts.{moveRefusal}
 use Rattle.rig_parts.proofs.Runs.{run-answer}
 use Rattle.board.specs.declared.act.Size.{Size}
@@ -50,6 +58,21 @@ said-of k AlreadyThere = refl
 said-of k MoveWithChildren = refl
 said-of k MovesSpent = refl
 said-of k BadStep = refl
+
+-- with fewer than 250 letters in the mail there is room for what a rule posts
+roomy : (n used : ℕ) → n ≤ 6 → used < 250 → (k : Change) → fittingIn n used k ≡ Allowed k
+roomy n used few room k =
+    let m = length (messagesOf n (k .outcome .posting)) in
+    rw (le-leb (used + m) 256 (omega (arith, few-messages n (k .outcome .posting)))) refl
+
+-- so a run is refused by its first tests alone
+pub run-roomy : (f : Facts) (n : ℕ) (ts : TaskTable) (s : Kept) (used : ℕ) → n ≤ 6 → used < 250 → (t : TaskId)
+    → runRefusal (f .codes) (f .tasks) ts t ≡ actOf (judgedRun f n ts s used t) .answer
+unfolding judgedRun
+run-roomy f n ts s used few room t =
+    let k = ranIn f ts s t (instructionIn (f .codes) t (taskIn ts t .pc)) in
+    let a = runRefusal (f .codes) (f .tasks) ts t in
+    sym (ap (λ (v : Verdict). actOf (unlessRefused a v) .answer) (roomy n used few room k) ∙ said-of k a)
 
 -- the answers of a rig that 9 does not refuse
 module _ (r : System) (ok : systemOk r ≡ true) where

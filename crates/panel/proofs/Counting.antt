@@ -19,10 +19,7 @@ use Rattle.rules.specs.Steps.{stepAnswer}
 use Rattle.panel_laws.specs.Tallies.{tallied}
 use Rattle.panel_laws.proofs.Tallies.{tallied-more}
 use Rattle.panel.specs.Counted.{Few, CountsMore}
-
--- one count goes up by one
-abbrev pub raised : List ℕ → ℕ → List ℕ
-raised counts i = set counts i (getD counts i 0 + 1)
+use Rattle.panel.specs.Tally.{raised}
 
 pub few-more : {limit : ℕ} {counts : List ℕ} → Few limit counts → (i : ℕ) → i < 27 → Few (limit + 1) (raised counts i)
 few-more {limit} {counts} f i l =

@@ -13,6 +13,7 @@ use plan::PlanAnswer;
 use plan::ProcessorId;
 use plan::Refusal;
 use plan::TaskId;
+use plan_index::ends::numbers::put_numbers;
 use plan_index::user_table::users::build;
 use rig::start::no_messages;
 use rig::start::no_tables;
@@ -20,6 +21,7 @@ use rig::start::start_board;
 use rules::channel::Hint;
 use rules::step::RunAnswer;
 use run::all_steps::run_steps;
+use run::file::open::open_plan;
 
 // The answer, and the counts where it is accepted.
 pub struct Shown {
@@ -130,26 +132,28 @@ pub fn panel_file<'a>(processors: u32, plan: &'a [u8], steps: &'a [u8]) -> Shown
     if !base::is_within(1, 6, processors as usize) {
         return refused(RunAnswer::Unstarted(Refusal::BadProcessors));
     }
-    let read = plan_file::load(plan);
-    let answer = read.answer;
+    let mut codes = [0u32; 4096];
+    let mut parents = [0u8; 129];
+    let mut senders = [0u8; 129];
+    let mut receivers = [0u8; 129];
+    let opened = open_plan(plan, &mut codes, &mut parents, &mut senders, &mut receivers);
+    let answer = opened.answer;
     match answer {
         PlanAnswer::Refused(a) => refused(RunAnswer::Unstarted(a)),
         PlanAnswer::Accepted => {
             if !run::file::run::steps_ok(steps) {
                 return refused(RunAnswer::BadSteps);
             }
-            let numbers = plan_index::ends::numbers::send_numbers(
-                read.plan.tasks,
-                &read.plan.lengths,
-                &read.plan.codes,
-            );
+            let lengths = opened.lengths;
+            let mut numbers = [0u8; 4096];
+            put_numbers(opened.tasks, &lengths, &codes, &mut numbers);
             let counts = counts_after(
-                read.plan.tasks,
-                &read.plan.codes,
+                opened.tasks,
+                &codes,
                 &numbers,
-                &read.senders,
-                &read.receivers,
-                &read.parents,
+                &senders,
+                &receivers,
+                &parents,
                 processors as u8,
                 steps,
             );

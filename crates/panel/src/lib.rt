@@ -1,7 +1,7 @@
 // What can be pressed now: how many steps of a rig get each number.
 
 // The counts of runs, of deliveries and of moves, on what is lent.
-mod counts;
+pub mod counts;
 // The panel after a plan file and a step file.
 pub mod file;
 

@@ -1,3 +1,4 @@
 -- What a run over a step file begins with, and what it leaves in the lent output.
 pub mod Begins
+pub mod Opens
 pub mod Writes

@@ -18,12 +18,14 @@ use Rattle.base.proofs.Tables.{all-same, as-table, getD-table, table-same, set-
 use Rattle.base.proofs.Tests.{and-false}
 use Rattle.plan.specs.Kinds.{opSend, isUse}
 use Rattle.plan_value.specs.Slots.{slotIn}
-use Rattle.plan_index.specs.ends.Numbers.{sentIn, slotNumber, sendOf, numberedTask, sendNumbers}
+use Rattle.plan_index.specs.ends.Numbers.{sentIn, countedTask, sentBefore, slotNumber, sendOf, numberedTask, sendNumbers}
 use Rattle.plan_index.proofs.ends.Filling.{ltb-other, fill-more}
 
 module _ (codes : List ℕ) (k : ℕ) where
-  pub sent-none : replicate 129 0 ≡ table 129 (sentIn codes k 0)
-  sent-none = all-same 129 _ 0 (λ c h. fold-none _+_ 0 _)
+  pub sent-none : (old : List ℕ) → length old ≡ 129 → old ≡ countedTask codes old k 0
+  sent-none old e =
+      let same : table 129 (λ c. getD old c 0) ≡ old = rw e at (as-table old 0) in
+      sym same ∙ table-same 129 _ _ (λ c h. let none : sentIn codes k 0 c ≡ 0 = fold-none _+_ 0 _ in omega (arith, none))
 
   pub numbers-none : (old : List ℕ) → length old ≡ 4096 → old ≡ numberedTask codes old k 0
   numbers-none old e =
@@ -53,8 +55,9 @@ module _ (codes : List ℕ) (k : ℕ) where
 
     -- an instruction that is no send
     module _ (none : slotIn codes here .opcode ≢ opSend) where
-      pub sent-same : table 129 (sentIn codes k i) ≡ table 129 (sentIn codes k (i + 1))
-      sent-same = table-same 129 _ _ (λ c h. sym (more c ∙ simp (ne-eqb (slotIn codes here .opcode) opSend none) (omega arith)))
+      pub sent-same : (old : List ℕ) → countedTask codes old k i ≡ countedTask codes old k (i + 1)
+      sent-same old =
+          table-same 129 _ _ (λ c h. ap (λ w. getD old c 0 + w) (sym (more c ∙ simp (ne-eqb (slotIn codes here .opcode) opSend none) (omega arith))))
 
       pub numbers-same : (old : List ℕ) → numberedTask codes old k i ≡ numberedTask codes old k (i + 1)
       numbers-same old =
@@ -65,9 +68,9 @@ module _ (codes : List ℕ) (k : ℕ) where
 
     -- a send on channel c
     module _ (sends : slotIn codes here .opcode ≡ opSend) (c : ℕ) (on : c ≡ slotIn codes here .operand) (fits : c ≤ 128)
-        (sent : List ℕ) (counted : sent ≡ table 129 (sentIn codes k i)) where
+        (first : List ℕ) (unsent : getD first c 0 ≡ 0) (sent : List ℕ) (counted : sent ≡ countedTask codes first k i) where
       before : getD sent c 0 ≡ sentIn codes k i c
-      before = rw counted (getD-table 129 (sentIn codes k i) c 0 (omega arith))
+      before = rw (counted, getD-table 129 (λ c. getD first c 0 + sentIn codes k i c) c 0 (omega arith)) (omega (arith, unsent))
 
       next : getD sent c 0 + 1 ≡ sentIn codes k (i + 1) c
       next = rw (before, more c, eq-eqb (slotIn codes here .opcode) opSend sends, eq-eqb (slotIn codes here .operand) c (sym on)) refl
@@ -75,11 +78,14 @@ module _ (codes : List ℕ) (k : ℕ) where
       pub number-few : getD sent c 0 ≤ i
       number-few = rw before (sent-few i c)
 
-      pub sent-more : set sent c (getD sent c 0 + 1) ≡ table 129 (sentIn codes k (i + 1))
+      pub sent-more : set sent c (getD sent c 0 + 1) ≡ countedTask codes first k (i + 1)
       sent-more =
-          rw (next, counted)
-          (set-table 129 (sentIn codes k i) (sentIn codes k (i + 1)) c 0 (omega arith)
-          (λ j h ne. sym (more j ∙ simp (eq-eqb (slotIn codes here .opcode) opSend sends, ne-eqb (slotIn codes here .operand) j (λ q. ne (omega arith))) (omega arith))))
+          let there : getD sent c 0 + 1 ≡ getD first c 0 + sentIn codes k (i + 1) c = omega (arith, next, unsent) in
+          rw (there, counted)
+          (set-table 129 (λ c. getD first c 0 + sentIn codes k i c) (λ c. getD first c 0 + sentIn codes k (i + 1) c) c 0 (omega arith)
+          (λ j h ne.
+          ap (λ w. getD first j 0 + w)
+          (sym (more j ∙ simp (eq-eqb (slotIn codes here .opcode) opSend sends, ne-eqb (slotIn codes here .operand) j (λ q. ne (omega arith))) (omega arith)))))
 
       pub numbers-more : k < 64 → i < 64 → (old numbers : List ℕ) → numbers ≡ numberedTask codes old k i
           → set numbers here (getD sent c 0 + 1) ≡ numberedTask codes old k (i + 1)
@@ -89,6 +95,17 @@ module _ (codes : List ℕ) (k : ℕ) where
           (fill-more 4096 (slotNumber codes) (λ s. getD old s 0) (sendOf codes k i) (sendOf codes k (i + 1)) here (omega arith)
           (simp (row-of k i l, place-of k i l, eq-eqb k k refl, lt-ltb i (i + 1) (omega arith), eq-eqb (slotIn codes here .opcode) opSend sends))
           other)
+
+-- what was counted of one task more
+pub counted-none : (lengths codes : List ℕ) → replicate 129 0 ≡ table 129 (sentBefore lengths codes 0)
+counted-none lengths codes = all-same 129 _ 0 (λ c h. fold-none _+_ 0 _)
+
+pub counted-more : (lengths codes : List ℕ) (k : ℕ) → countedTask codes (table 129 (sentBefore lengths codes k)) k (getD lengths k 0) ≡ table 129 (sentBefore lengths codes (k + 1))
+counted-more lengths codes k =
+    table-same 129 _ _
+    (λ c h.
+    ap (λ w. w + sentIn codes k (getD lengths k 0) c) (getD-table 129 (sentBefore lengths codes k) c 0 h)
+    ∙ sym (fold-more _+_ 0 k (λ j. sentIn codes j (getD lengths j 0) c)))
 
 -- one task more
 pub tasks-none : (lengths codes : List ℕ) → replicate 4096 0 ≡ sendNumbers 0 lengths codes

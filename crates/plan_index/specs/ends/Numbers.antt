@@ -25,6 +25,19 @@ SendsFitAll n lengths codes =
 abbrev pub sentIn : List ℕ → ℕ → ℕ → ℕ → ℕ
 sentIn codes k i c = sumBelow i (λ j. pick (isUse opSend c (slotIn codes (64 * k + j))) 1 0)
 
+-- none of the channels that the first `count` instructions of task k + 1 send on was counted
+abbrev pub Unsent : List ℕ → ℕ → ℕ → List ℕ → Type 0
+Unsent codes k count sent =
+    (i : ℕ) → i < count → slotIn codes (64 * k + i) .opcode ≡ opSend → getD sent (slotIn codes (64 * k + i) .operand) 0 ≡ 0
+
+-- `sent` with the sends among the first i instructions of task k + 1 counted by channel
+abbrev pub countedTask : List ℕ → List ℕ → ℕ → ℕ → List ℕ
+countedTask codes sent k i = table 129 (λ c. getD sent c 0 + sentIn codes k i c)
+
+-- how many instructions of the first n tasks send on channel c
+abbrev pub sentBefore : List ℕ → List ℕ → ℕ → ℕ → ℕ
+sentBefore lengths codes n c = sumBelow n (λ k. sentIn codes k (getD lengths k 0) c)
+
 -- the number of the send in slot s
 abbrev pub slotNumber : List ℕ → ℕ → ℕ
 slotNumber codes s = sentIn codes (s / 64) (s % 64 + 1) (slotIn codes s .operand)

@@ -10,16 +10,17 @@ use Rattle.rules.specs.Steps.{stepAnswer, deliverStep}
 use Rattle.panel_laws.specs.Tallies.{deliveries}
 use Rattle.panel_laws.proofs.Tallies.{number-few}
 use Rattle.panel.specs.Counted.{Few, CountsMore, DeliversAs}
+use Rattle.panel.specs.Tally.{countsOf}
 use Rattle.panel.proofs.Counting.{few-more, few-below, counted-none, counted-more}
 use Rattle.panel.proofs.counts.count_deliveries.Statement.{statement}
 use Rattle.panel.proofs.counts.count_deliveries.Tie as tie
 
 abbrev Inv-loop : tie.InvT-loop
-Inv-loop used counts₀ k₀ counts k =
-    (k ≤ 256) × (Few (64 + k) counts) × ((r : System) → DeliversAs used r → CountsMore r (deliveries k) counts₀ counts)
+Inv-loop used before k₀ q k =
+    (k ≤ 256) × (Few (64 + k) (countsOf q)) × ((r : System) → DeliversAs used r → CountsMore r (deliveries k) (countsOf before) (countsOf q))
 
 abbrev μ-loop : tie.MeasureT-loop
-μ-loop used counts₀ k₀ counts k = 256 - k
+μ-loop used before k₀ q k = 256 - k
 
 loop-holds : tie.Need-loop-holds Inv-loop μ-loop
 unfolding table tableBefore
@@ -34,23 +35,23 @@ cast-delivery-answer c = omega arith
 delivery-answer-requires : tie.Need-delivery-answer-requires Inv-loop μ-loop
 delivery-answer-requires c κs = search needs
 
-count-requires : tie.Need-count-requires Inv-loop μ-loop
-count-requires c κs = let l = c .before .before .before in few-below (omega arith) (l .loop .inv .1)
+more-requires : tie.Need-more-requires Inv-loop μ-loop
+more-requires c κs = let l = c .before .before in few-below (omega arith) (l .loop .inv .1)
 
 loop-less : tie.Need-loop-less Inv-loop μ-loop
 loop-less c = omega arith
 
 loop-again : tie.Need-loop-again Inv-loop μ-loop
 loop-again c =
-    let d = c .before .before in
+    let d = c .before in
     let l = d .before .before in
     let k = l .loop .k in (
       omega arith,
-      rw (c .count .ensures) (few-below (omega arith) (few-more (l .loop .inv .1) _ (number-few (d .delivery-answer .result)))),
+      rw (c .more .ensures) (few-below (omega arith) (few-more (l .loop .inv .1) _ (number-few (d .delivery-answer .result)))),
       λ r h.
           counted-more r (λ p. deliverStep (suc p)) k (d .delivery-answer .result) (l .loop .inv .2 r h)
           (d .delivery-answer .ensures ∙ h (k + 1) ∙ ap (λ (p : ℕ). stepAnswer r (deliverStep p)) (add-one k))
-          (c .count .ensures),
+          (c .more .ensures),
     )
 
 returns : tie.Need-returns Inv-loop μ-loop
@@ -69,7 +70,7 @@ count-deliveries-spec =
     add-p
     cast-delivery-answer
     delivery-answer-requires
-    count-requires
+    more-requires
     loop-less
     loop-again
     returns)

@@ -9,16 +9,17 @@ use Rattle.rules.specs.declared.system.System.{System}
 use Rattle.board.specs.Lent.{tasksOn}
 use Rattle.panel_laws.specs.Tallies.{movesOf, moves}
 use Rattle.panel.specs.Counted.{Few, CountsMore, MovesAs}
+use Rattle.panel.specs.Tally.{countsOf}
 use Rattle.panel.proofs.Counting.{few-below, counted-none, counted-joined}
 use Rattle.panel.proofs.counts.count_moves.Statement.{statement}
 use Rattle.panel.proofs.counts.count_moves.Tie as tie
 
 abbrev Inv-loop : tie.InvT-loop
-Inv-loop board n counts₀ k₀ counts k =
-    (k ≤ n .tasks) × (Few (320 + 6 * k) counts) × ((r : System) → MovesAs (tasksOn board) n r → CountsMore r (moves k (n .processors)) counts₀ counts)
+Inv-loop board n before k₀ q k =
+    (k ≤ n .tasks) × (Few (320 + 6 * k) (countsOf q)) × ((r : System) → MovesAs (tasksOn board) n r → CountsMore r (moves k (n .processors)) (countsOf before) (countsOf q))
 
 abbrev μ-loop : tie.MeasureT-loop
-μ-loop board n counts₀ k₀ counts k = n .tasks - k
+μ-loop board n before k₀ q k = n .tasks - k
 
 loop-holds : tie.Need-loop-holds Inv-loop μ-loop
 unfolding fold
@@ -28,14 +29,14 @@ add-t : tie.Need-add-t Inv-loop μ-loop
 add-t c = omega arith
 
 count-moves-of-requires : tie.Need-count-moves-of-requires Inv-loop μ-loop
-count-moves-of-requires c κs = (omega arith, omega arith, few-below (omega arith) (c .before .before .before .loop .inv .1))
+count-moves-of-requires c κs = (omega arith, omega arith, few-below (omega arith) (c .before .before .loop .inv .1))
 
 loop-less : tie.Need-loop-less Inv-loop μ-loop
 loop-less c = omega arith
 
 loop-again : tie.Need-loop-again Inv-loop μ-loop
 loop-again c =
-    let l = c .before .before .before .before in
+    let l = c .before .before .before in
     let k = l .loop .k in
     let n = l .before .args .n .processors in
     let e = c .count-moves-of .ensures in (

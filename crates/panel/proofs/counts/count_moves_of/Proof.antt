@@ -11,16 +11,17 @@ use Rattle.board.specs.Lent.{tasksOn}
 use Rattle.panel_laws.specs.Tallies.{movesOf}
 use Rattle.panel_laws.proofs.Tallies.{number-few}
 use Rattle.panel.specs.Counted.{Few, CountsMore, MovesAs}
+use Rattle.panel.specs.Tally.{countsOf}
 use Rattle.panel.proofs.Counting.{few-more, few-below, counted-none, counted-more}
 use Rattle.panel.proofs.counts.count_moves_of.Statement.{statement}
 use Rattle.panel.proofs.counts.count_moves_of.Tie as tie
 
 abbrev Inv-loop : tie.InvT-loop
-Inv-loop board n t counts₀ k₀ counts k =
-    (k ≤ n .processors) × ((l : ℕ) → Few l counts₀ → Few (l + k) counts) × ((r : System) → MovesAs (tasksOn board) n r → CountsMore r (movesOf t k) counts₀ counts)
+Inv-loop board n t before k₀ q k =
+    (k ≤ n .processors) × ((l : ℕ) → Few l (countsOf before) → Few (l + k) (countsOf q)) × ((r : System) → MovesAs (tasksOn board) n r → CountsMore r (movesOf t k) (countsOf before) (countsOf q))
 
 abbrev μ-loop : tie.MeasureT-loop
-μ-loop board n t counts₀ k₀ counts k = n .processors - k
+μ-loop board n t before k₀ q k = n .processors - k
 
 loop-holds : tie.Need-loop-holds Inv-loop μ-loop
 unfolding table tableBefore
@@ -35,24 +36,24 @@ cast-move-refusal c = search needs
 move-refusal-requires : tie.Need-move-refusal-requires Inv-loop μ-loop
 move-refusal-requires c κs = search needs
 
-count-requires : tie.Need-count-requires Inv-loop μ-loop
-count-requires c κs = let l = c .before .before .before .before in few-below (omega arith) (l .loop .inv .1 698 (l .before .pre .2))
+more-requires : tie.Need-more-requires Inv-loop μ-loop
+more-requires c κs = let l = c .before .before .before in few-below (omega arith) (l .loop .inv .1 698 (l .before .pre .2))
 
 loop-less : tie.Need-loop-less Inv-loop μ-loop
 loop-less c = omega arith
 
 loop-again : tie.Need-loop-again Inv-loop μ-loop
 loop-again c =
-    let d = c .before .before in
+    let d = c .before in
     let l = d .before .before .before in
     let k = l .loop .k in
     let t = l .before .args .t in (
       omega arith,
-      λ m f. rw (c .count .ensures) (few-below (omega arith) (few-more (l .loop .inv .1 m f) _ (number-few (d .move-refusal .result)))),
+      λ m f. rw (c .more .ensures) (few-below (omega arith) (few-more (l .loop .inv .1 m f) _ (number-few (d .move-refusal .result)))),
       λ r h.
           counted-more r (λ e. moveStep t (suc e)) k (d .move-refusal .result) (l .loop .inv .2 r h)
           (d .move-refusal .ensures ∙ h t (k + 1) ∙ ap (λ (e : ℕ). stepAnswer r (moveStep t e)) (add-one k))
-          (c .count .ensures),
+          (c .more .ensures),
     )
 
 returns : tie.Need-returns Inv-loop μ-loop
@@ -71,7 +72,7 @@ count-moves-of-spec =
     add-d
     cast-move-refusal
     move-refusal-requires
-    count-requires
+    more-requires
     loop-less
     loop-again
     returns)

@@ -7,67 +7,43 @@ use borrow.Author.Tests.{not-true, not-false}
 use Rattle.base.specs.Choice.{within}
 use Rattle.base.proofs.Tests.{within-high}
 use Rattle.plan.specs.declared.PlanAnswer.the-variants.{Accepted}
-use Rattle.plan.specs.Programs.{programs, canonical}
-use Rattle.plan.specs.Refusals.{planAnswer}
-use Rattle.plan.specs.Files.{filePrograms, fileAnswer}
+use Rattle.plan.specs.Files.{fileAnswer}
 use Rattle.rules.specs.StepFiles.{stepsOk}
-use Rattle.plan_index.specs.ends.Derived.{endsOf}
-use Rattle.rig_parts.specs.Facts.{facts}
-use Rattle.run.specs.file.Begins.{Begins}
-use Rattle.run.proofs.file.Outcomes.{read-answer, read-plan-is, plan-ok, start-is, begins, steps-few}
+use Rattle.run.proofs.file.Opening.{opened-file, opened-passes, opened-begins}
+use Rattle.run.proofs.file.Outcomes.{start-is, steps-few}
 use Rattle.panel.proofs.Shown.{processors-refused, file-refused, steps-refused, shown}
 use Rattle.panel.proofs.file.panel_file.Statement.{statement}
 use Rattle.panel.proofs.file.panel_file.Tie as tie
 
--- where the desks are within the limits, and where the file was read
+-- where the desks are within the limits, where the file was opened, where it was accepted
 abbrev begin : tie.Else1 → tie.Start
 begin c = c .before .before .before .before
 
-abbrev within-limits : tie.After-load → tie.Else1
-within-limits c = c .before
+abbrev within-limits : tie.After-open-plan → tie.Else1
+within-limits c = c .before .before .before .before .before
+
+abbrev opened : tie.After-enum-told → tie.After-open-plan
+opened c = c .before .before
+
+abbrev told : tie.Else2 → tie.After-enum-told
+told c = c .before .before
 
 -- what has passed: the desks, the plan file, the step file
 processors : (c : tie.Else1) → within 1 6 (begin c .args .processors) ≡ true
 processors c = let i = c .before .is-within in sym (i .ensures) ∙ not-false (i .result) (c .if1 .left)
 
-abbrev loaded : tie.After-enum-told → tie.After-load
-loaded c = c .before .before
+file : (c : tie.After-enum-told) → fileAnswer (begin (within-limits (opened c)) .args .plan .now) ≡ Accepted
+file c = opened-file (opened c .open-plan .ensures) (c .enum-told .given .1)
 
-file : (c : tie.After-enum-told) → fileAnswer (begin (within-limits (loaded c)) .args .plan .now) ≡ Accepted
-file c = let k = loaded c in sym (read-answer (begin (within-limits k) .args .plan .now) (k .load .ensures .read)) ∙ c .enum-told .given .1
-
-abbrev told : tie.Else2 → tie.After-enum-told
-told c = c .before .before
-
-steps : (c : tie.Else2) → stepsOk (begin (within-limits (loaded (told c))) .args .steps .now) ≡ true
+steps : (c : tie.Else2) → stepsOk (begin (within-limits (opened (told c))) .args .steps .now) ≡ true
 steps c = let i = c .before .steps-ok in sym (i .ensures) ∙ not-false (i .result) (c .if2 .left)
 
--- the plan
-plan-is : (c : tie.Else2) → loaded (told c) .load .result .plan ≡ canonical (filePrograms (begin (within-limits (loaded (told c))) .args .plan .now))
-plan-is c = let k = loaded (told c) in read-plan-is (begin (within-limits k) .args .plan .now) (k .load .ensures .read) (file (told c))
-
-plan-passes : (c : tie.Else2) → planAnswer (programs (loaded (told c) .load .result .plan)) ≡ Accepted
-plan-passes c = rw (plan-is c) (plan-ok (begin (within-limits (loaded (told c))) .args .plan .now) (file (told c)))
-
 -- where the sends are numbered, and what is passed before
-abbrev numbered : tie.After-counts-after-arg4 → tie.After-send-numbers
-numbered c = c .before .before .before .before .before .before
+abbrev numbered : tie.After-parents2 → tie.After-put-numbers
+numbered c = c .before .before .before .before .before
 
-abbrev passed : tie.After-send-numbers-arg2 → tie.Else2
-passed c = c .before .before .before
-
--- a run of the plan begins
-began : (c : tie.After-send-numbers)
-    → let p = passed (c .before) in
-    let r = loaded (told p) .load .result in
-    Begins (begin (within-limits (loaded (told p))) .args .processors) (r .plan)
-    (facts (r .plan .tasks) (r .plan .codes) (c .send-numbers .result) (r .senders) (r .receivers) (r .parents))
-unfolding endsOf
-began c =
-    let p = passed (c .before) in
-    let k = loaded (told p) in
-    let users = k .load .ensures .firsts (told p .enum-told .given .1) in
-    begins _ (processors (within-limits k)) _ (plan-passes p) (c .send-numbers .ensures) (users .senders) (users .receivers) (users .parents)
+abbrev passed : tie.After-numbers → tie.Else2
+passed c = c .before .before .before .before
 
 is-within-requires : tie.Need-is-within-requires
 is-within-requires c κs = search needs
@@ -80,8 +56,8 @@ returns c =
     let i = c .before .before .is-within in
     processors-refused _ _ _ (sym (i .ensures) ∙ not-true (i .result) (c .before .if1 .taken)) (c .refused .ensures)
 
-load-requires : tie.Need-load-requires
-load-requires c κs = search needs
+open-plan-requires : tie.Need-open-plan-requires
+open-plan-requires c κs = (refl, refl, refl, refl)
 
 enum-known-answer : tie.Need-enum-known-answer
 enum-known-answer c = search needs
@@ -103,31 +79,38 @@ returns-2 c =
     let t = c .before in
     let i = t .before .steps-ok in
     let e = t .before .before in
-    steps-refused _ _ _ (processors (within-limits (loaded e))) (file e) (sym (i .ensures) ∙ not-true (i .result) (t .if2 .taken)) (c .refused3 .ensures)
+    steps-refused _ _ _ (processors (within-limits (opened e))) (file e) (sym (i .ensures) ∙ not-true (i .result) (t .if2 .taken)) (c .refused3 .ensures)
 
-send-numbers-requires : tie.Need-send-numbers-requires
-send-numbers-requires c κs = plan-passes (passed c)
+put-numbers-requires : tie.Need-put-numbers-requires
+put-numbers-requires c κs = let t = told (passed c) in (opened-passes (opened t .open-plan .ensures) (t .enum-told .given .1), refl)
 
 cast-counts-after : tie.Need-cast-counts-after
 cast-counts-after c =
-    let e = within-limits (loaded (told (passed (numbered c .before)))) in
+    let e = within-limits (opened (told (passed (numbered c .before)))) in
     omega (arith, within-high 1 6 (begin e .args .processors) (processors e))
 
 counts-after-requires : tie.Need-counts-after-requires
-counts-after-requires c κs = let n = numbered c in (record { plan = _; begins = began n }, steps-few _ (steps (passed (n .before))))
+counts-after-requires c κs =
+    let n = numbered c in
+    let p = passed (n .before) in
+    let t = told p in
+    let k = opened t in
+    (record { plan = _; begins = opened-begins (k .open-plan .ensures) (t .enum-told .given .1) _ (processors (within-limits k)) (n .put-numbers .ensures) }, steps-few _ (steps p))
 
 returns-3 : tie.Need-returns-3
 returns-3 c =
     let k = c .before .before .before .before in
-    file-refused _ _ _ (processors (within-limits k)) _ (sym (read-answer (begin (within-limits k) .args .plan .now) (k .load .ensures .read)) ∙ c .before .before .answer .given .1) (c .refused2 .ensures)
+    file-refused _ _ _ (processors (within-limits k)) _ (sym (k .open-plan .ensures .answered) ∙ c .before .before .answer .given .1) (c .refused2 .ensures)
 
 returns-4 : tie.Need-returns-4
 returns-4 c =
     let n = numbered (c .before) in
     let p = passed (n .before) in
-    let k = loaded (told p) in
-    shown _ _ _ (processors (within-limits k)) (file (told p)) (steps p)
-    (rw (start-is _ _ _ (plan-is p)) at (c .counts-after .ensures _ (began n)))
+    let t = told p in
+    let k = opened t in
+    let q = processors (within-limits k) in
+    shown _ _ _ q (file t) (steps p)
+    (rw (start-is _ _ _ refl) at (c .counts-after .ensures _ (opened-begins (k .open-plan .ensures) (t .enum-told .given .1) _ q (n .put-numbers .ensures))))
     refl
 
 pub panel-file-spec : {M : Type 1} → statement M
@@ -137,14 +120,14 @@ panel-file-spec =
     is-within-requires
     refused-requires
     returns
-    load-requires
+    open-plan-requires
     enum-known-answer
     refused-requires-2
     enum-told
     steps-ok-requires
     refused-requires-3
     returns-2
-    send-numbers-requires
+    put-numbers-requires
     cast-counts-after
     counts-after-requires
     returns-3

@@ -3,27 +3,27 @@ use Prim.Native.Nat.{ℕ, _+_, _*_, _-_, _≤_}
 use mathlib.Core.Path.{_≡_, sym, _∙_, ap}
 use mathlib.Core.Logic.{_≢_, ⊎-elim}
 use native.Mathlib.Omega.{arith}
+use lib.ListN.{getD}
 use borrow.Author.Needs.{needs}
-use Rattle.base.specs.Lists.{table}
 use Rattle.plan.specs.declared.Instruction.{Instruction}
 use Rattle.plan.specs.Kinds.{opSend}
 use Rattle.plan_value.specs.Slots.{slotIn}
-use Rattle.plan_index.specs.ends.Numbers.{sentIn, numberedTask}
+use Rattle.plan_index.specs.ends.Numbers.{countedTask, numberedTask}
 use Rattle.plan_index.proofs.ends.Numbering.{sent-none, numbers-none, sent-same, numbers-same, sent-more, number-few, numbers-more}
 use Rattle.plan_index.proofs.ends.numbers.number_task.Statement.{statement}
 use Rattle.plan_index.proofs.ends.numbers.number_task.Tie as tie
 
 abbrev Inv-loop : tie.InvT-loop
-Inv-loop k count codes numbers₀ sent₀ i₀ numbers sent i =
-    (i ≤ count) × (sent ≡ table 129 (sentIn codes k i)) × (numbers ≡ numberedTask codes numbers₀ k i)
+Inv-loop k count codes sent₀ numbers₀ i₀ sent numbers i =
+    (i ≤ count) × (sent ≡ countedTask codes sent₀ k i) × (numbers ≡ numberedTask codes numbers₀ k i)
 
 abbrev μ-loop : tie.MeasureT-loop
-μ-loop k count codes numbers₀ sent₀ i₀ numbers sent i = count - i
+μ-loop k count codes sent₀ numbers₀ i₀ sent numbers i = count - i
 
 loop-holds : tie.Need-loop-holds Inv-loop μ-loop
 loop-holds c =
     let a = c .args in
-    (search needs, sent-none (a .codes .now) (a .k), numbers-none (a .codes .now) (a .k) (a .numbers .now) (c .pre .2))
+    (search needs, sent-none (a .codes .now) (a .k) (a .sent .now) (c .pre .4), numbers-none (a .codes .now) (a .k) (a .numbers .now) (c .pre .2))
 
 mul-s : tie.Need-mul-s Inv-loop μ-loop
 mul-s c = omega arith
@@ -64,19 +64,23 @@ channel-fits c =
     let l = at f in
     omega (arith, l .before .pre .3 (l .loop .i) (omega arith) (sym (kind f) ∙ c .before .if1 .taken), on f (c .wide16 .ensures))
 
-array-read-before : tie.Need-array-read-before Inv-loop μ-loop
-array-read-before c = omega (arith, channel-fits c)
+element-copy-out-before : tie.Need-element-copy-out-before Inv-loop μ-loop
+element-copy-out-before c = omega (arith, channel-fits c)
 
 add-n : tie.Need-add-n Inv-loop μ-loop
 add-n c =
-    let f = c .before .before .before in
+    let w = c .before in
+    let f = w .before .before .before in
     let l = at f in
     let a = l .before .args in
-    let few = number-few (a .codes .now) (a .k) (l .loop .i) (sym (kind f) ∙ c .before .if1 .taken) (c .wide16 .result) (on f (c .wide16 .ensures)) (channel-fits c) (l .loop .sent) (l .loop .inv .1) in
+    let send = sym (kind f) ∙ w .before .if1 .taken in
+    let channel = on f (w .wide16 .ensures) in
+    let unsent : getD (a .sent .now) (w .wide16 .result) 0 ≡ 0 = rw channel (l .before .pre .5 (l .loop .i) (omega arith) send) in
+    let few = number-few (a .codes .now) (a .k) (l .loop .i) send (w .wide16 .result) channel (channel-fits w) (a .sent .now) unsent (l .loop .sent) (l .loop .inv .1) in
     omega arith
 
-array-write-sent : tie.Need-array-write-sent Inv-loop μ-loop
-array-write-sent c = omega (arith, channel-fits c)
+element-write-sent : tie.Need-element-write-sent Inv-loop μ-loop
+element-write-sent c = omega (arith, channel-fits (c .before))
 
 element-write-numbers : tie.Need-element-write-numbers Inv-loop μ-loop
 element-write-numbers c = omega arith
@@ -100,19 +104,20 @@ loop-again c =
     let send = sym (kind f) ∙ w .0 .taken in
     let channel = on f (w .1 .ensures) in
     let fits = l .before .pre .3 i (omega arith) send in
-    let sent = sent-more o (a .k) i send (w .1 .result) channel (omega arith) (l .loop .sent) (inv .1) in
-    let numbers = numbers-more o (a .k) i send (w .1 .result) channel (omega arith) (l .loop .sent) (inv .1) (omega arith) (omega arith) (a .numbers .now) (l .loop .numbers) (inv .2) in
-    (omega arith, w .3 ∙ sent, w .2 ∙ numbers))
+    let unsent : getD (a .sent .now) (w .1 .result) 0 ≡ 0 = rw channel (l .before .pre .5 i (omega arith) send) in
+    let sent = sent-more o (a .k) i send (w .1 .result) channel (omega arith) (a .sent .now) unsent (l .loop .sent) (inv .1) in
+    let numbers = numbers-more o (a .k) i send (w .1 .result) channel (omega arith) (a .sent .now) unsent (l .loop .sent) (inv .1) (omega arith) (omega arith) (a .numbers .now) (l .loop .numbers) (inv .2) in
+    (omega arith, w .3 ∙ sent, w .4 ∙ numbers))
     (λ w.
     let other : x f .opcode ≢ opSend = λ e. w .0 .left (kind f ∙ e) in
-    (omega arith, w .2 ∙ inv .1 ∙ sent-same o (a .k) i other, w .1 ∙ inv .2 ∙ numbers-same o (a .k) i other (a .numbers .now)))
+    (omega arith, w .1 ∙ inv .1 ∙ sent-same o (a .k) i other (a .sent .now), w .2 ∙ inv .2 ∙ numbers-same o (a .k) i other (a .numbers .now)))
     (c .if1 .came)
 
 returns : tie.Need-returns Inv-loop μ-loop
 returns c =
     let l = c .before in
     let e : l .loop .i ≡ l .before .args .count = omega arith in
-    rw (← e) (l .loop .inv .2)
+    (rw (← e) (l .loop .inv .2), rw (← e) (l .loop .inv .1))
 
 pub number-task-spec : {M : Type 1} → statement M
 number-task-spec =
@@ -127,9 +132,9 @@ number-task-spec =
     element-copy-out-of
     of-requires
     wide16-requires
-    array-read-before
+    element-copy-out-before
     add-n
-    array-write-sent
+    element-write-sent
     element-write-numbers
     add-i
     loop-less
