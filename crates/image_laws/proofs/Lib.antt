@@ -1,0 +1,22 @@
+-- The laws of images: numbers as bytes, the parts of an image, and that an image holds its rig.
+pub mod Same
+pub mod Numbers
+pub mod Pieces
+pub mod Plans
+pub mod Letters
+pub mod Packing
+pub mod Boards
+pub mod BoardsHeld
+pub mod BoardsRead
+pub mod Mails
+pub mod Sections
+pub mod Parts
+pub mod Whole
+pub mod Held
+pub mod ImageBytes
+pub mod Written
+pub mod Imaged
+pub mod Unused
+pub mod Read
+pub mod Started
+pub mod Typed

@@ -1,0 +1,1 @@
+// Laws of images: nothing here is code.
