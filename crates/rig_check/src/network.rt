@@ -82,7 +82,7 @@ fn mover_ok(n: u8, m: u8, d: ProcessorId, t: TaskId) -> bool
 }
 
 // A letter in a rig of n desks and m tasks.
-fn message_ok(n: u8, m: u8, x: Message) -> bool
+pub fn message_ok(n: u8, m: u8, x: Message) -> bool
     ensures { λ b. ⌜ b ≡ messageOk n m x ⌝ }
 {
     match x {

@@ -12,7 +12,7 @@ use task_rules::ready::is_ready_at;
 use task_rules::set::insert;
 
 // The set with t, where the test holds.
-fn insert_where(holds: bool, s: u64, t: u8) -> u64
+pub fn insert_where(holds: bool, s: u64, t: u8) -> u64
     requires { ⌜ (1 ≤ t) × (t ≤ 64) ⌝ }
     ensures { λ r. ⌜ r ≡ pick holds (inserted t s) s ⌝ }
 {

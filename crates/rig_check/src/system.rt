@@ -28,14 +28,14 @@ fn plan_ok(p: Plan) -> bool
 }
 
 // A number of desks.
-fn processors_ok(n: u8) -> bool
+pub fn processors_ok(n: u8) -> bool
     ensures { λ b. ⌜ b ≡ within 1 6 n ⌝ }
 {
     base::is_within(1, 6, n as usize)
 }
 
 // The kind of the last executed instruction of task k + 1, which is at place pc; 0 where there is none.
-fn last_kind<'a>(lengths: &'a [u8; 64], codes: &'a [u32; 4096], k: usize, pc: u8) -> u8
+pub fn last_kind<'a>(lengths: &'a [u8; 64], codes: &'a [u32; 4096], k: usize, pc: u8) -> u8
     requires { ⌜ (k < 64) × (getD (now lengths) k 0 ≤ 64) ⌝ }
     ensures { λ r. ⌜ r ≡ lastKind (now (lengths .entry)) (now (codes .entry)) k pc ⌝ }
 {

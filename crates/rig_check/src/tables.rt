@@ -29,7 +29,7 @@ pub fn all_at_most(limit: u8, xs: &[u8]) -> bool
 }
 
 // Every pointer of a table, which holds desks and counts apart.
-fn hints_ok<'a>(n: u8, processors: &'a [u8], moves: &'a [u16]) -> bool
+pub fn hints_ok<'a>(n: u8, processors: &'a [u8], moves: &'a [u16]) -> bool
     requires { ⌜ length (now processors) ≡ length (now moves) ⌝ }
     ensures { λ b. ⌜ b ≡ everyPair (λ d k. hintOk n (hint (processorId d) k)) (now (processors .entry)) (now (moves .entry)) ⌝ }
 {
@@ -44,7 +44,7 @@ fn hints_ok<'a>(n: u8, processors: &'a [u8], moves: &'a [u16]) -> bool
 }
 
 // Every offer of a table, which holds desks and numbers apart.
-fn offers_ok<'a>(n: u8, processors: &'a [u8], numbers: &'a [u8]) -> bool
+pub fn offers_ok<'a>(n: u8, processors: &'a [u8], numbers: &'a [u8]) -> bool
     requires { ⌜ length (now processors) ≡ length (now numbers) ⌝ }
     ensures { λ b. ⌜ b ≡ everyPair (λ d w. offerOk n (offer (processorId d) w)) (now (processors .entry)) (now (numbers .entry)) ⌝ }
 {

@@ -20,8 +20,8 @@ use Rattle.plan_index.specs.user_table.Built.{Few, Built}
 use Rattle.rig.proofs.start.Tables.{few-ends}
 use Rattle.board.specs.Lent.{Lent, lent, Whole, tasksOn, channelsOn, parentsOn, tasksOf, storeOf, keptOf}
 use Rattle.board.specs.Rigs.{factsIn}
-use Rattle.run.specs.all_steps.Writes.{turnsOf, RanTo}
-use Rattle.rig_step.specs.Rigs.{RigWith}
+use Rattle.run.specs.all_steps.Writes.{turnsOf, RanOn}
+use Rattle.rig_step.specs.Rigs.{RigWith, saidOf, TurnedOn}
 
 -- what is lent where the tables are those that are kept
 abbrev pub lentBy : Kept → List ℕ → Lent
@@ -40,19 +40,22 @@ module _ (count : ℕ) (codes numbers senders receivers parents : List ℕ) (n :
   turn-same : (x : Step) → turnOf (factsIn count codes numbers users) n (tasksOn board) k (keptOf (lentBy s board)) x ≡ turnOf given n ts k s x
   turn-same x = rw (b .senders-of, b .receivers-of, b .parents-of, et, ec, ep) refl
 
-  pub packed-turn : (x : Step) (l' : Lent) {q : Report} {us : TaskTable} {k' : Network} (steps : List ℕ) {before progress after : List ℕ} {c' : Channels} {p' : Parents}
-      → q ≡ turnOf (factsIn count codes numbers users) n (tasksOn board) k (keptOf (lentBy s board)) x .report
-      → fileSteps steps ≡ x ∷ []
-      → RanTo (turnsOf (factsIn count codes numbers users) n (tasksOn board) k (keptOf (lentBy s board)) (fileSteps steps)) before (tasksOf l') k' (keptOf l') progress after
+  -- the parts taken from the board after a step there
+  pub packed-turn : (x : Step) (l' : Lent) {q : Report} {us : TaskTable} {k' : Network} {c' : Channels} {p' : Parents}
+      → TurnedOn (factsIn count codes numbers users) n (lentBy s board) k x l' q k'
       → us ≡ tasksOf l' → c' ≡ channelsOn (l' .board) → p' ≡ parentsOn (l' .board)
       → turned q us k' (record { store = record { tables = storeOf l' .tables; channels = c' }; parents = p' }) ≡ turnOf given n ts k s x
-  unfolding turnsOf
-  packed-turn x l' {q} {us} {k'} steps {c' = c'} {p' = p'} e f r eu ek ep' =
+  packed-turn x l' {q} {us} {k'} {c'} {p'} r eu ec' ep' =
       let t = turnOf (factsIn count codes numbers users) n (tasksOn board) k (keptOf (lentBy s board)) x in
-      let ran = rw f at r in
       let all : turned q us k' (record { store = record { tables = storeOf l' .tables; channels = c' }; parents = p' }) ≡ t =
-      rw (e, eu ∙ ran .tasks, ran .network, ek, ep') (ap (λ (z : Kept). turned (t .report) (t .tasks) (t .network) z) (ran .kept)) in
+      rw (r .report, eu ∙ r .tasks, r .network, ec', ep') (ap (λ (z : Kept). turned (t .report) (t .tasks) (t .network) z) (r .kept)) in
       all ∙ turn-same x
+
+-- what is decided of a step, and a run of it alone, are the step
+pub ran-one : {f : Facts} {n : ℕ} {l : Lent} {k : Network} (x : Step) {l' : Lent} {q : Report} {k' : Network} (steps : List ℕ) {before progress after : List ℕ}
+    → q ≡ saidOf f n l k x → fileSteps steps ≡ x ∷ [] → RanOn f n l k steps before l' k' progress after → TurnedOn f n l k x l' q k'
+unfolding turnsOf
+ran-one x steps e h r = let ran = rw h at r in record { report = e; tasks = ran .0 .tasks; network = ran .0 .network; kept = ran .0 .kept; whole = ran .1 }
 
 -- who uses what in the plan of a rig
 pub few-of : {count : ℕ} {codes numbers senders receivers parents : List ℕ} {n : ℕ} {ts : TaskTable} {s : Kept} {used : ℕ}

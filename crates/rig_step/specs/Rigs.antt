@@ -21,3 +21,11 @@ pub record RigWith (codes numbers users : List ℕ) (n : Size) (k : Network) (l 
 -- what a step says there
 abbrev pub saidOf : Facts → ℕ → Lent → Network → Step → Report
 saidOf f n l k x = turnOf f n (tasksOf l) k (keptOf l) x .report
+
+-- what the step x leaves there: its report, the mail then, and on what is lent the other parts
+pub record TurnedOn (f : Facts) (n : ℕ) (l : Lent) (k : Network) (x : Step) (l' : Lent) (q : Report) (k' : Network) : Type 0 where
+  pub report : q ≡ turnOf f n (tasksOf l) k (keptOf l) x .report
+  pub tasks : tasksOf l' ≡ turnOf f n (tasksOf l) k (keptOf l) x .tasks
+  pub network : k' ≡ turnOf f n (tasksOf l) k (keptOf l) x .network
+  pub kept : keptOf l' ≡ turnOf f n (tasksOf l) k (keptOf l) x .kept
+  pub whole : Whole (l' .board)

@@ -7,7 +7,7 @@ mod pack;
 // A rig put on a board.
 pub mod put;
 // The run of one step.
-mod turn;
+pub mod turn;
 
 ghost use mathlib.Core.Path.{_≡_};
 ghost use Rattle.rules.specs.Sound.{systemOk};

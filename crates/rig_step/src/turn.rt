@@ -4,7 +4,7 @@ ghost use Rattle.rig_parts.specs.Facts.{facts};
 ghost use Rattle.rig_parts.specs.Turns.{Rig, turnOf};
 ghost use Rattle.board.specs.Lent.{lent};
 ghost use Rattle.board.specs.Rigs.{factsIn};
-ghost use Rattle.rig_step.specs.Rigs.{RigWith, saidOf};
+ghost use Rattle.rig_step.specs.Rigs.{RigWith, saidOf, TurnedOn};
 use crate::bytes::step_bytes;
 use crate::pack::channels_on;
 use crate::pack::parents_on;
@@ -90,6 +90,74 @@ fn decided<'a>(
     }
 }
 
+// What a step leaves beside what is lent: its report, and the mail then.
+pub struct Reported {
+    pub report: Report,
+    pub network: Network,
+}
+
+// One step on what is lent.
+pub fn turn_on<'a>(
+    codes: &'a [u32; 4096],
+    numbers: &'a [u8; 4096],
+    users: &'a [u8; 1024],
+    hintprocessors: &'a mut [u8; 768],
+    hintmoves: &'a mut [u16; 768],
+    heldprocessors: &'a mut [u8; 768],
+    heldnumbers: &'a mut [u8; 768],
+    notes: &'a mut [u8; 768],
+    board: &'a mut Board,
+    n: Size,
+    network: Network,
+    s: Step,
+) -> Reported
+    requires { ⌜ RigWith (now codes) (now numbers) (now users) n network
+        (lent (now hintprocessors) (now hintmoves) (now heldprocessors) (now heldnumbers) (now notes) (now board)) ⌝ }
+    ensures { λ r. ⌜ TurnedOn (factsIn (n .tasks) (now (codes .entry)) (now (numbers .entry)) (now (users .entry))) (n .processors)
+        (lent (now (hintprocessors .entry)) (now (hintmoves .entry)) (now (heldprocessors .entry)) (now (heldnumbers .entry)) (now (notes .entry)) (now (board .entry)))
+        network s
+        (lent (now (hintprocessors .exit)) (now (hintmoves .exit)) (now (heldprocessors .exit)) (now (heldnumbers .exit)) (now (notes .exit)) (now (board .exit)))
+        (r .report) (r .network) ⌝ }
+{
+    let report = decided(
+        codes,
+        numbers,
+        users,
+        hintprocessors,
+        hintmoves,
+        heldprocessors,
+        heldnumbers,
+        notes,
+        board,
+        n,
+        network,
+        s,
+    );
+    let steps = step_bytes(s);
+    let mut out = [0u8; 1];
+    let mut progress = [0usize; 2];
+    let network = run_steps(
+        codes,
+        numbers,
+        users,
+        hintprocessors,
+        hintmoves,
+        heldprocessors,
+        heldnumbers,
+        notes,
+        board,
+        n,
+        network,
+        &steps,
+        &mut out,
+        &mut progress,
+    );
+    Reported {
+        report: report,
+        network: network,
+    }
+}
+
 // One step: the parts are put on a board, and taken from it after the step.
 pub fn turn<'a>(
     count: u8,
@@ -126,24 +194,7 @@ pub fn turn<'a>(
         processors: processors,
         used: network.used,
     };
-    let report = decided(
-        codes,
-        numbers,
-        &users,
-        &hintprocessors,
-        &hintmoves,
-        &heldprocessors,
-        &heldnumbers,
-        &notes,
-        &board,
-        n,
-        network,
-        s,
-    );
-    let steps = step_bytes(s);
-    let mut out = [0u8; 1];
-    let mut progress = [0usize; 2];
-    let network = run_steps(
+    let t = turn_on(
         codes,
         numbers,
         &users,
@@ -155,10 +206,10 @@ pub fn turn<'a>(
         &mut board,
         n,
         network,
-        &steps,
-        &mut out,
-        &mut progress,
+        s,
     );
+    let report = t.report;
+    let network = t.network;
     let after = tasks_on(&board);
     let now_tables = Tables {
         hintprocessors: hintprocessors,

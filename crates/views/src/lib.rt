@@ -15,7 +15,7 @@ use rules::view::TabletAnswer;
 use rules::view::TabletView;
 
 // A tablet's record of task t.
-fn tablet_view(t: TaskId, x: Task) -> TabletView
+pub fn tablet_view(t: TaskId, x: Task) -> TabletView
     ensures { λ r. ⌜ r ≡ tabletView t x ⌝ }
 {
     let state = x.state;
@@ -29,7 +29,7 @@ fn tablet_view(t: TaskId, x: Task) -> TabletView
 }
 
 // The driver's record of task t.
-fn driver_view(t: TaskId, x: Task) -> DriverView
+pub fn driver_view(t: TaskId, x: Task) -> DriverView
     ensures { λ r. ⌜ r ≡ driverView t x ⌝ }
 {
     let tablet = tablet_view(t, x);
@@ -44,7 +44,7 @@ fn driver_view(t: TaskId, x: Task) -> DriverView
 }
 
 // Whether a rig of m tasks has a task t.
-fn has_task(m: u8, t: TaskId) -> bool
+pub fn has_task(m: u8, t: TaskId) -> bool
     ensures { λ b. ⌜ b ≡ taskNumberOk m t ⌝ }
 {
     base::is_within(1, m as usize, t.0 as usize)

@@ -1,10 +1,10 @@
--- `turn` puts the parts on a board, decides the step, runs it, and takes the parts from the board.
+-- `turn` puts the parts on a board, makes the step there, and takes the parts from the board.
 use mathlib.Core.Path.{refl}
 use mathlib.Core.List.{List}
 use Prim.Native.Nat.{ℕ}
 use Rattle.board.specs.Lent.{lent}
 use Rattle.rig_step.specs.Rigs.{RigWith}
-use Rattle.rig_step.proofs.Boards.{lentBy, packed-rig, packed-turn, few-of, one-step}
+use Rattle.rig_step.proofs.Boards.{lentBy, packed-rig, packed-turn, few-of}
 use borrow.Author.Needs.{needs}
 use Rattle.rig_step.proofs.turn.turn.Statement.{statement}
 use Rattle.rig_step.proofs.turn.turn.Tie as tie
@@ -41,29 +41,8 @@ module _ (c : tie.After-put-rig) where
       (start c .pre)
       (c .put-rig .ensures .0)
 
-decided-requires : tie.Need-decided-requires
-decided-requires c κs = rig (on c)
-
-step-bytes-requires : tie.Need-step-bytes-requires
-step-bytes-requires c κs = search needs
-
-slice-aggregate-run-steps : tie.Need-slice-aggregate-run-steps
-slice-aggregate-run-steps c = search needs
-
-slice-aggregate-run-steps-2 : tie.Need-slice-aggregate-run-steps-2
-slice-aggregate-run-steps-2 c = search needs
-
--- its bytes are there, and it is decided
-abbrev bytes : tie.After-progress → tie.After-step-bytes
-bytes c = c .before .before .before .before .before .before .before .before .before .before
-
-abbrev said : tie.After-progress → tie.After-decided
-said c = bytes c .before
-
-run-steps-requires : tie.Need-run-steps-requires
-run-steps-requires c κs =
-    let g = rig (on (said c .before)) in
-    record { rig = g .rig; whole = g .whole; indexed = g .indexed; few = one-step _ _ (bytes c .step-bytes .ensures); blank = refl }
+turn-on-requires : tie.Need-turn-on-requires
+turn-on-requires c κs = rig (on c)
 
 tasks-on-requires : tie.Need-tasks-on-requires
 tasks-on-requires c κs = search needs
@@ -78,11 +57,10 @@ returns : tie.Need-returns
 returns c =
     let channels-from = c .before .before in
     let tasks-from = channels-from .before .before in
-    let ran = tasks-from .before .before .before in
-    let p = ran .before in
-    let o = on (said p .before) in
+    let made = tasks-from .before .before .before .before in
+    let o = on (made .before) in
     let a = start o .args in
-    let h = ran .run-steps .last .1 .1 .1 in
+    let h = made .turn-on .last .1 .1 .1 in
     packed-turn (a .count) (a .codes .now) (a .numbers .now) (a .senders .now) (a .receivers .now) (a .parents .now) (a .processors) (a .tasks) (a .network) (a .kept) _ (board o)
     (built o .build .ensures)
     (o .put-rig .ensures .1)
@@ -90,10 +68,7 @@ returns c =
     (o .put-rig .ensures .3)
     (a .s)
     (lent (h .0) (h .1 .0) (h .1 .1 .0) (h .1 .1 .1 .0) (h .1 .1 .1 .1 .0) (h .1 .1 .1 .1 .1 .0))
-    _
-    (said p .decided .ensures)
-    (bytes p .step-bytes .ensures)
-    (ran .run-steps .ensures .0)
+    (made .turn-on .ensures)
     (tasks-from .tasks-on .ensures)
     (channels-from .channels-on .ensures)
     (c .parents-on .ensures)
@@ -104,11 +79,7 @@ turn-spec =
     (tie.spec
     build-requires
     put-rig-requires
-    decided-requires
-    step-bytes-requires
-    slice-aggregate-run-steps
-    slice-aggregate-run-steps-2
-    run-steps-requires
+    turn-on-requires
     tasks-on-requires
     channels-on-requires
     parents-on-requires
