@@ -1,0 +1,26 @@
+// The calls of a live rig.
+
+// A call of a desk's dispatcher.
+pub mod call;
+// A call on a live rig.
+pub mod desk_call;
+// A call on a live rig, as a C program calls it.
+pub mod desk;
+// Bytes put into a lent output.
+mod output;
+// The bytes of a rig opened.
+pub mod open;
+// What the types of lent numbers tell of them.
+mod ranges;
+// A received word's record.
+mod record;
+// The panel of a live rig.
+pub mod rig_panel;
+// Whether a live rig is at rest.
+pub mod rest;
+// The start of a live rig.
+pub mod start;
+// One step of a live rig.
+pub mod step;
+// What is shown of a task of a live rig.
+pub mod rig_views;

@@ -1,0 +1,1 @@
+// Demand 3 of live use: nothing here is code.
