@@ -5,6 +5,7 @@
  * benchmark --logs: the check of two logs of 4,096 records, and that in C.
  * benchmark --convert: the conversion of the largest plans, and that in C.
  * benchmark --calls: the steps that dispatchers choose, beside a run of them, and those in C.
+ * benchmark --live: steps and dispatches of a live rig, beside a step of the file run.
  * benchmark --names: the cases. */
 #include <stdio.h>
 #include <stdlib.h>
@@ -180,11 +181,13 @@ int main(int argc, char **argv)
         return convert_times();
     if (argc == 2 && strcmp(argv[1], "--calls") == 0)
         return calls_times();
+    if (argc == 2 && strcmp(argv[1], "--live") == 0)
+        return live_times();
     if (argc == 2 && strcmp(argv[1], "--names") == 0)
         return names();
     long samples = argc == 2 ? strtol(argv[1], NULL, 10) : 21;
     if (argc > 2 || samples < 1 || samples > MAX_SAMPLES) {
-        fprintf(stderr, "usage: benchmark [SAMPLES] | --growing | --logs | --convert | --calls | --names"
+        fprintf(stderr, "usage: benchmark [SAMPLES] | --growing | --logs | --convert | --calls | --live | --names"
                         " | --one CASE library|simulator COUNT\n");
         return 2;
     }

@@ -1,13 +1,19 @@
 /* Run: one instruction of a ready task. */
 #include "sim_shared.h"
 
+/* In a run the child is unborn; in a rig that anybody wrote it may be anything, and is born all the same. */
 void sim_birth(struct sim_rig *rig, uint32_t t, uint8_t d, struct sim_pointer own)
 {
     struct sim_task *task = &rig->task[t];
     task->state = READY;
     task->desk = d;
+    task->place = rig->first[t];
     task->own = own;
+    if (MUTANT != 128)
+        task->word = (struct sim_word){{0, 0, 0, 0}};
+    task->over = false;
     task->count = 1;
+    task->children = MUTANT == 129 ? task->children : 0;
     rig->parent[t][d].pointer = (struct sim_pointer){.count = 1, .desk = d};
     if (MUTANT != 14)
         point(rig, task, d, d);
@@ -165,6 +171,7 @@ static uint32_t run_receive(struct sim_rig *rig, struct sim_task *task, uint8_t 
         return await_word(rig, task, c);
     receive_word(task, c, sender->word, received);
     channel->called = last(rig, sender)->number;
+    channel->has_called = channel->has_called && MUTANT == 130;
     channel->carried = (struct sim_offer){0, 0};
     sender->state = READY;
     return 0;

@@ -14,7 +14,7 @@
 #include "generate.h"
 #include "guarded.h"
 
-enum { STACK = 1024 * 1024, PAINT = 0xa5 };
+enum { STACK = 1024 * 1024, PAINT = 0xa5, LIVE_STEPS = 8 };
 
 static struct guarded stack;
 static ucontext_t here, there;
@@ -69,6 +69,35 @@ static void call_chase(void)
     mortarsedge_chase(MORTARSEDGE_MAX_FORWARDS, chase_plan, sizeof chase_plan, chase_steps, sizeof chase_steps);
 }
 
+/* The live rig of the plan at hand after its steps: each step goes on from the one before. */
+static uint8_t rig[MORTARSEDGE_RIG_SIZE];
+static uint32_t counts[MORTARSEDGE_PANEL_COUNTS];
+static uint32_t kind, task, number, desk;
+
+static void call_start(void)
+{
+    mortarsedge_start(desks, plan, plan_length, rig, sizeof rig);
+}
+
+static void call_step(void)
+{
+    mortarsedge_step(rig, sizeof rig, kind, task, number, out, MORTARSEDGE_LOG_RECORD);
+}
+
+static void call_dispatch(void)
+{
+    mortarsedge_dispatch(rig, sizeof rig, desk, out, MORTARSEDGE_DISPATCH_STEPS, out + MORTARSEDGE_DISPATCH_STEPS,
+                         MORTARSEDGE_DISPATCH_RECORDS);
+}
+
+static void call_questions(void)
+{
+    mortarsedge_panel(rig, sizeof rig, counts, MORTARSEDGE_PANEL_COUNTS);
+    mortarsedge_tablet_view(rig, sizeof rig, 1, out, MORTARSEDGE_TABLET_VIEW);
+    mortarsedge_driver_view(rig, sizeof rig, 1, out, MORTARSEDGE_DRIVER_VIEW);
+    mortarsedge_rest(rig, sizeof rig);
+}
+
 /* Bytes of stack that a call changes, its own frame and the switch with it. */
 static size_t depth(void (*call)(void))
 {
@@ -87,7 +116,7 @@ static size_t depth(void (*call)(void))
 
 /* The deepest of each call so far. */
 struct depths {
-    size_t check, run, panel, choose, finish, logs, convert, chase;
+    size_t check, run, panel, choose, finish, logs, convert, chase, live;
 };
 
 static void deepen(size_t *deepest, void (*call)(void))
@@ -97,9 +126,26 @@ static void deepen(size_t *deepest, void (*call)(void))
         *deepest = d;
 }
 
+/* Of a live rig: its first steps, and each desk's dispatcher then. */
+static void deepen_live(struct depths *d)
+{
+    memset(rig, 0, sizeof rig);
+    deepen(&d->live, call_start);
+    for (size_t at = 0; at + 4 <= steps_length && at < 4 * LIVE_STEPS; at += 4) {
+        kind = steps[at];
+        task = steps[at + 1];
+        number = sim_u16(steps + at + 2);
+        deepen(&d->live, call_step);
+    }
+    for (desk = 1; desk <= MORTARSEDGE_MAX_DESKS; desk++)
+        deepen(&d->live, call_dispatch);
+    deepen(&d->live, call_questions);
+}
+
 /* Of the plan and the steps at hand. */
 static void deepen_all(struct depths *d)
 {
+    deepen_live(d);
     deepen(&d->check, call_plan_check);
     deepen(&d->run, call_run);
     deepen(&d->panel, call_panel);
@@ -157,5 +203,6 @@ int main(int argc, char **argv)
     holds &= within("logs", d.logs, MORTARSEDGE_LOGS_STACK);
     holds &= within("convert", d.convert, MORTARSEDGE_CONVERT_STACK);
     holds &= within("chase", d.chase, MORTARSEDGE_CHASE_STACK);
+    holds &= within("a live rig", d.live, MORTARSEDGE_LIVE_STACK);
     return holds ? 0 : 1;
 }

@@ -11,4 +11,8 @@ int convert_times(void);
 /* The steps that dispatchers choose, beside a run of them: plans of the cases, on one desk and on six. */
 int calls_times(void);
 
+/* A step and a dispatch of a live rig, image read and written, beside a step of the file run; and a dispatch beside the two
+ * steps that it makes. */
+int live_times(void);
+
 #endif

@@ -1,4 +1,5 @@
 /* driver [--logs DIR] DESKS PLANFILE STEPFILE: stands where a dimmer's driver stands.
+ * driver --live DESKS PLANFILE: the same with steps from standard input, one at a time (live.h).
  *
  * Each word that a task receives becomes a line `level CHANNEL`, its four levels, on
  * standard output, in order. Refused steps, tasks that met a sum over the top
@@ -12,28 +13,17 @@
 #include <string.h>
 
 #include "file.h"
+#include "live.h"
 #include "logs.h"
 #include "mortarsedge.h"
-
-enum { DONE = 0, REFUSED = 1, USAGE = 2, BROKEN = 3 };
+#include "say.h"
 
 static int usage(void)
 {
     fprintf(stderr, "usage: driver [--logs DIR] DESKS PLANFILE STEPFILE\n"
+                    "       driver --live DESKS PLANFILE\n"
                     "DESKS is a number, and 1 to 6 are accepted; the files are explained in docs/FORMATS.md\n");
     return USAGE;
-}
-
-static int refused(const char *name, uint32_t number)
-{
-    fprintf(stderr, "driver: %s refused, %u: %s\n", name, (unsigned)number, mortarsedge_refusal_text(number));
-    return REFUSED;
-}
-
-static int broken(const char *name, const char *why)
-{
-    fprintf(stderr, "driver: %s: %s\n", name, why);
-    return BROKEN;
 }
 
 /* One to nine digits. */
@@ -169,6 +159,8 @@ int main(int argc, char **argv)
 {
     struct show show = {.desks = 0};
     int status = BROKEN;
+    if (argc == 4 && strcmp(argv[1], "--live") == 0)
+        return parse_desks(argv[2], &show.desks) ? live_run(show.desks, argv[2], argv[3]) : usage();
     if (argc == 6 && strcmp(argv[1], "--logs") == 0) {
         show.logs_folder = argv[2];
         argv += 2;

@@ -39,6 +39,9 @@ static void sizes_are_right(void)
     expect(strlen("63 64\n") == MORTARSEDGE_MAX_STUCK_LINE, "longest line of a stuck task");
     expect(MORTARSEDGE_FINISH_ENOUGH == 393, "enough output of a finish check");
     expect(MORTARSEDGE_MAX_CHASE == 6044, "longest chase");
+    expect(MORTARSEDGE_RIG_SIZE == 34120, "image of a rig");
+    expect(MORTARSEDGE_REPORT == 11 && MORTARSEDGE_DISPATCH_RECORDS == 22, "reports of a dispatch");
+    expect(MORTARSEDGE_TABLET_VIEW == 4 && MORTARSEDGE_DRIVER_VIEW == 21, "views");
 }
 
 /* A plan of one finish, and an empty step file. */
@@ -500,6 +503,119 @@ static void growing_run_is_right(void)
     expect(grow(&g, MOVE, 2, 1, &line) == MORTARSEDGE_BAD_STEP_FILE, "a full file grows");
 }
 
+/* A live rig of the worked plan, and what is made of it. */
+static uint8_t live_rig[MORTARSEDGE_RIG_SIZE + 1];
+
+/* One step of it: the answer. A word that is received is the worked run's. */
+static uint32_t live_step(uint32_t kind, uint32_t task, uint32_t number, bool receives)
+{
+    uint8_t record[MORTARSEDGE_LOG_RECORD];
+    struct mortarsedge_word word;
+    uint32_t answer = mortarsedge_step(live_rig, sizeof live_rig, kind, task, number, record, sizeof record);
+    bool received = mortarsedge_take_word(record, &word);
+    expect(received == receives, "live: a word, or none");
+    expect(word.channel == (receives ? 3u : 0u) && word.level[0] == (receives ? 7u : 0u) && word.level[3] == 0, "live: the word");
+    return answer;
+}
+
+/* The worked run, live. */
+static void live_run_is_right(void)
+{
+    uint64_t rest;
+    live_rig[MORTARSEDGE_RIG_SIZE] = 77;
+    expect(mortarsedge_start(2, worked_plan, sizeof worked_plan, live_rig, MORTARSEDGE_RIG_SIZE - 1) == MORTARSEDGE_OUTPUT_SHORT, "start: 20");
+    expect(mortarsedge_start(7, worked_plan, sizeof worked_plan, live_rig, 0) == MORTARSEDGE_BAD_DESKS, "start: 1");
+    expect(live_rig[0] == 0, "start: refused, and the rig is written");
+    expect(mortarsedge_number(mortarsedge_rest(live_rig, sizeof live_rig)) == MORTARSEDGE_BAD_RIG, "rest: 9");
+    expect(live_step(RUN, 1, 0, false) == MORTARSEDGE_BAD_RIG, "step: 9");
+    expect(mortarsedge_start(2, worked_plan, sizeof worked_plan, live_rig, sizeof live_rig) == MORTARSEDGE_ACCEPTED, "start: 0");
+    expect(memcmp(live_rig, "RIG1", 4) == 0 && live_rig[12] == 2, "start: the image");
+    for (uint32_t i = 0; i < WORKED_STEPS; i++) {
+        rest = mortarsedge_rest(live_rig, sizeof live_rig);
+        expect(mortarsedge_at_rest(rest) == (i == 14) && mortarsedge_letters(rest) <= 2, "live: rest on the way");
+        expect(live_step(300, 0, 0, false) == MORTARSEDGE_BAD_STEP, "live: 19");
+        uint32_t answer = live_step(worked_steps[i][0], worked_steps[i][1], worked_steps[i][2], i == 8);
+        expect(answer == (i == 14 ? (uint32_t)MORTARSEDGE_NOT_READY : 0), "live: the answer");
+    }
+    rest = mortarsedge_rest(live_rig, sizeof live_rig);
+    expect(mortarsedge_number(rest) == 0 && mortarsedge_at_rest(rest) && mortarsedge_letters(rest) == 0, "live: at rest");
+    expect(live_rig[MORTARSEDGE_RIG_SIZE] == 77, "live: a byte behind the rig is written");
+}
+
+/* Each desk's dispatcher in turn: the worked plan on one desk, in eight runs. */
+static void live_calls_are_right(void)
+{
+    uint8_t steps[MORTARSEDGE_DISPATCH_STEPS + 1], records[MORTARSEDGE_DISPATCH_RECORDS];
+    struct mortarsedge_made made;
+    uint32_t words = 0;
+    uint64_t answer;
+    steps[MORTARSEDGE_DISPATCH_STEPS] = 77;
+    expect(mortarsedge_start(1, worked_plan, sizeof worked_plan, live_rig, sizeof live_rig) == MORTARSEDGE_ACCEPTED, "calls: start");
+    answer = mortarsedge_dispatch(live_rig, sizeof live_rig, 1, steps, 7, records, sizeof records);
+    expect(answer == MORTARSEDGE_OUTPUT_SHORT, "calls: 20 of the steps");
+    answer = mortarsedge_dispatch(live_rig, sizeof live_rig, 1, steps, sizeof steps, records, sizeof records - 1);
+    expect(answer == MORTARSEDGE_OUTPUT_SHORT, "calls: 20 of the records");
+    expect(mortarsedge_dispatch(live_rig, sizeof live_rig, 2, steps, sizeof steps, records, sizeof records) == MORTARSEDGE_NO_DESK, "calls: 15");
+    for (uint32_t i = 0; i < 8; i++) {
+        answer = mortarsedge_dispatch(live_rig, sizeof live_rig, 1, steps, sizeof steps, records, sizeof records);
+        expect(mortarsedge_number(answer) == 0 && mortarsedge_filled(answer) == 4 && mortarsedge_made_count(answer) == 1, "calls: 0");
+        mortarsedge_take_made(steps, records, 0, &made);
+        expect(made.kind == RUN && made.task >= 1 && made.task <= 2 && made.number == 0 && made.answer == 0, "calls: a run");
+        expect(!made.received || (made.word.channel == 3 && made.word.level[0] == 7), "calls: the word");
+        words += made.received;
+    }
+    answer = mortarsedge_dispatch(live_rig, sizeof live_rig, 1, steps, sizeof steps, records, sizeof records);
+    expect(answer == 0 && mortarsedge_made_count(answer) == 0 && words == 1, "calls: nothing more to do");
+    expect(steps[MORTARSEDGE_DISPATCH_STEPS] == 77, "calls: a byte behind the steps is written");
+}
+
+/* Panel and views, after run 1 and run 1: task 2 is born, task 1 has the word 7. */
+static void live_rig_is_shown(void)
+{
+    uint32_t counts[MORTARSEDGE_PANEL_COUNTS];
+    uint8_t out[MORTARSEDGE_DRIVER_VIEW];
+    struct mortarsedge_view view;
+    expect(mortarsedge_start(2, worked_plan, sizeof worked_plan, live_rig, sizeof live_rig) == MORTARSEDGE_ACCEPTED, "shown: start");
+    expect(live_step(RUN, 1, 0, false) == 0 && live_step(RUN, 1, 0, false) == 0, "shown: steps");
+    expect(mortarsedge_panel(live_rig, sizeof live_rig, counts, MORTARSEDGE_PANEL_COUNTS - 1) == MORTARSEDGE_OUTPUT_SHORT, "panel: 20");
+    expect(mortarsedge_panel(live_rig, 5, counts, MORTARSEDGE_PANEL_COUNTS) == MORTARSEDGE_BAD_RIG, "panel: 9");
+    expect(mortarsedge_panel(live_rig, sizeof live_rig, counts, MORTARSEDGE_PANEL_COUNTS) == 0, "panel: 0");
+    expect(counts[0] == 4 && counts[14] == 256 && counts[16] == 2, "panel: the counts");
+    expect(mortarsedge_tablet_view(live_rig, sizeof live_rig, 2, out, 3) == MORTARSEDGE_OUTPUT_SHORT, "tablet: 20");
+    expect(mortarsedge_tablet_view(live_rig, sizeof live_rig, 3, out, 4) == MORTARSEDGE_NO_TASK, "tablet: 10");
+    expect(mortarsedge_tablet_view(live_rig, sizeof live_rig, 258, out, 4) == MORTARSEDGE_NO_TASK, "tablet: 10 of 258");
+    expect(mortarsedge_tablet_view(live_rig, sizeof live_rig, 2, out, 4) == 0, "tablet: 0");
+    mortarsedge_take_tablet(out, &view);
+    expect(view.task == 2 && view.state == MORTARSEDGE_READY && view.desk == 1 && view.place == 1, "tablet: task 2");
+    expect(mortarsedge_driver_view(live_rig, sizeof live_rig, 1, out, sizeof out - 1) == MORTARSEDGE_OUTPUT_SHORT, "driver: 20");
+    expect(mortarsedge_driver_view(live_rig, sizeof live_rig, 1, out, sizeof out) == 0, "driver: 0");
+    mortarsedge_take_view(out, &view);
+    expect(view.task == 1 && view.place == 3 && view.level[0] == 7 && view.level[3] == 0, "driver: task 1");
+    expect(view.children == 2 && view.living == 1, "driver: its children");
+}
+
+/* The functions that take outputs apart, on all channels and on bytes that no call leaves. */
+static void outputs_are_taken(void)
+{
+    uint8_t bytes[MORTARSEDGE_DRIVER_VIEW];
+    struct mortarsedge_word word;
+    struct mortarsedge_view view;
+    for (uint32_t channel = 0; channel <= 65535; channel++) {
+        uint16_t level[MORTARSEDGE_LEVELS] = {1, 256, (uint16_t)channel, 65535};
+        bool is_one = channel >= 1 && channel <= 128;
+        mortarsedge_put_log_record(bytes, (uint16_t)channel, level);
+        expect(mortarsedge_take_word(bytes, &word) == is_one && word.channel == (is_one ? channel : 0), "a word's channel");
+        expect(word.level[1] == (is_one ? 256u : 0u) && word.level[3] == (is_one ? 65535u : 0u), "a word's levels");
+    }
+    memset(bytes, 0xff, sizeof bytes);
+    mortarsedge_take_view(bytes, &view);
+    expect(view.children == UINT64_MAX && view.level[2] == 65535 && view.living == 255, "a view of ones");
+    expect(strcmp(mortarsedge_state_text(view.state), mortarsedge_state_text(7)) == 0, "255 is a state");
+    for (uint32_t i = 0; i <= 7; i++)
+        for (uint32_t j = 0; j < i; j++)
+            expect(strcmp(mortarsedge_state_text(i), mortarsedge_state_text(j)) != 0, "two states are one");
+}
+
 int main(void)
 {
     texts_differ();
@@ -517,5 +633,9 @@ int main(void)
     worked_run_is_right();
     finish_is_told();
     growing_run_is_right();
+    live_run_is_right();
+    live_calls_are_right();
+    live_rig_is_shown();
+    outputs_are_taken();
     return failures != 0;
 }

@@ -205,8 +205,163 @@ if [ -w /dev/full ]; then
     [ "$status" -eq 3 ] || fail "no room for the levels: exit status $status, not 3"
 fi
 
+# Live: steps as lines on standard input. live TEXT WORD..: the driver with these lines.
+live() {
+    printf "$1" > "$scratch/lines"
+    shift
+    "$driver" --live "$@" < "$scratch/lines" > "$scratch/out" 2> "$scratch/err"
+    status=$?
+}
+live 'run 1\nrun 1\nmove 2 2\nrun 1\ndeliver 2\ndeliver 1\nrun 2\ndeliver 1\ndeliver 1\nrun 2\nrun 2\nrun 1\ndeliver 1\nrun 1\nrun 1\n' 2 "$plan"
+expect "live, worked run" 0 "level 3 7 0 0 0
+" "line 15 refused, 11: task not ready
+finished, at rest
+"
+od -An -v -tu1 -w4 "$steps" > "$scratch/numbers"
+"$driver" --live 2 "$plan" < "$scratch/numbers" > "$scratch/out" 2> "$scratch/err"
+status=$?
+expect "live, the bytes of the step file" 0 "level 3 7 0 0 0
+" "line 15 refused, 11: task not ready
+finished, at rest
+"
+# The levels of a step file are those of its steps, live.
+for show in 1:two 1:stuck 3:early; do
+    run "${show%:*}" "$scratch/${show#*:}.plan" "$scratch/${show#*:}.steps"
+    cp "$scratch/out" "$scratch/levels"
+    od -An -v -tu1 -w4 "$scratch/${show#*:}.steps" | "$driver" --live "${show%:*}" "$scratch/${show#*:}.plan" > "$scratch/out" 2> "$scratch/err"
+    cases=$((cases + 1))
+    cmp -s "$scratch/levels" "$scratch/out" || fail "live, $show: wrote: $(cat "$scratch/out")"
+done
+# Many lines of any kind, some of them none: each is answered.
+awk 'BEGIN {
+    srand(7)
+    split("run deliver move call rest panel view jump # 1 2 3 64 65 300 x 0 0", word, " ")
+    for (i = 0; i < 4000; i++) {
+        line = word[1 + int(rand() * (rand() < 0.9 ? 7 : 18))]
+        for (n = int(rand() * 4); n > 0; n--)
+            line = line " " (rand() < 0.9 ? 1 + int(rand() * 3) : word[1 + int(rand() * 18)])
+        print line
+    }
+}' > "$scratch/any"
+"$driver" --live 3 "$scratch/early.plan" < "$scratch/any" > "$scratch/out" 2> "$scratch/err"
+status=$?
+cases=$((cases + 1))
+[ "$status" -eq 2 ] || fail "live, lines of any kind: exit status $status, not 2"
+tail -n 1 "$scratch/err" | grep -q "^finished, \|^not finished, " || fail "live, lines of any kind: $(tail -n 1 "$scratch/err")"
+live '' 2 "$plan"
+expect "live, no line" 0 "" "not finished, not at rest, 0 letters
+"
+live 'step 1 1 0\nstep 3 2 2\nstep 257 1 0\nstep 1 1\nrest\n' 2 "$plan"
+expect "live, any step" 2 "rest 0 1
+" "line 3 refused, 19: kind of step not 1 to 3, or an unused field not zero
+driver: line 4: step: three numbers are needed
+not finished, not at rest, 1 letter
+"
+live 'call 1' 1 "$scratch/finish.plan"
+expect "live, no line feed at the end" 0 "made run 1 0
+" "finished, at rest
+"
+# What is asked: the mover and the offer are under way. Of 2 runs, 256 deliveries and 4 moves, the two deliveries are accepted.
+live '# a show\n\n  run 1\t# create\r\nrun 1\nmove 2 2\nrun 1\nrest\npanel\nview 1\nview 2\n' 2 "$plan"
+expect "live, questions" 0 "rest 0 2
+panel 0 2
+panel 11 6
+panel 14 254
+view 1 sending 1 4 word 7 0 0 0 children 1 2
+view 2 moving 0 1 word 0 0 0 0 children 0
+" "not finished, not at rest, 2 letters
+"
+# Dispatchers: the word passes at desk 1, where both tasks are. Desk 2 has nothing to do, and neither has desk 1 in the end.
+live 'call 1\ncall 2\ncall 1\ncall 1\ncall 1\ncall 1\ncall 1\ncall 1\ncall 1\ncall 1\nrest\n' 2 "$plan"
+expect "live, calls" 0 "made run 1 0
+made run 2 0
+made run 1 0
+made run 1 0
+level 3 7 0 0 0
+made run 2 0
+made run 1 0
+made run 2 0
+made run 1 0
+rest 1 0
+" "finished, at rest
+"
+# Refused: the rig stays as it was, and the next line follows. Numbers that fit no step are the core's to refuse.
+live 'run 0\nrun 3\nrun 2\nrun 256\ndeliver 1\ndeliver 65536\nmove 1 3\nmove 1 1\n4 0 0 0\ncall 3\ncall 256\nview 3\nview 257\nrest\n' 2 "$plan"
+expect "live, refused" 0 "rest 0 0
+" "line 1 refused, 10: no such task
+line 2 refused, 10: no such task
+line 3 refused, 11: task not ready
+line 4 refused, 19: kind of step not 1 to 3, or an unused field not zero
+line 5 refused, 14: no letter at this position
+line 6 refused, 19: kind of step not 1 to 3, or an unused field not zero
+line 7 refused, 15: desk outside the rig
+line 8 refused, 16: task already at this desk
+line 9 refused, 19: kind of step not 1 to 3, or an unused field not zero
+line 10 refused, 15: desk outside the rig
+line 11 refused, 15: desk outside the rig
+line 12 refused, 10: no such task
+line 13 refused, 10: no such task
+not finished, not at rest, 0 letters
+"
+# Lines that are none: told with their numbers, and passed over.
+long=$(printf '%0101d' 7)
+live "jump 1\nrun\nrun 1 2\nmove 1\nrest 1\nrun one\nrun -1\nrun 1000000000\n1 1 0\n1 1 0 0 0\n1 2 3 4 5 6\n1 256 0 0\n1 x 0 0\nrun $long\nrun \\0001\nrun 1\nrest\n" 2 "$plan"
+expect "live, no lines" 2 "rest 0 0
+" "driver: line 1: jump: neither run, deliver, move, step, call, rest, panel, view nor the four bytes of a step
+driver: line 2: run: one number is needed
+driver: line 3: run: one number is needed
+driver: line 4: move: two numbers are needed
+driver: line 5: rest: no number is needed
+driver: line 6: one: no number
+driver: line 7: -1: no number
+driver: line 8: 1000000000: no number
+driver: line 9: 1: a step has four bytes
+driver: line 10: 1: a step has four bytes
+driver: line 11: 6: too many words
+driver: line 12: 256: no byte
+driver: line 13: x: no number
+driver: line 14: over 100 bytes
+driver: line 15: a zero byte
+not finished, not at rest, 0 letters
+"
+# Levels come at once: each line is answered before the next is written.
+mkfifo "$scratch/to" "$scratch/from"
+"$driver" --live 1 "$scratch/two.plan" < "$scratch/to" > "$scratch/from" 2> "$scratch/err" &
+alive=$!
+{ sleep 20; kill "$alive" 2> /dev/null; } &
+watch=$!
+exec 3> "$scratch/to" 4< "$scratch/from"
+printf 'run 1\nrun 1\nrun 2\nrun 1\n' >&3
+read -r first <&4
+printf 'run 1\nrun 1\nrun 2\n' >&3
+read -r second <&4
+exec 3>&-
+wait "$alive"
+status=$?
+exec 4<&-
+kill "$watch" 2> /dev/null
+cases=$((cases + 1))
+[ "$status" -eq 0 ] || fail "live, at once: exit status $status, not 0"
+[ "$first, $second" = "level 128 65535 0 0 0, level 1 1 0 0 0" ] || fail "live, at once: $first, $second"
+# The desks and the plan are refused as in a run; a file that cannot be read; an output that cannot be written.
+live 'run 1\n' 7 "$plan"
+expect "live, seven desks" 1 "" "driver: 7 refused, 1: desks not 1 to 6
+"
+live 'run 1\n' 2 "$scratch/open.plan"
+expect "live, no finish" 1 "" "driver: $scratch/open.plan refused, 4: finish not exactly the last instruction of a task
+"
+live 'run 1\n' 2 "$scratch/missing"
+broken "live, missing plan" "$scratch/missing"
+if [ -w /dev/full ]; then
+    cases=$((cases + 1))
+    echo rest | "$driver" --live 2 "$plan" > /dev/full 2> "$scratch/err"
+    status=$?
+    [ "$status" -eq 3 ] || fail "live, no room for an answer: exit status $status, not 3"
+fi
+
 # Wrong usage.
 wrong="usage: driver [--logs DIR] DESKS PLANFILE STEPFILE
+       driver --live DESKS PLANFILE
 DESKS is a number, and 1 to 6 are accepted; the files are explained in docs/FORMATS.md
 "
 run
@@ -217,6 +372,12 @@ run 2 "$plan" "$steps" 4
 expect "four words" 2 "" "$wrong"
 run two "$plan" "$steps"
 expect "desks no number" 2 "" "$wrong"
+run --live 2
+expect "live, no plan" 2 "" "$wrong"
+run --live 2 "$plan" "$steps"
+expect "live, a step file" 2 "" "$wrong"
+run --live two "$plan"
+expect "live, desks no number" 2 "" "$wrong"
 run -1 "$plan" "$steps"
 expect "desks negative" 2 "" "$wrong"
 run "" "$plan" "$steps"

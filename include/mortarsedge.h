@@ -1,16 +1,16 @@
 /* Mortarsedge: the proved core of a moving rig, for a C driver.
  *
  * Link with libmortarsedge.a. Its functions, plan check, run, choose, panel, the finish check,
- * convert, chase and the check of two logs, take numbers and bytes, keep nothing between
- * calls, and may be called from several threads at once. Each returns for every input;
- * none allocates, reads or writes anything else. Everything else in this header is C for
- * a driver's convenience: names for the numbers, and inline functions, which no proof
- * covers.
+ * convert, chase, the check of two logs and the calls of a live rig, take numbers and bytes,
+ * keep nothing between calls, and may be called from several threads at once. Each returns
+ * for every input; none allocates, reads or writes anything else. Everything else in this
+ * header is C for a driver's convenience: names for the numbers, and inline functions, which
+ * no proof covers.
  *
  * Where a length is 0 its pointer may be any.
  *
- * The header needs C99 or C++11. docs/FORMATS.md explains plan file, step file
- * and trace, docs/driver.md what a driver supplies and is promised. */
+ * The header needs C99 or C++11. docs/FORMATS.md explains plan file, step file,
+ * trace and rig image, docs/driver.md what a driver supplies and is promised. */
 #ifndef MORTARSEDGE_H
 #define MORTARSEDGE_H
 
@@ -73,6 +73,16 @@ enum {
     MORTARSEDGE_MAX_CHASE = MORTARSEDGE_STEP_BYTES * (3 * MORTARSEDGE_MAX_FORWARDS + 11),
     /* The answers that a panel counts, 0 to 26. */
     MORTARSEDGE_PANEL_COUNTS = 27,
+    /* The image of a rig: docs/FORMATS.md has its places. */
+    MORTARSEDGE_RIG_SIZE = 34120,
+    /* A report of a dispatch: a step's answer, and the word received as a record of a log, or 10 zeros. */
+    MORTARSEDGE_REPORT = 1 + MORTARSEDGE_LOG_RECORD,
+    /* The steps and the reports of a dispatch, two of each at most. */
+    MORTARSEDGE_DISPATCH_STEPS = 2 * MORTARSEDGE_STEP_BYTES,
+    MORTARSEDGE_DISPATCH_RECORDS = 2 * MORTARSEDGE_REPORT,
+    /* What a tablet shows of a task, and what the driver shows of it. */
+    MORTARSEDGE_TABLET_VIEW = 4,
+    MORTARSEDGE_DRIVER_VIEW = 21,
     /* Stack for a call, with some to spare: make ctest measures what is needed. */
     MORTARSEDGE_PLAN_CHECK_STACK = 16 * 1024,
     MORTARSEDGE_RUN_STACK = 128 * 1024,
@@ -80,7 +90,8 @@ enum {
     MORTARSEDGE_FINISH_STACK = 128 * 1024,
     MORTARSEDGE_LOGS_STACK = 64 * 1024,
     MORTARSEDGE_CONVERT_STACK = 128 * 1024,
-    MORTARSEDGE_CHASE_STACK = 16 * 1024
+    MORTARSEDGE_CHASE_STACK = 16 * 1024,
+    MORTARSEDGE_LIVE_STACK = 128 * 1024 /* for each call of a live rig */
 };
 
 /* The kinds of an instruction, 4 bytes of a plan file: kind, a second byte, and an
@@ -109,8 +120,19 @@ enum mortarsedge_step {
     MORTARSEDGE_STEP_MOVE = 3     /* the task; the number is the desk it goes to */
 };
 
+/* The states of a task, in a view of it. */
+enum mortarsedge_state {
+    MORTARSEDGE_UNBORN = 0,
+    MORTARSEDGE_READY = 1,
+    MORTARSEDGE_WAITING = 2,   /* at a sync, for its children */
+    MORTARSEDGE_SENDING = 3,
+    MORTARSEDGE_RECEIVING = 4,
+    MORTARSEDGE_MOVING = 5,    /* under way between two desks */
+    MORTARSEDGE_DONE = 6
+};
+
 /* The answers: of a call 0 to 6, 8, 20, 24 and 25, of the converter 0, 2 to 6 and 20 to 23, of a
- * chase 0, 20 and 26, of a step in the trace 0 and 10 to 19. */
+ * chase 0, 20 and 26, of a step in the trace 0 and 10 to 19, of a live rig 0 to 6, 9 to 20. */
 enum mortarsedge_answer {
     MORTARSEDGE_ACCEPTED = 0,
     /* Of the plan file. */
@@ -126,7 +148,8 @@ enum mortarsedge_answer {
     /* Of the step file. */
     MORTARSEDGE_BAD_STEP_FILE = 8, /* length no multiple of 4, or over 2,000 steps */
     /* Of a step. */
-    MORTARSEDGE_BAD_RIG = 9,          /* a rig outside the limits; no run meets it */
+    MORTARSEDGE_BAD_RIG = 9,          /* a rig outside the limits, or bytes that are no image of one; no
+                                         run meets it, and no live rig that nobody else has written */
     MORTARSEDGE_NO_TASK = 10,         /* no such task */
     MORTARSEDGE_NOT_READY = 11,       /* the task is not ready */
     MORTARSEDGE_FINISH_CHILDREN = 12, /* finish with living children */
@@ -135,7 +158,8 @@ enum mortarsedge_answer {
     MORTARSEDGE_NO_DESK = 15,         /* a move to a desk outside the rig */
     MORTARSEDGE_SAME_DESK = 16,       /* the task is at this desk already */
     MORTARSEDGE_MOVE_CHILDREN = 17,   /* unused: a task with living children may move */
-    MORTARSEDGE_MOVE_COUNT = 18,      /* the task's move count is 9,999; no step file has so many moves */
+    MORTARSEDGE_MOVE_COUNT = 18,      /* the task's move count is 9,999; no step file has so many moves,
+                                         a live rig may */
     MORTARSEDGE_BAD_STEP = 19,        /* a kind not 1 to 3, or an unused field not zero */
     /* Of the output. */
     MORTARSEDGE_OUTPUT_SHORT = 20, /* the lent output is too short */
@@ -345,8 +369,145 @@ uint64_t mortarsedge_convert(const uint8_t *plan, size_t plan_length, uint8_t *o
 uint64_t mortarsedge_chase(uint32_t forwards, uint8_t *plan, size_t plan_length,
                            uint8_t *steps, size_t steps_length);
 
+/* A live rig.
+ *
+ * The rig is MORTARSEDGE_RIG_SIZE bytes that the caller lends and keeps: its image.
+ * mortarsedge_start writes the image of a plan's start; each step and each dispatch
+ * then makes it that of the rig after it. Between two calls the bytes are the
+ * caller's: they may be copied, stored, sent and put back, and a copy is a rig of its
+ * own. Nobody else writes them during a call; no other buffer of the call overlaps
+ * them. They may stand at any address.
+ *
+ * Whoever lends them as the last call left them is never answered 9. Bytes that anybody
+ * else has written are safe to lend: every call answers 9, and leaves them as they are, unless
+ * they are the image of a rig whose numbers are within the limits. So 9 answers fewer
+ * bytes than an image has, another version, a letter of unknown kind, a number in an
+ * unused slot, a number outside the limits, and a plan that plan check would refuse.
+ * Bytes behind the first MORTARSEDGE_RIG_SIZE are neither read nor written.
+ *
+ * Each call needs MORTARSEDGE_LIVE_STACK bytes of stack. */
+
+/* Starts a plan: writes the image of the rig at its start.
+ *
+ * The caller supplies
+ *   desks   any number;
+ *   plan    plan_length readable bytes, any bytes, which nobody writes meanwhile;
+ *   rig     rig_length bytes that may be read and written, which nobody else
+ *           reads or writes meanwhile, and which do not overlap plan.
+ *
+ *   0        rig begins with the image; bytes behind it are unchanged
+ *   1 to 6   the plan file is refused, as by plan check
+ *   20       rig_length is under MORTARSEDGE_RIG_SIZE
+ *
+ * 1 to 6 are tested before 20. A refused call leaves rig untouched. The image has a
+ * copy of the plan: plan is not needed any more. */
+uint32_t mortarsedge_start(uint32_t desks, const uint8_t *plan, size_t plan_length, uint8_t *rig, size_t rig_length);
+
+/* One step of a live rig.
+ *
+ * The caller supplies
+ *   rig      rig_length bytes that may be read and written, an image;
+ *   kind, task, number   any numbers, a step: enum mortarsedge_step says what they are.
+ *            Numbers that do not fit the four bytes of a step, a kind or a task above
+ *            255, a number above 65,535, are a step that is answered 19;
+ *   record   record_length bytes that may be read and written, which do not overlap rig.
+ *
+ *   20          record_length is under MORTARSEDGE_LOG_RECORD: nothing is changed
+ *   9           rig is no image of a rig within the limits, or is too short
+ *   19, 10 to 18   the step is refused, as in a trace
+ *   0           it is accepted: rig is then the image of the rig after the step
+ *
+ * They are tested in this order. A refused step leaves rig untouched. Unless 20 is
+ * answered, the first MORTARSEDGE_LOG_RECORD bytes of record are the record of the word
+ * that was received, its channel and its four levels, as in a receiver's log; zeros if
+ * none was, and always if the step is refused: mortarsedge_take_word takes it apart.
+ * Bytes behind it are unchanged. */
+uint32_t mortarsedge_step(uint8_t *rig, size_t rig_length, uint32_t kind, uint32_t task, uint32_t number,
+                          uint8_t *record, size_t record_length);
+
+/* One call of a desk's dispatcher: delivers the earliest letter for the desk, if there
+ * is one, and then runs the next ready task there after the one that it chose last, by
+ * number and round again, if there is one.
+ *
+ * The caller supplies
+ *   rig       rig_length bytes that may be read and written, an image;
+ *   desk      any number; one above 255 counts as 0;
+ *   steps     steps_length bytes that may be read and written;
+ *   records   records_length bytes that may be read and written; none of the three
+ *             overlap.
+ *
+ * The answer holds a number and how many bytes of steps are filled, 0, 4 or 8: take it
+ * apart by mortarsedge_number and mortarsedge_filled, or by mortarsedge_made_count.
+ *
+ *   20   steps_length is under MORTARSEDGE_DISPATCH_STEPS, or records_length under
+ *        MORTARSEDGE_DISPATCH_RECORDS
+ *   9    rig is no image of a rig within the limits, or is too short
+ *   15   the rig has no such desk
+ *   0    rig is the image of the rig after the steps that the call made; steps begins
+ *        with them, 4 bytes each, and records with a report of MORTARSEDGE_REPORT bytes
+ *        for each: the step's answer, then the word received as a record of a log, or
+ *        zeros. mortarsedge_take_made takes them apart
+ *
+ * They are tested in this order. A refused call leaves all three untouched, and filled
+ * is 0. Bytes behind the last step, and behind the last report, are unchanged. A run
+ * that is refused, as by 12 or 13, uses the desk's turn: the call is accepted, and the
+ * report has the refusal. */
+uint64_t mortarsedge_dispatch(uint8_t *rig, size_t rig_length, uint32_t desk, uint8_t *steps, size_t steps_length,
+                              uint8_t *records, size_t records_length);
+
+/* The panel of a live rig: how many of all runs, all deliveries at 1 to 256 and all moves
+ * to desks of the rig would get each answer. Nothing is carried out.
+ *
+ * The caller supplies
+ *   rig      rig_length readable bytes, an image, which nobody writes meanwhile;
+ *   counts   counts_length numbers that may be read and written, which do not overlap rig.
+ *
+ *   20   counts_length is under MORTARSEDGE_PANEL_COUNTS
+ *   9    rig is no image of a rig within the limits, or is too short
+ *   0    counts[a] is how many steps would get the answer a, 0 to 26, 0 for accepted
+ *
+ * They are tested in this order. A refused call leaves counts untouched, and numbers
+ * behind the first MORTARSEDGE_PANEL_COUNTS are unchanged. */
+uint32_t mortarsedge_panel(const uint8_t *rig, size_t rig_length, uint32_t *counts, size_t counts_length);
+
+/* What a tablet shows of a task of a live rig.
+ *
+ * The caller supplies
+ *   rig    rig_length readable bytes, an image, which nobody writes meanwhile;
+ *   task   any number; one above 255 counts as 0;
+ *   out    out_length bytes that may be read and written, which do not overlap rig.
+ *
+ *   20   out_length is under MORTARSEDGE_TABLET_VIEW
+ *   9    rig is no image of a rig within the limits, or is too short
+ *   10   the rig has no such task
+ *   0    out begins with a byte each for the task's number, its state (enum
+ *        mortarsedge_state), its desk, 0 for an unborn or a moving task, and its place,
+ *        which is the number of its next instruction, from 1
+ *
+ * They are tested in this order. A refused call leaves out untouched, and bytes behind
+ * the first MORTARSEDGE_TABLET_VIEW are unchanged. */
+uint32_t mortarsedge_tablet_view(const uint8_t *rig, size_t rig_length, uint32_t task, uint8_t *out, size_t out_length);
+
+/* What the driver shows of a task of a live rig: supplied and answered as by
+ * mortarsedge_tablet_view, with MORTARSEDGE_DRIVER_VIEW bytes for out. They are the four of
+ * a tablet, then the four levels of the task's word, 2 bytes each, the set of its living
+ * children, 8 bytes, bit t - 1 for task t, all little-endian, and a byte for how many they
+ * are: mortarsedge_take_view takes them apart. */
+uint32_t mortarsedge_driver_view(const uint8_t *rig, size_t rig_length, uint32_t task, uint8_t *out, size_t out_length);
+
+/* Whether a live rig is at rest, and how many letters are in its mail.
+ *
+ * The caller supplies rig, rig_length readable bytes, an image, which nobody writes
+ * meanwhile. The answer holds a number, whether the rig is at rest and the letters: take
+ * it apart by mortarsedge_number, mortarsedge_at_rest and mortarsedge_letters.
+ *
+ *   9   rig is no image of a rig within the limits, or is too short; not at rest, 0 letters
+ *   0   at rest if the mail is empty and no run would be accepted */
+uint64_t mortarsedge_rest(const uint8_t *rig, size_t rig_length);
+
 /* The number in the answer of a run or a choice of steps, 0 to 6, 8 or 20, of a finish check, 0, 2 to 6 or 20,
- * of two logs, 0, 24 or 25, of a conversion, 0, 2 to 6 or 20 to 23, or of a chase, 0, 20 or 26. */
+ * of two logs, 0, 24 or 25, of a conversion, 0, 2 to 6 or 20 to 23, of a chase, 0, 20 or 26, of a dispatch,
+ * 0, 9, 15 or 20, or of the question for rest, 0 or 9. */
 static inline uint32_t mortarsedge_number(uint64_t answer)
 {
     return (uint32_t)(answer % 256);
@@ -362,6 +523,131 @@ static inline size_t mortarsedge_filled(uint64_t answer)
 static inline uint32_t mortarsedge_channel(uint64_t answer)
 {
     return (uint32_t)(answer / 256);
+}
+
+/* How many steps a dispatch made, 0 to 2, by its answer. */
+static inline size_t mortarsedge_made_count(uint64_t answer)
+{
+    return mortarsedge_filled(answer) / MORTARSEDGE_STEP_BYTES;
+}
+
+/* Whether a rig is at rest, by the answer of mortarsedge_rest. */
+static inline bool mortarsedge_at_rest(uint64_t answer)
+{
+    return answer / 256 % 256 == 1;
+}
+
+/* How many letters are in the mail, 0 to 256, by the answer of mortarsedge_rest. */
+static inline uint32_t mortarsedge_letters(uint64_t answer)
+{
+    return (uint32_t)(answer / 65536);
+}
+
+/* For the functions below: a number of so many bytes, little-endian. */
+static inline uint64_t mortarsedge_little_endian(const uint8_t *bytes, size_t count)
+{
+    uint64_t number = 0;
+    for (size_t i = count; i > 0; i--)
+        number = 256 * number + bytes[i - 1];
+    return number;
+}
+
+/* A word received, taken apart. */
+struct mortarsedge_word {
+    uint32_t channel; /* 1 to 128; 0 if none was received */
+    uint32_t level[MORTARSEDGE_LEVELS]; /* 0 to 65,535 each */
+};
+
+/* Takes the record of a word apart, as mortarsedge_step leaves it. Returns whether a word
+ * was received; if none was, and of a record whose channel is above 128, which no call
+ * leaves, all numbers are 0. So a channel may be used as an index where true is returned. */
+static inline bool mortarsedge_take_word(const uint8_t record[MORTARSEDGE_LOG_RECORD], struct mortarsedge_word *word)
+{
+    uint32_t channel = (uint32_t)mortarsedge_little_endian(record, 2);
+    bool received = channel >= 1 && channel <= MORTARSEDGE_MAX_CHANNELS;
+    word->channel = received ? channel : 0;
+    for (size_t i = 0; i < MORTARSEDGE_LEVELS; i++)
+        word->level[i] = received ? (uint32_t)mortarsedge_little_endian(record + 2 + 2 * i, 2) : 0;
+    return received;
+}
+
+/* A step that a dispatch made, taken apart. */
+struct mortarsedge_made {
+    uint32_t kind, task, number; /* the step: a delivery or a run */
+    uint32_t answer;             /* 0, or the refusal, 10 to 19 */
+    bool received;               /* whether a word was received; if so, */
+    struct mortarsedge_word word; /* this one; else zeros */
+};
+
+/* Takes a step that a dispatch made and its report apart: the one at this index, below
+ * mortarsedge_made_count of the answer. steps and records are those of the call. */
+static inline void mortarsedge_take_made(const uint8_t *steps, const uint8_t *records, size_t index,
+                                         struct mortarsedge_made *made)
+{
+    const uint8_t *step = steps + MORTARSEDGE_STEP_BYTES * index;
+    const uint8_t *report = records + MORTARSEDGE_REPORT * index;
+    made->kind = step[0];
+    made->task = step[1];
+    made->number = (uint32_t)mortarsedge_little_endian(step + 2, 2);
+    made->answer = report[0];
+    made->received = mortarsedge_take_word(report + 1, &made->word);
+}
+
+/* What is shown of a task, taken apart. */
+struct mortarsedge_view {
+    uint32_t task;  /* its number */
+    uint32_t state; /* enum mortarsedge_state */
+    uint32_t desk;  /* 0: unborn or moving */
+    uint32_t place; /* of its next instruction, from 1 */
+    uint32_t level[MORTARSEDGE_LEVELS]; /* of its word; not shown by a tablet: 0, as what follows */
+    uint64_t children; /* living: bit t - 1 for task t */
+    uint32_t living;   /* how many they are */
+};
+
+/* Takes a tablet's view apart, as mortarsedge_tablet_view leaves it. */
+static inline void mortarsedge_take_tablet(const uint8_t out[MORTARSEDGE_TABLET_VIEW], struct mortarsedge_view *view)
+{
+    view->task = out[0];
+    view->state = out[1];
+    view->desk = out[2];
+    view->place = out[3];
+    for (size_t i = 0; i < MORTARSEDGE_LEVELS; i++)
+        view->level[i] = 0;
+    view->children = 0;
+    view->living = 0;
+}
+
+/* Takes the driver's view apart, as mortarsedge_driver_view leaves it. */
+static inline void mortarsedge_take_view(const uint8_t out[MORTARSEDGE_DRIVER_VIEW], struct mortarsedge_view *view)
+{
+    mortarsedge_take_tablet(out, view);
+    for (size_t i = 0; i < MORTARSEDGE_LEVELS; i++)
+        view->level[i] = (uint32_t)mortarsedge_little_endian(out + 4 + 2 * i, 2);
+    view->children = mortarsedge_little_endian(out + 12, 8);
+    view->living = out[20];
+}
+
+/* A word for the state of a task. */
+static inline const char *mortarsedge_state_text(uint32_t state)
+{
+    switch (state) {
+    case MORTARSEDGE_UNBORN:
+        return "unborn";
+    case MORTARSEDGE_READY:
+        return "ready";
+    case MORTARSEDGE_WAITING:
+        return "waiting";
+    case MORTARSEDGE_SENDING:
+        return "sending";
+    case MORTARSEDGE_RECEIVING:
+        return "receiving";
+    case MORTARSEDGE_MOVING:
+        return "moving";
+    case MORTARSEDGE_DONE:
+        return "done";
+    default:
+        return "not a state";
+    }
 }
 
 /* Puts a record of a log: the channel and the word's four levels. */
@@ -541,7 +827,7 @@ static inline const char *mortarsedge_refusal_text(uint32_t number)
     case MORTARSEDGE_BAD_STEP_FILE:
         return "step file's length no multiple of 4, or over 2,000 steps";
     case MORTARSEDGE_BAD_RIG:
-        return "a number in the rig outside the limits, or a plan in it that would be refused";
+        return "no image of a rig, a number in the rig outside the limits, or a plan in it that would be refused";
     case MORTARSEDGE_NO_TASK:
         return "no such task";
     case MORTARSEDGE_NOT_READY:
