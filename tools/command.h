@@ -11,7 +11,9 @@ enum option {
     OPTION_TEXT = 8,
     OPTION_BYTES = 16,
     OPTION_REPEATS = 32,
-    OPTION_POSITIONS = 64
+    OPTION_POSITIONS = 64,
+    OPTION_ALONG = 128,
+    OPTION_TABLET = 256
 };
 
 enum { MOST_ARGUMENTS = 3 };
@@ -42,8 +44,9 @@ int command_unsteps(const struct call *call);
 int command_chart(const struct call *call);
 int command_dispatch(const struct call *call);
 int command_panel(const struct call *call);
+int command_view(const struct call *call);
 
-/* DESKS PLAN STEPS: what chart, panel, run, steps and unsteps are called with. */
+/* DESKS PLAN STEPS: what chart, panel, run, steps, unsteps and view are called with. */
 int read_show(const struct call *call, bool steps_bytes, struct show *show);
 
 #endif

@@ -23,6 +23,8 @@ static const struct command commands[] = {
      OPTION_OUTPUT | OPTION_TEXT | OPTION_BYTES, command_dispatch},
     {"panel", "DESKS PLAN STEPS", "what can be pressed after these steps: how many steps would get each answer",
      OPTION_OUTPUT | OPTION_EXPLAIN | OPTION_BYTES, command_panel},
+    {"view", "DESKS PLAN STEPS", "what is shown of each task after these steps, or along them",
+     OPTION_OUTPUT | OPTION_ALONG | OPTION_TABLET | OPTION_EXPLAIN | OPTION_QUIET | OPTION_BYTES, command_view},
     {"chart", "DESKS PLAN STEPS", "draw a run, as SVG or for a terminal", OPTION_OUTPUT | OPTION_TEXT | OPTION_BYTES,
      command_chart},
 };
@@ -40,6 +42,8 @@ static const struct {
     {"--bytes", "PLAN and STEPS are bytes, also where no byte of them is zero", OPTION_BYTES},
     {"--repeats", "the new edition, with its repeats", OPTION_REPEATS},
     {"--positions", "letters by their positions", OPTION_POSITIONS},
+    {"--along", "after the start and each step, the tasks whose view it changed", OPTION_ALONG},
+    {"--tablet", "what tablets show: number, state, desk and place", OPTION_TABLET},
 };
 
 enum { OPTIONS = sizeof options / sizeof options[0] };

@@ -22,7 +22,7 @@ for file in missing folder huge /dev/zero; do
         call $sub "$file"
         status_is 2 "$sub $file"; says "mortarsedge: $file: " "$sub $file"
     done
-    for sub in run steps unsteps chart; do
+    for sub in run steps unsteps panel view chart; do
         call "$sub" 2 plan.txt "$file"
         status_is 2 "$sub $file"; says "mortarsedge: $file: " "$sub $file"
     done
@@ -66,7 +66,7 @@ call steps -o late.bytes 3 late.txt late.steps
 right=$command
 command=$wrong
 echo old > "$scratch/out"
-for sub in chart 'chart --text' 'run --explain' run unsteps; do
+for sub in chart 'chart --text' 'run --explain' run view 'view --along' unsteps; do
     # shellcheck disable=SC2086
     call $sub -o out 3 late.txt late.bytes
     status_is 2 "$sub, wrong simulator"

@@ -17,5 +17,6 @@ sed -n '3,16p' "$scratch/stdout" | cmp -s - "$scratch/trace" || fail "another tr
 grep -q '^end: at rest$' "$scratch/stdout" || fail 'nothing is explained'
 grep -q '^     end .* at rest$' "$scratch/stdout" || fail 'no chart for a terminal'
 grep -q '^<svg ' "$scratch/chart.svg" || fail 'no chart'
-printf '......' >> "$scratch/.calls"
+[ "$(tail -n 1 "$scratch/stdout")" = 'task 2 (lamp): done at desk 2; word 8 0 0 0; no living children' ] || fail 'no view'
+printf '.......' >> "$scratch/.calls"
 finish

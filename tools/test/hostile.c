@@ -77,6 +77,7 @@ static void call_all(struct random *r, uint64_t index)
     static const char *const all[] = {
         "check %u plan", "check --bytes %u plan", "run -o out %u plan steps", "run --explain -o out %u plan steps",
         "run --bytes -o out %u plan steps", "finish -o out plan", "finish --explain -o out plan", "convert -o out plan",
+        "view -o out %u plan steps", "view --along --explain -o out %u plan steps", "view --tablet --quiet -o out %u plan steps",
         "logs steps plan", "logs steps steps", "plan -o out plan", "plan --repeats -o out plan", "unplan -o out plan",
         "steps -o out %u plan steps", "unsteps -o out %u plan steps", "unsteps --positions -o out %u plan steps",
         "panel -o out %u plan steps", "dispatch -o out %u plan", "dispatch --text -o out %u plan", "chart -o out %u plan steps",

@@ -12,7 +12,7 @@ worked=$top/examples/worked
 data=$top/crates/trace_program/data
 cp "$worked/plan.txt" "$worked/steps.txt" "$data/rig.plan" "$data/rig.steps" "$scratch"
 
-commands='check run finish convert logs plan unplan steps unsteps dispatch panel chart'
+commands='check run finish convert logs plan unplan steps unsteps dispatch panel view chart'
 
 # Usage: --help on standard output, status 0; wrong usage on standard error, status 2.
 for words in --help help; do
@@ -95,6 +95,48 @@ call panel --explain 2 plan.txt four
 grep -q '^    6 refused, 11: task not ready$' "$scratch/stdout" || fail "panel --explain: $(cat "$scratch/stdout")"
 call panel 7 plan.txt four
 status_is 1 'panel on 7 desks'; says '7 desks refused, 1: ' 'panel on 7 desks'
+
+# Views after the first four steps of the worked run, and along all of it.
+call view 2 plan.txt four
+status_is 0 'view'; writes '1 sending 1 4 7 0 0 0 1 2
+2 moving 0 1 0 0 0 0 0' 'view'
+call view --tablet 2 plan.txt four
+status_is 0 'view --tablet'; writes '1 sending 1 4
+2 moving 0 1' 'view --tablet'
+call view --explain 2 plan.txt four
+status_is 0 'view --explain'
+writes 'task 1 (console): sending (send cue) at desk 1, next instruction 4 of 5: sync; word 7 0 0 0; 1 living child: lamp
+task 2 (lamp): moving, next instruction 1 of 3: receive cue; word 0 0 0 0; no living children' 'view --explain'
+call view --along --tablet --quiet 2 rig.plan rig.steps
+status_is 0 'view --along'; writes '0 1 ready 1 1
+0 2 unborn 0 1
+1 1 ready 1 2
+1 2 ready 1 1
+2 1 ready 1 3
+3 2 moving 0 1
+4 1 sending 1 4
+6 2 ready 2 1
+7 2 receiving 2 2
+8 1 ready 1 4
+9 2 ready 2 2
+10 2 ready 2 3
+11 2 done 2 4
+12 1 waiting 1 5
+13 1 ready 1 5
+14 1 done 1 6' 'view --along'
+[ -s "$scratch/stderr" ] && fail 'view --quiet: something is said'
+call view --along --explain 2 plan.txt steps.txt
+says 'steps.txt:16:1: step 15, run console: refused, 11: task not ready: task 1 (console) is done at desk 1' 'view, a refused step'
+[ "$(tail -n 2 "$scratch/stdout")" = '    task 1 (console): done at desk 1; word 7 0 0 0; no living children
+step 15, refused by 11' ] || fail "view --along --explain: $(tail -n 2 "$scratch/stdout")"
+call view 2 rig.plan /dev/null
+writes '1 ready 1 1 0 0 0 0 0
+2 unborn 0 1 0 0 0 0 0' 'view, no steps'
+call view 7 plan.txt four
+status_is 1 'view on 7 desks'; says '7 desks refused, 1: ' 'view on 7 desks'
+head -c 15 "$data/rig.steps" > "$scratch/fifteen"
+call view 2 plan.txt fifteen
+status_is 1 'view, 15 bytes of steps'; says 'refused, 8: ' 'view, 15 bytes of steps'
 
 # Standard input and output are -.
 for sub in plan 'check 2' finish; do
