@@ -11,7 +11,7 @@ use Rattle.chase.specs.declared.ChaseAnswer.the-variants.{Written, TooMa
 use Rattle.chase.specs.Construction.{chasePlan, chaseFile}
 use Rattle.chase.specs.Chase.{Chase}
 
--- "`refused 26` for an m above 500"; "20, the lent output is too short"
+-- "`refused 26` for an m above 500"; 20 where an output is too short
 abbrev pub chaseNumber : ChaseAnswer → ℕ
 chaseNumber (Written n) = 0
 chaseNumber TooMany = 26

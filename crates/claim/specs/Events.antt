@@ -37,7 +37,7 @@ unfoldable pub happens : System → Event → Happened
 happens r (ordinary s) = record { steps = s ∷ []; reports = step r s .report ∷ []; system = step r s .system }
 happens r (call d) = returned (dispatched r d)
 
--- "each next" gets "the rig that the last left"
+-- events one after the other
 unfoldable pub happened : System → List Event → Happened
 happened r [] = record { steps = []; reports = []; system = r }
 happened r (e ∷ es) =

@@ -29,7 +29,7 @@ addsOver r t = eqb (nextOf r t .opcode) opAdd && addWord (taskAt r t .word) (nex
 abbrev pub overflows : TaskId → System → Step → Bool
 overflows t r s = isRun s && (eqb (s .task) (t .0) && (isAccepted (stepAnswer r s) && addsOver r t))
 
--- some step of the list is; "each next" gets "the rig that the last left"
+-- some step of the list is, one after the other
 unfoldable pub hasOverflowed : TaskId → System → List Step → Bool
 hasOverflowed t r [] = false
 hasOverflowed t r (s ∷ ss) = overflows t r s || hasOverflowed t (step r s .system) ss

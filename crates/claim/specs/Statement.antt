@@ -50,7 +50,7 @@ findsIts r (Migration d t) = isIn Moving (taskAt r t)
 unfoldable pub wastes : System → Step → Bool
 wastes r s = isDeliver s && (isAccepted (stepAnswer r s) && not (findsIts r (messageAt (r .network) (s .number))))
 
--- no step of the list does; "each next" gets "the rig that the last left"
+-- no step of the list does, one after the other
 unfoldable pub noneWasted : System → List Step → Bool
 noneWasted r [] = true
 noneWasted r (s ∷ ss) = not (wastes r s) && noneWasted (step r s .system) ss

@@ -35,5 +35,5 @@ pub record ConvertMeets (b before : List ℕ) (r : ℕ) (after : List ℕ) : Typ
   pub room : longestPlan ≤ length before → convertAnswer b before ≢ Unwritten OutputShort
   pub accepted : (n : ℕ) → convertAnswer b before ≡ Written n → fileAnswer (take n after) ≡ Accepted
   pub as-it-is : fileAnswer b ≡ Accepted → length b ≤ length before → after ≡ b ++ drop (length b) before
-  -- "The written-out plan must give on one desk the same words on each channel as this rule does."
+  -- what is claimed of plans with repeats, of this file
   pub same : repeatsAnswer b ≡ Accepted → RepeatsWritten b
