@@ -8,4 +8,5 @@ mod Empty
 mod Answers
 mod Rest
 pub mod Meaning
+pub mod Opens
 mod Held

@@ -7,6 +7,8 @@ pub mod code;
 pub mod fields;
 // The header of a file, at a place.
 pub mod header;
+// A file checked, and read into what is lent.
+pub mod opening;
 // The reader: it holds the file's bytes and a place.
 mod reader;
 // 3 to 6 of a file in one pass over its instructions.
@@ -17,7 +19,9 @@ mod stages;
 ghost use mathlib.Core.Path.{_≡_};
 ghost use Rattle.plan.specs.Files.{fileAnswer};
 ghost use Rattle.plan.specs.Outcomes.{planRead};
+ghost use Rattle.plan_file.specs.Header.{headerOf};
 ghost use Rattle.plan_file.specs.Stages.{Loads};
+use crate::header::Header;
 use plan::Plan;
 use plan::PlanAnswer;
 use plan::PlanRead;
@@ -30,6 +34,15 @@ pub struct Loaded {
     pub parents: [u8; 129],
     pub senders: [u8; 129],
     pub receivers: [u8; 129],
+}
+
+// The header of a plan file.
+pub fn header_of(file: &[u8]) -> Header
+    ensures { λ r. ⌜ r ≡ headerOf (now (file .entry)) ⌝ }
+{
+    let start = reader::new(file);
+    let n = reader::left(start);
+    reader::header(start, n)
 }
 
 // A plan file checked: the plan's acceptance or the refusal.

@@ -4,7 +4,5 @@
 mod drive;
 // The lines behind those of the steps: the marked tasks, and the last.
 mod last;
-// A plan file, checked and read into what is lent.
-pub mod open;
 // The refusals of a run, then its steps.
 pub mod run;

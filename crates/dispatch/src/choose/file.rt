@@ -4,6 +4,8 @@ ghost use Rattle.dispatch.specs.Calls.{roomIn, Chooses};
 use crate::choose::start::choose;
 use plan::PlanAnswer;
 use plan::Refusal;
+use plan_file::opening::open;
+use plan_index::ends::numbers::put_numbers;
 use rules::step::RunAnswer;
 use run::file::run::Outcome;
 
@@ -17,26 +19,28 @@ fn choose_in<'a>(processors: u32, plan: &'a [u8], out: &'a mut [u8]) -> Outcome
             filled: 0,
         };
     }
-    let read = plan_file::load(plan);
-    let loaded = read.answer;
-    match loaded {
+    let mut codes = [0u32; 4096];
+    let mut parents = [0u8; 129];
+    let mut senders = [0u8; 129];
+    let mut receivers = [0u8; 129];
+    let opened = open(plan, &mut codes, &mut parents, &mut senders, &mut receivers);
+    let checked = opened.answer;
+    match checked {
         PlanAnswer::Refused(a) => Outcome {
             answer: RunAnswer::Unstarted(a),
             filled: 0,
         },
         PlanAnswer::Accepted => {
-            let numbers = plan_index::ends::numbers::send_numbers(
-                read.plan.tasks,
-                &read.plan.lengths,
-                &read.plan.codes,
-            );
+            let lengths = opened.lengths;
+            let mut numbers = [0u8; 4096];
+            put_numbers(opened.tasks, &lengths, &codes, &mut numbers);
             let c = choose(
-                read.plan.tasks,
-                &read.plan.codes,
+                opened.tasks,
+                &codes,
                 &numbers,
-                &read.senders,
-                &read.receivers,
-                &read.parents,
+                &senders,
+                &receivers,
+                &parents,
                 processors as u8,
                 out,
             );

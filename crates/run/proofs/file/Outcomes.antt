@@ -1,5 +1,5 @@
 -- The outcome of a run, in the order 1 to 6, 8, 20; and the rig at the start of an accepted file.
-use mathlib.Core.Path.{_≡_, refl, sym, ap}
+use mathlib.Core.Path.{_≡_, refl, sym}
 use mathlib.Core.Bool.{Bool, true, false}
 use mathlib.Core.List.{List}
 use Prim.Native.Nat.{ℕ, _/_, _%_, _≤_}
@@ -7,8 +7,7 @@ use lib.Dec.{eqb, leb}
 use lib.ListN.{length}
 use borrow.Author.Tests.{leb-true}
 use Rattle.base.specs.Choice.{within}
-use Rattle.base.proofs.Tests.{and-right, within-low, within-high}
-use Rattle.plan.specs.declared.Plan.{Plan}
+use Rattle.base.proofs.Tests.{and-right}
 use Rattle.plan.specs.declared.PlanRead.{PlanRead}
 use Rattle.plan.specs.declared.Refusal.{Refusal}
 use Rattle.plan.specs.declared.Refusal.the-variants.{BadProcessors}
@@ -23,11 +22,8 @@ use Rattle.rules.specs.declared.step.RunAnswer.the-variants.{Traced, Unstarted,
 use Rattle.rules.specs.declared.system.System.{System}
 use Rattle.rules.specs.Starts.{started}
 use Rattle.rules.specs.StepFiles.{stepsOk, fileSteps, startOf, traceLines, runFileAnswer, runFileText, runFileOutput}
-use Rattle.plan_index.specs.ends.Derived.{endsOf}
-use Rattle.rig_parts.specs.Facts.{facts}
 use Rattle.run.specs.all_steps.Writes.{Written}
 use Rattle.run.proofs.all_steps.Fits.{written-filled}
-use Rattle.run.specs.file.Begins.{Begins}
 use Rattle.run.specs.file.Writes.{RunFile}
 
 -- the plan of a file that is read
@@ -45,25 +41,14 @@ plan-ok p a =
     let ok = file-plan p a in
     rw (meaning-canonical (filePrograms p) ok) ok
 
-pub start-is : (n : ℕ) (p : List ℕ) (x : Plan) → x ≡ canonical (filePrograms p) → started n x ≡ startOf n p
+pub start-is : (n : ℕ) (p : List ℕ) → started n (canonical (filePrograms p)) ≡ startOf n p
 unfolding startOf
-start-is n p x e = ap (started n) e
+start-is n p = refl
 
 -- at most 2,000 steps
 pub steps-few : (b : List ℕ) → stepsOk b ≡ true → length b / 4 ≤ 2000
 unfolding stepsOk
 steps-few b h = leb-true (length b / 4) 2000 (and-right (eqb (length b % 4) 0) (leb (length b / 4) 2000) h)
-
--- a run of an accepted plan begins
-pub begins : (n : ℕ) → within 1 6 n ≡ true → (x : Plan) → planAnswer (programs x) ≡ Accepted
-    → {numbers senders receivers parents : List ℕ}
-    → numbers ≡ endsOf x .numbers
-    → senders ≡ endsOf x .senders
-    → receivers ≡ endsOf x .receivers
-    → parents ≡ endsOf x .parents
-    → Begins n x (facts (x .tasks) (x .codes) numbers senders receivers parents)
-begins n d x a h s r q =
-    record { some = within-low 1 6 n d; most = within-high 1 6 n d; accepted = a; derived = rw (h, s, r, q) refl }
 
 module _ (n : ℕ) (p b o : List ℕ) where
   -- refusals 1 to 6

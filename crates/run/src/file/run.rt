@@ -5,6 +5,8 @@ ghost use Rattle.run.specs.file.Writes.{RunFile};
 use crate::file::drive::drive;
 use plan::PlanAnswer;
 use plan::Refusal;
+use plan_file::opening::open;
+use plan_index::ends::numbers::put_numbers;
 use rules::step::RunAnswer;
 
 // The answer, and how much of the output is filled.
@@ -40,26 +42,28 @@ pub fn run_file<'a>(processors: u32, plan: &'a [u8], steps: &'a [u8], out: &'a m
     if !base::is_within(1, 6, processors as usize) {
         return refused(RunAnswer::Unstarted(Refusal::BadProcessors));
     }
-    let read = plan_file::load(plan);
-    let answer = read.answer;
+    let mut codes = [0u32; 4096];
+    let mut parents = [0u8; 129];
+    let mut senders = [0u8; 129];
+    let mut receivers = [0u8; 129];
+    let opened = open(plan, &mut codes, &mut parents, &mut senders, &mut receivers);
+    let answer = opened.answer;
     match answer {
         PlanAnswer::Refused(a) => refused(RunAnswer::Unstarted(a)),
         PlanAnswer::Accepted => {
             if !steps_ok(steps) {
                 return refused(RunAnswer::BadSteps);
             }
-            let numbers = plan_index::ends::numbers::send_numbers(
-                read.plan.tasks,
-                &read.plan.lengths,
-                &read.plan.codes,
-            );
+            let lengths = opened.lengths;
+            let mut numbers = [0u8; 4096];
+            put_numbers(opened.tasks, &lengths, &codes, &mut numbers);
             let d = drive(
-                read.plan.tasks,
-                &read.plan.codes,
+                opened.tasks,
+                &codes,
                 &numbers,
-                &read.senders,
-                &read.receivers,
-                &read.parents,
+                &senders,
+                &receivers,
+                &parents,
                 processors as u8,
                 steps,
                 out,

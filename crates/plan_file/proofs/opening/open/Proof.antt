@@ -1,4 +1,4 @@
--- `open_plan`: the header's refusal, what the pass refuses, or the plan as it is read, with the tables of the pass.
+-- `open`: the header's refusal, what the pass refuses, or the plan as it is read, with the tables of the pass.
 use mathlib.Core.Path.{_≡_, refl, sym, _∙_, ap}
 use mathlib.Core.Bool.{true}
 use mathlib.Core.List.{List}
@@ -7,30 +7,30 @@ use lib.ListN.{drop}
 use borrow.Author.Needs.{needs}
 use borrow.Author.Tests.{not-true, not-false}
 use Rattle.plan.specs.Programs.{canonical}
 use Rattle.plan_file.specs.declared.header.Header.{Header}
 use Rattle.plan_file.specs.Code.{programsIn}
 use Rattle.plan_file.specs.scan.Code.{Whole, CodeChecked}
-use Rattle.run.proofs.file.Opening.{refused-opened, header-refused, behind-whole, answered-as, plan-opened}
-use Rattle.run.proofs.file.open.open_plan.Statement.{statement}
-use Rattle.run.proofs.file.open.open_plan.Tie as tie
+use Rattle.plan_file.proofs.Opens.{refused-opened, header-refused, behind-whole, answered-as, plan-opened}
+use Rattle.plan_file.proofs.opening.open.Statement.{statement}
+use Rattle.plan_file.proofs.opening.open.Tie as tie
 
 -- the file, and its header; where that is in order
-module _ (c : tie.After-header-at) where
+module _ (c : tie.After-header-of) where
   abbrev file : List ℕ
   file = c .before .before .args .file .now
 
   abbrev header : Header
-  header = c .header-at .result
+  header = c .header-of .result
 
 module _ (c : tie.After-rest-at) where
-  abbrev read : tie.After-header-at
+  abbrev read : tie.After-header-of
   read = c .before .before .before
 
   passed : header read .ok ≡ true
   passed = not-false (header read .ok) (c .before .if1 .left)
 
   whole : Whole (drop (header read .size) (file read)) (header read .tasks) (header read .lengths)
-  whole = behind-whole (file read) (header read) (read .header-at .ensures) passed
+  whole = behind-whole (file read) (header read) (read .header-of .ensures) passed
 
 -- what was checked
 abbrev cut : tie.After-check-code → tie.After-rest-at
@@ -40,8 +40,8 @@ checked : (c : tie.After-check-code) → let k = read (cut c) in
     CodeChecked (drop (header k .size) (file k)) (header k .tasks) (header k .lengths) (c .check-code .result) (c .check-code .last .1 .1 .1 .0) (c .check-code .last .1 .1 .1 .1 .0) (c .check-code .last .1 .1 .1 .1 .1 .0)
 checked c = rw (cut c .rest-at .ensures) at (c .check-code .ensures)
 
-header-at-requires : tie.Need-header-at-requires
-header-at-requires c κs = search needs
+header-of-requires : tie.Need-header-of-requires
+header-of-requires c κs = search needs
 
 refused-requires : tie.Need-refused-requires
 refused-requires c κs = search needs
@@ -49,7 +49,7 @@ refused-requires c κs = search needs
 returns : tie.Need-returns
 returns c =
     let k = c .before .before .before in
-    refused-opened _ _ (c .refused .ensures) (header-refused (file k) (header k) (k .header-at .ensures) (not-true (header k .ok) (c .before .if1 .taken)))
+    refused-opened _ _ (c .refused .ensures) (header-refused (file k) (header k) (k .header-of .ensures) (not-true (header k .ok) (c .before .if1 .taken)))
 
 rest-at-requires : tie.Need-rest-at-requires
 rest-at-requires c κs = search needs
@@ -80,7 +80,7 @@ returns-2 c =
     let r = cut k in
     let h = read r in
     refused-opened _ _ (c .refused2 .ensures)
-    (sym (answered-as (file h) (header h) (h .header-at .ensures) (passed r)) ∙ sym (checked k .answer) ∙ c .before .before .answer .given .1)
+    (sym (answered-as (file h) (header h) (h .header-of .ensures) (passed r)) ∙ sym (checked k .answer) ∙ c .before .before .answer .given .1)
 
 returns-3 : tie.Need-returns-3
 returns-3 c =
@@ -89,13 +89,13 @@ returns-3 c =
     let r = cut k in
     let h = read r in
     let codes = c .read-code .ensures ∙ ap (λ (b : List ℕ). canonical (programsIn b (header h .tasks) (header h .lengths)) .codes) (r .rest-at .ensures) in
-    plan-opened (file h) (header h) (h .header-at .ensures) (passed r) (checked k) (told .enum-told .given .1) refl refl refl codes
+    plan-opened (file h) (header h) (h .header-of .ensures) (passed r) (checked k) (told .enum-told .given .1) refl refl refl codes
 
-pub open-plan-spec : {M : Type 1} → statement M
-open-plan-spec =
+pub open-spec : {M : Type 1} → statement M
+open-spec =
     tie.close
     (tie.spec
-    header-at-requires
+    header-of-requires
     refused-requires
     returns
     rest-at-requires

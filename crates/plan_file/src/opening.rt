@@ -2,13 +2,13 @@
 ghost use mathlib.Core.Path.{_≡_};
 ghost use lib.ListN.{replicate};
 ghost use Rattle.plan.specs.declared.PlanAnswer.the-variants.{Refused};
-ghost use Rattle.run.specs.file.Opens.{PlanOpened};
+ghost use Rattle.plan_file.specs.Opens.{PlanOpened};
+use crate::code::read_code;
+use crate::fields::rest_at;
+use crate::header_of;
+use crate::scan::check_code;
 use plan::PlanAnswer;
 use plan::Refusal;
-use plan_file::code::read_code;
-use plan_file::fields::rest_at;
-use plan_file::header::header_at;
-use plan_file::scan::check_code;
 
 // The answer about a plan file; if it is accepted, how many tasks there are and how many instructions each has.
 pub struct Opened {
@@ -30,7 +30,7 @@ fn refused(r: Refusal) -> Opened
 
 // 2 to 6 of a plan file. If it is accepted, its instructions are in the slots that are lent, and each task's parent and each channel's
 // sender and receiver in the tables, all of them empty before.
-pub fn open_plan<'a>(
+pub fn open<'a>(
     file: &'a [u8],
     codes: &'a mut [u32; 4096],
     parents: &'a mut [u8; 129],
@@ -40,7 +40,7 @@ pub fn open_plan<'a>(
     requires { ⌜ (now codes ≡ replicate 4096 0) × (now parents ≡ replicate 129 0) × (now senders ≡ replicate 129 0) × (now receivers ≡ replicate 129 0) ⌝ }
     ensures { λ o. ⌜ PlanOpened (now (file .entry)) o (now (codes .exit)) (now (parents .exit)) (now (senders .exit)) (now (receivers .exit)) ⌝ }
 {
-    let h = header_at(file, 0, file.len());
+    let h = header_of(file);
     if !h.ok {
         return refused(Refusal::BadLayout);
     }

@@ -4,10 +4,10 @@ use mathlib.Core.List.{List}
 use Prim.Native.Nat.{ℕ}
 use Rattle.plan.specs.declared.Plan.{Plan}
 use Rattle.plan.specs.declared.PlanAnswer.the-variants.{Accepted}
-use Rattle.plan.specs.Programs.{canonical}
+use Rattle.plan.specs.Programs.{programs, canonical}
 use Rattle.plan.specs.Files.{filePrograms, fileAnswer}
-use Rattle.plan_index.specs.ends.Derived.{endsOf}
-use Rattle.run.specs.declared.file.open.Opened.{Opened}
+use Rattle.plan_value.specs.Firsts.{Firsts}
+use Rattle.plan_file.specs.declared.opening.Opened.{Opened}
 
 -- the plan value of a file
 abbrev pub filePlan : List ℕ → Plan
@@ -17,6 +17,4 @@ filePlan p = canonical (filePrograms p)
 pub record PlanOpened (p : List ℕ) (o : Opened) (codes parents senders receivers : List ℕ) : Type 0 where
   pub answered : o .answer ≡ fileAnswer p
   pub plan : o .answer ≡ Accepted → _≡_ {A = Plan} (record { tasks = o .tasks; lengths = o .lengths; codes = codes }) (filePlan p)
-  pub parents-of : o .answer ≡ Accepted → parents ≡ endsOf (filePlan p) .parents
-  pub senders-of : o .answer ≡ Accepted → senders ≡ endsOf (filePlan p) .senders
-  pub receivers-of : o .answer ≡ Accepted → receivers ≡ endsOf (filePlan p) .receivers
+  pub firsts : o .answer ≡ Accepted → Firsts (programs (filePlan p)) parents senders receivers
