@@ -4,3 +4,5 @@ mod Answers
 mod Packed
 mod Reached
 mod Shown
+-- Numbers put one behind the other.
+pub mod Puts

@@ -13,6 +13,7 @@ use plan::PlanAnswer;
 use plan::ProcessorId;
 use plan::Refusal;
 use plan::TaskId;
+use plan_file::opening::open;
 use plan_index::ends::numbers::put_numbers;
 use plan_index::user_table::users::build;
 use rig::start::no_messages;
@@ -21,7 +22,6 @@ use rig::start::start_board;
 use rules::channel::Hint;
 use rules::step::RunAnswer;
 use run::all_steps::run_steps;
-use run::file::open::open_plan;
 
 // The answer, and the counts where it is accepted.
 pub struct Shown {
@@ -136,7 +136,7 @@ pub fn panel_file<'a>(processors: u32, plan: &'a [u8], steps: &'a [u8]) -> Shown
     let mut parents = [0u8; 129];
     let mut senders = [0u8; 129];
     let mut receivers = [0u8; 129];
-    let opened = open_plan(plan, &mut codes, &mut parents, &mut senders, &mut receivers);
+    let opened = open(plan, &mut codes, &mut parents, &mut senders, &mut receivers);
     let answer = opened.answer;
     match answer {
         PlanAnswer::Refused(a) => refused(RunAnswer::Unstarted(a)),

@@ -4,6 +4,8 @@
 pub mod counts;
 // The panel after a plan file and a step file.
 pub mod file;
+// Counts put into lent numbers.
+pub mod output;
 
 ghost use mathlib.Core.Bool.{true};
 ghost use mathlib.Core.Path.{_≡_};

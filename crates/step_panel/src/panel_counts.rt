@@ -1,24 +1,8 @@
 // The step panel after a step file, as a C program calls it.
-ghost use mathlib.Core.Path.{_≡_};
-ghost use mathlib.Core.List.{_++_};
-ghost use Prim.Native.Nat.{_≤_};
-ghost use lib.ListN.{length, drop};
 ghost use Rattle.step_panel.specs.Panels.{PanelMeets};
 use driver::run_number;
 use panel::file::panel_file;
-
-// The counts become the first 27 of the lent numbers.
-fn put_counts(out: &mut [u32], counts: [u16; 27])
-    requires { ⌜ 27 ≤ length (now out) ⌝ }
-    ensures { λ r. ⌜ now (out .exit) ≡ counts ++ drop 27 (now (out .entry)) ⌝ }
-{
-    let mut k: usize = 0;
-    while k < 27 {
-        let c = counts[k];
-        out[k] = c as u32;
-        k += 1;
-    }
-}
+use panel::output::put_counts;
 
 // The panel: how many runs, deliveries and moves get each of the numbers 0 to 26, of the rig that a step file leaves, into the lent
 // numbers. 0, or the number of the refusal.

@@ -7,12 +7,24 @@ use rules::task::Task;
 use rules::task::TaskState;
 
 // The place goes on by one.
-pub fn advanced(mut x: Task) -> Task
+pub fn advanced(x: Task) -> Task
     requires { ⌜ x .pc < 255 ⌝ }
     ensures { λ r. ⌜ r ≡ advanced x ⌝ }
 {
-    x.pc = x.pc + 1;
-    x
+    let state = x.state;
+    let processor = x.processor;
+    let origin = x.origin;
+    let word = x.word;
+    Task {
+        state: state,
+        processor: processor,
+        pc: x.pc + 1,
+        origin: origin,
+        word: word,
+        overflow: x.overflow,
+        moves: x.moves,
+        children: x.children,
+    }
 }
 
 // The task is ready.

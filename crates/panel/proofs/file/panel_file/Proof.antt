@@ -19,10 +19,10 @@ use Rattle.panel.proofs.file.panel_file.Tie as tie
 abbrev begin : tie.Else1 → tie.Start
 begin c = c .before .before .before .before
 
-abbrev within-limits : tie.After-open-plan → tie.Else1
+abbrev within-limits : tie.After-open → tie.Else1
 within-limits c = c .before .before .before .before .before
 
-abbrev opened : tie.After-enum-told → tie.After-open-plan
+abbrev opened : tie.After-enum-told → tie.After-open
 opened c = c .before .before
 
 abbrev told : tie.Else2 → tie.After-enum-told
@@ -33,7 +33,7 @@ processors : (c : tie.Else1) → within 1 6 (begin c .args .processors) ≡ true
 processors c = let i = c .before .is-within in sym (i .ensures) ∙ not-false (i .result) (c .if1 .left)
 
 file : (c : tie.After-enum-told) → fileAnswer (begin (within-limits (opened c)) .args .plan .now) ≡ Accepted
-file c = opened-file (opened c .open-plan .ensures) (c .enum-told .given .1)
+file c = opened-file (opened c .open .ensures) (c .enum-told .given .1)
 
 steps : (c : tie.Else2) → stepsOk (begin (within-limits (opened (told c))) .args .steps .now) ≡ true
 steps c = let i = c .before .steps-ok in sym (i .ensures) ∙ not-false (i .result) (c .if2 .left)
@@ -56,8 +56,8 @@ returns c =
     let i = c .before .before .is-within in
     processors-refused _ _ _ (sym (i .ensures) ∙ not-true (i .result) (c .before .if1 .taken)) (c .refused .ensures)
 
-open-plan-requires : tie.Need-open-plan-requires
-open-plan-requires c κs = (refl, refl, refl, refl)
+open-requires : tie.Need-open-requires
+open-requires c κs = (refl, refl, refl, refl)
 
 enum-known-answer : tie.Need-enum-known-answer
 enum-known-answer c = search needs
@@ -82,7 +82,7 @@ returns-2 c =
     steps-refused _ _ _ (processors (within-limits (opened e))) (file e) (sym (i .ensures) ∙ not-true (i .result) (t .if2 .taken)) (c .refused3 .ensures)
 
 put-numbers-requires : tie.Need-put-numbers-requires
-put-numbers-requires c κs = let t = told (passed c) in (opened-passes (opened t .open-plan .ensures) (t .enum-told .given .1), refl)
+put-numbers-requires c κs = let t = told (passed c) in (opened-passes (opened t .open .ensures) (t .enum-told .given .1), refl)
 
 cast-counts-after : tie.Need-cast-counts-after
 cast-counts-after c =
@@ -95,12 +95,12 @@ counts-after-requires c κs =
     let p = passed (n .before) in
     let t = told p in
     let k = opened t in
-    (record { plan = _; begins = opened-begins (k .open-plan .ensures) (t .enum-told .given .1) _ (processors (within-limits k)) (n .put-numbers .ensures) }, steps-few _ (steps p))
+    (record { plan = _; begins = opened-begins (k .open .ensures) (t .enum-told .given .1) _ (processors (within-limits k)) (n .put-numbers .ensures) }, steps-few _ (steps p))
 
 returns-3 : tie.Need-returns-3
 returns-3 c =
     let k = c .before .before .before .before in
-    file-refused _ _ _ (processors (within-limits k)) _ (sym (k .open-plan .ensures .answered) ∙ c .before .before .answer .given .1) (c .refused2 .ensures)
+    file-refused _ _ _ (processors (within-limits k)) _ (sym (k .open .ensures .answered) ∙ c .before .before .answer .given .1) (c .refused2 .ensures)
 
 returns-4 : tie.Need-returns-4
 returns-4 c =
@@ -110,7 +110,7 @@ returns-4 c =
     let k = opened t in
     let q = processors (within-limits k) in
     shown _ _ _ q (file t) (steps p)
-    (rw (start-is _ _ _ refl) at (c .counts-after .ensures _ (opened-begins (k .open-plan .ensures) (t .enum-told .given .1) _ q (n .put-numbers .ensures))))
+    (rw (start-is _ _) at (c .counts-after .ensures _ (opened-begins (k .open .ensures) (t .enum-told .given .1) _ q (n .put-numbers .ensures))))
     refl
 
 pub panel-file-spec : {M : Type 1} → statement M
@@ -120,7 +120,7 @@ panel-file-spec =
     is-within-requires
     refused-requires
     returns
-    open-plan-requires
+    open-requires
     enum-known-answer
     refused-requires-2
     enum-told

@@ -6,9 +6,9 @@ use native.Mathlib.Omega.{arith}
 use lib.ListN.{length, take, drop, getD, set, length-set}
 use lib.Seq.{take-all}
 use borrow.Author.Needs.{needs}
-use Rattle.step_panel.proofs.Panels.{put-next}
-use Rattle.step_panel.proofs.panel_counts.put_counts.Statement.{statement}
-use Rattle.step_panel.proofs.panel_counts.put_counts.Tie as tie
+use Rattle.panel.proofs.Puts.{put-next}
+use Rattle.panel.proofs.output.put_counts.Statement.{statement}
+use Rattle.panel.proofs.output.put_counts.Tie as tie
 
 abbrev Inv-loop : tie.InvT-loop
 Inv-loop out₀ counts k₀ out k = (k ≤ 27) × (length out ≡ length out₀) × (length counts ≡ 27 → out ≡ take k counts ++ drop k out₀)
