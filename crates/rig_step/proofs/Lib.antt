@@ -3,3 +3,5 @@ pub mod Parts
 mod Agreeing
 pub mod Boards
 pub mod Reports
+pub mod MailAfter
+pub mod Acting

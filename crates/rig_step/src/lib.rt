@@ -1,5 +1,7 @@
 // One step of any rig: 9 is tested, the rig is packed, the step is decided and carried out as a run of one step.
 
+// A step without its mail.
+pub mod act;
 // The four bytes of a step.
 pub mod bytes;
 // The parts of a rig put on a board, and back.

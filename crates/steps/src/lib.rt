@@ -9,13 +9,16 @@ pub mod moves;
 // A run that changes a word only.
 pub mod word;
 
+ghost use mathlib.Core.Logic.{_≢_};
 ghost use mathlib.Core.Path.{_≡_};
+ghost use Rattle.plan.specs.Numbers.{taskId};
 ghost use Rattle.plan_index.specs.user_table.Users.{sendersOf, receiversOf};
 ghost use Rattle.board.specs.Lent.{lent, tasksOf, keptOf};
 ghost use Rattle.board.specs.Acted.{Acted, actOf, refusedAct};
 ghost use Rattle.board.specs.Rigs.{RigOn, factsIn};
 ghost use Rattle.board.specs.Verdicts.{stepVerdict};
 ghost use Rattle.steps.specs.Kinds.{kindRefusal};
+ghost use Rattle.steps.specs.Moves.{CanMove, NotRun};
 use crate::instruction::run::run;
 use crate::instruction::run::run_decided;
 use board::Board;
@@ -39,6 +42,34 @@ fn no_message(s: Step) -> Act
         return refused(StepAnswer::BadStep);
     }
     refused(StepAnswer::NoMessage)
+}
+
+// A step that is no run is carried out: a move, or none. Neither codes nor numbers are asked.
+pub fn not_run<'a>(
+    users: &'a [u8; 1024],
+    hintprocessors: &'a mut [u8; 768],
+    hintmoves: &'a mut [u16; 768],
+    board: &'a mut Board,
+    n: Size,
+    s: Step,
+) -> Act
+    requires { ⌜ (s .kind ≢ 1) × CanMove (now users) (now board) (n .tasks) (taskId (s .task)) ⌝ }
+    ensures { λ r. ⌜ NotRun (now (users .entry)) n s
+        (now (hintprocessors .entry)) (now (hintmoves .entry)) (now (board .entry)) r
+        (now (hintprocessors .exit)) (now (hintmoves .exit)) (now (board .exit)) ⌝ }
+{
+    if s.kind == 3 {
+        return move_task(
+            users,
+            hintprocessors,
+            hintmoves,
+            board,
+            n,
+            TaskId(s.task),
+            s.number,
+        );
+    }
+    no_message(s)
 }
 
 // The step is carried out, by its kind.
@@ -82,18 +113,7 @@ pub fn other<'a>(
             TaskId(s.task),
         );
     }
-    if s.kind == 3 {
-        return move_task(
-            users,
-            hintprocessors,
-            hintmoves,
-            board,
-            n,
-            TaskId(s.task),
-            s.number,
-        );
-    }
-    no_message(s)
+    not_run(users, hintprocessors, hintmoves, board, n, s)
 }
 
 // What the step is answered and would post; nothing is changed.

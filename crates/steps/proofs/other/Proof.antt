@@ -8,10 +8,9 @@ use Rattle.rig_parts.specs.Facts.{Facts}
 use Rattle.board.specs.Lent.{Lent, lent, tasksOf, keptOf}
 use Rattle.board.specs.Rigs.{factsIn}
 use Rattle.board.specs.Verdicts.{stepVerdict}
-use Rattle.steps.specs.Kinds.{kindRefusal}
 use Rattle.steps.proofs.Acting.{same-acted, refused-acted}
 use Rattle.steps.proofs.Moving.{rig-moves}
-use Rattle.steps.proofs.ByKind.{bad-run, a-run, a-move, no-run-no-move}
+use Rattle.steps.proofs.ByKind.{bad-run, a-run}
 use Rattle.steps.proofs.other.Statement.{statement}
 use Rattle.steps.proofs.other.Tie as tie
 
@@ -46,37 +45,16 @@ returns-2 c =
     same-acted (a-run (given s) (s .args .n .processors) (tasksOf (here s)) (keptOf (here s)) (s .args .n .used) (s .args .s) (k .if1 .taken) (omega (arith, z .if2 .left)))
     (c .run .ensures)
 
-move-task-requires : tie.Need-move-task-requires
-move-task-requires c κs =
-    let s = c .before .before .before .before .before .before .before in
-    rig-moves (s .pre) (taskId (s .args .s .task))
+not-run-requires : tie.Need-not-run-requires
+not-run-requires c κs =
+    let else1 = c .before .before .before in
+    let s = else1 .before .before in
+    (else1 .if1 .left, rig-moves (s .pre) (taskId (s .args .s .task)))
 
 returns-3 : tie.Need-returns-3
 returns-3 c =
-    let k = c .before .before .before .before in
-    let s = k .before .before .before .before in
-    same-acted (a-move (given s) (s .args .n .processors) (tasksOf (here s)) (keptOf (here s)) (s .args .n .used) (s .args .s) (k .if3 .taken))
-    (c .move-task .ensures (s .args .heldprocessors .now) (s .args .heldnumbers .now) (s .args .notes .now))
-
-no-message-requires : tie.Need-no-message-requires
-no-message-requires c κs = search needs
-
-returns-4 : tie.Need-returns-4
-returns-4 c =
-    let k = c .before .before .before in
-    let s = k .before .before in
-    refused-acted (given s .senders) (given s .receivers) (here s) (s .pre .whole) (verdict s) (kindRefusal (s .args .s))
-    (no-run-no-move _ _ _ _ _ _ (k .if1 .left) (c .before .if3 .left)) (c .no-message .ensures)
+    let a = c .before .before .before .before .before .before .args in
+    c .not-run .ensures (a .codes .now) (a .numbers .now) (a .heldprocessors .now) (a .heldnumbers .now) (a .notes .now)
 
 pub other-spec : {M : Type 1} → statement M
-other-spec =
-    tie.close
-    (tie.spec
-    refused-requires
-    returns
-    run-requires
-    returns-2
-    move-task-requires
-    returns-3
-    no-message-requires
-    returns-4)
+other-spec = tie.close (tie.spec refused-requires returns run-requires returns-2 not-run-requires returns-3)
