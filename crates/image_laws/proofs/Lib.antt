@@ -18,5 +18,5 @@ pub mod Written
 pub mod Imaged
 pub mod Unused
 pub mod Read
+pub mod MailKept
 pub mod Started
-pub mod Typed

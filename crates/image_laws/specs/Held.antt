@@ -15,6 +15,8 @@ use Rattle.rules.specs.declared.task.Task.{Task}
 use Rattle.rules.specs.declared.message.Message.{Message}
 use Rattle.rules.specs.declared.message.Message.the-variants.{Empty, Offered, Advert, ReadyToReceive, Data, Terminated, Migration}
 use Rattle.rules.specs.declared.message.Network.{Network}
+use Rattle.rules.specs.declared.rule.Posting.{Posting}
+use Rattle.rules.specs.declared.rule.Posting.the-variants.{Nothing, Single, Adverts}
 use Rattle.rules.specs.declared.system.Tables.{Tables}
 use Rattle.rules.specs.declared.system.Channels.{Channels}
 use Rattle.rules.specs.declared.system.Parents.{Parents}
@@ -97,6 +99,12 @@ LetterFits (ReadyToReceive c d h) = (c .0 < top8) × (d .0 < top8) × HintFits h
 LetterFits (Data c d w) = (c .0 < top8) × (d .0 < top8) × WordFits w
 LetterFits (Terminated h t) = HintFits h × (t .0 < top8)
 LetterFits (Migration d t) = (d .0 < top8) × (t .0 < top8)
+
+-- the numbers of what a rule posts
+abbrev pub PostingFits : Posting → Type 0
+PostingFits Nothing = 0 < top8
+PostingFits (Single m) = LetterFits m
+PostingFits (Adverts c d) = (c .0 < top8) × (d .0 < top8)
 
 pub record MailFits (n : Network) : Type 0 where
   pub long : length (n .slots) ≡ 256

@@ -1,11 +1,11 @@
 -- A list that is filled entry by entry with the entries of a table, and the table at the end.
-use mathlib.Core.Path.{_≡_, refl, sym, _∙_}
+use mathlib.Core.Path.{_≡_, sym, _∙_}
 use mathlib.Core.List.{List}
 use mathlib.Core.Logic.{by-cases}
-use Prim.Native.Nat.{ℕ, zero, suc, _+_, _<_, _≤_}
+use Prim.Native.Nat.{ℕ, _+_, _<_, _≤_}
 use native.Mathlib.Omega.{arith}
 use native.Mathlib.Decide.{ℕ-discrete}
-use lib.ListN.{length, getD, set, length-set, replicate}
+use lib.ListN.{length, getD, set, length-set}
 use lib.Seq.{ext-getD, getD-set-same, getD-set-other}
 use Rattle.base.specs.Lists.{table}
 use Rattle.base.proofs.Tables.{length-table, getD-table}
@@ -31,21 +31,7 @@ module _ {A : Type 0} {d : A} {n : ℕ} {f : ℕ → A} {xs : List A} where
             (λ q. getD-set-other xs k i v d q ∙ a .same i (omega (arith, q)));
       }
 
-  -- an entry that is there already
-  pub filled-there : {k : ℕ} → Filled d n k f xs → getD xs k d ≡ f k → Filled d n (k + 1) f xs
-  filled-there {k} a e =
-      record {
-        long = a .long;
-        same = λ i b. by-cases (ℕ-discrete i k) (λ (q : i ≡ k). rw q e) (λ q. a .same i (omega (arith, q)));
-      }
-
   pub filled-all : {k : ℕ} → n ≤ k → Filled d n k f xs → xs ≡ table n f
   filled-all h a =
       ext-getD d xs (table n f) (a .long ∙ sym (length-table n f))
       (λ i b. a .same i (omega (arith, a .long)) ∙ sym (getD-table n f i d (omega (arith, a .long))))
-
--- one value throughout, and behind the end
-pub blank : {A : Type 0} (d : A) (n i : ℕ) → getD (replicate n d) i d ≡ d
-blank d zero i = refl
-blank d (suc n) zero = refl
-blank d (suc n) (suc i) = blank d n i

@@ -1,7 +1,12 @@
 -- What the loops over a rig's bytes compute.
 mod Places
 mod Filling
-mod Slots
+mod Mail
+mod Readies
+mod Blocks
+mod Fields
+mod Tidy
 mod Zeros
 mod Passing
 mod Together
+mod Slots

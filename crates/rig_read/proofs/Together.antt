@@ -20,7 +20,6 @@ use Rattle.plan.specs.Outcomes.{planRead}
 use Rattle.plan_laws.specs.Bytes.{Bytes}
 use Rattle.plan_laws.proofs.Canonical.{meaning-canonical}
 use Rattle.plan_laws.proofs.LayoutRead.{file-plan}
-use Rattle.rules.specs.declared.message.Network.{Network}
 use Rattle.rules.specs.declared.system.System.{System}
 use Rattle.rules.specs.Tasks.{noTask}
 use Rattle.rules.specs.Systems.{meaning}
@@ -32,24 +31,24 @@ use Rattle.board.specs.declared.act.Size.{Size}
 use Rattle.board.specs.Lent.{Lent, taskOn, tasksOn, channelsOn, parentsOn, storeOf}
 use Rattle.board.proofs.Laws.{getD-task}
 use Rattle.image.specs.Numbers.{numberAt, numbersAt}
-use Rattle.image.specs.Image.{isImage, rigOf, planFile, boardIn}
+use Rattle.image.specs.Image.{isImage, rigOf, planFile, boardIn, networkIn}
 use Rattle.image_laws.specs.Parts.{versionOk, zerosBehind, boardTidy, mailTidy, imageParts, systemOn}
 use Rattle.image_laws.proofs.Parts.{rig-parts}
 use Rattle.image_laws.proofs.Whole.{image-parts}
 use Rattle.rig_read.specs.Opened.{Opened}
-use Rattle.rig_read.specs.Passing.{taskPasses, tasksTidy, tasksPass, boardPasses, bytesPass}
+use Rattle.rig_read.specs.Passing.{taskPasses, tasksTidy, tasksPass, boardPasses, bytesPass, mailPasses}
 use Rattle.rig_read.proofs.Passing.{below-and, channelsTidy, channels-pass, parentsTidy, parents-pass}
 
 regroup : (a b z ct tt1 pt mt d tk og tb ce pa rd cs nw : Bool)
     → (a && (b && (z && ((ct && (tt1 && pt)) && mt)))) && (d && (true && (tk && (og && (tb && (ce && (pa && (rd && (cs && nw)))))))))
-    ≡ ((a && b) && (z && mt)) && (((ct && ce) && (tt1 && ((pt && pa) && ((tk && og) && rd)))) && (tb && (d && (cs && nw))))
+    ≡ ((a && b) && z) && (((ct && ce) && (tt1 && ((pt && pa) && ((tk && og) && rd)))) && (tb && (d && (cs && (mt && nw)))))
 regroup false b z ct tt1 pt mt d tk og tb ce pa rd cs nw = refl
 regroup true false z ct tt1 pt mt d tk og tb ce pa rd cs nw = refl
 regroup true true false ct tt1 pt mt d tk og tb ce pa rd cs nw = refl
 regroup true true true false tt1 pt mt d tk og tb ce pa rd cs nw = simp and-false
 regroup true true true true false pt mt d tk og tb ce pa rd cs nw = simp and-false
 regroup true true true true true false mt d tk og tb ce pa rd cs nw = simp and-false
-regroup true true true true true true false d tk og tb ce pa rd cs nw = refl
+regroup true true true true true true false d tk og tb ce pa rd cs nw = simp and-false
 regroup true true true true true true true false tk og tb ce pa rd cs nw = simp and-false
 regroup true true true true true true true true false og tb ce pa rd cs nw = simp and-false
 regroup true true true true true true true true true false tb ce pa rd cs nw = simp and-false
@@ -69,9 +68,9 @@ plan-passes f e =
     rw e (rw (meaning-canonical (filePrograms f) ok, ok) refl)
 
 -- a rig of a plan that is not refused, with what is lent
-module _ (n : ℕ) (p : Plan) (l : Lent) (k : Network) (chosen : List ℕ) (ok : isAccepted (planAnswer (programs p)) ≡ true) where
+module _ (n : ℕ) (p : Plan) (l : Lent) (b chosen : List ℕ) (ok : isAccepted (planAnswer (programs p)) ≡ true) where
   abbrev rig : System
-  rig = systemOn n p l k chosen
+  rig = systemOn n p l (networkIn b) chosen
 
   pub few : p .tasks ≤ 64
   few = few-tasks rig (sizes-passed (programs p) ok)
@@ -99,34 +98,34 @@ module _ (n : ℕ) (p : Plan) (l : Lent) (k : Network) (chosen : List ℕ) (ok :
       refl
 
   -- the parts of an image whose board is this, and the parts of 9
-  pub parts-pass : (b : List ℕ) → l .board ≡ boardIn b
+  pub parts-pass : l .board ≡ boardIn b
       → imageParts b && systemOk rig
       ≡ bytesPass b
       && (boardPasses (p .lengths) (p .codes) n (p .tasks) (l .board)
-      && (tablesOk n (storeOf l .tables) && (within 1 6 n && (chosenOk (p .tasks) chosen && networkOk n (p .tasks) k))))
+      && (tablesOk n (storeOf l .tables) && (within 1 6 n && (chosenOk (p .tasks) chosen && mailPasses n (p .tasks) b))))
   unfolding imageParts boardTidy systemOk bytesPass boardPasses tasksTidy
-  parts-pass b e =
+  parts-pass e =
       rw (← e, ok, channels-pass n (l .board), parents-pass n (p .tasks) (l .board), tasks-pass)
       (regroup (versionOk b) (eqb (getD b 13 0) 0) (zerosBehind (numberAt 4 b 4) b) (channelsTidy n (l .board)) (tasksTidy (l .board)) (parentsTidy n (p .tasks) (l .board))
       (mailTidy b) (within 1 6 n) (tasksOk rig) (originsOk rig) (tablesOk n (storeOf l .tables)) (channelEntriesOk n (channelsOn (l .board)))
-      (parentsOk n (p .tasks) (parentsOn (l .board))) (readyOk (p .tasks) (tasksOn (l .board))) (chosenOk (p .tasks) chosen) (networkOk n (p .tasks) k))
+      (parentsOk n (p .tasks) (parentsOn (l .board))) (readyOk (p .tasks) (tasksOn (l .board))) (chosenOk (p .tasks) chosen) (networkOk n (p .tasks) (networkIn b)))
 
-module _ {b lengths codes : List ℕ} {n : Size} {l : Lent} {k : Network} {chosen : List ℕ} (o : Opened b lengths codes n l k chosen) where
+module _ {b lengths codes : List ℕ} {n : Size} {l : Lent} {chosen : List ℕ} (o : Opened b lengths codes n l chosen) where
   abbrev plan : Plan
   plan = planRead (planFile b) .plan
 
   ok : isAccepted (planAnswer (programs plan)) ≡ true
   ok = plan-passes (planFile b) (o .plan)
 
-  rig-is : rigOf b ≡ systemOn (n .processors) plan l k chosen
-  rig-is = rig-parts b ∙ rw (o .processors, o .parts, o .network, o .last) refl
+  rig-is : rigOf b ≡ systemOn (n .processors) plan l (networkIn b) chosen
+  rig-is = rig-parts b ∙ rw (o .processors, o .parts, o .last) refl
 
   -- what is required of the programs
   pub few-opened : n .tasks ≤ 64
-  few-opened = rw (o .tasks) (few (n .processors) plan l k chosen ok)
+  few-opened = rw (o .tasks) (few (n .processors) plan l b chosen ok)
 
   pub short-opened : (i : ℕ) → i < n .tasks → getD lengths i 0 ≤ 64
-  short-opened i h = rw (o .plan-lengths) (short (n .processors) plan l k chosen ok i (rw (o .tasks) at h))
+  short-opened i h = rw (o .plan-lengths) (short (n .processors) plan l b chosen ok i (rw (o .tasks) at h))
 
   pub tables-opened : (length (l .hintprocessors) ≡ 768) × (length (l .hintmoves) ≡ 768) × (length (l .heldprocessors) ≡ 768)
       × (length (l .heldnumbers) ≡ 768) × (length (l .notes) ≡ 768)
@@ -138,7 +137,7 @@ module _ {b lengths codes : List ℕ} {n : Size} {l : Lent} {k : Network} {chose
       ≡ bytesPass b
       && (boardPasses lengths codes (n .processors) (n .tasks) (l .board)
       && (tablesOk (n .processors) (storeOf l .tables)
-      && (within 1 6 (n .processors) && (chosenOk (n .tasks) chosen && networkOk (n .processors) (n .tasks) k))))
+      && (within 1 6 (n .processors) && (chosenOk (n .tasks) chosen && mailPasses (n .processors) (n .tasks) b))))
   together bytes =
       rw (image-parts b (o .long) bytes (o .room) (o .plan), rig-is, o .plan-lengths, o .plan-codes, o .tasks)
-      (parts-pass (n .processors) plan l k chosen ok b (ap (λ (x : Lent). x .board) (o .parts)))
+      (parts-pass (n .processors) plan l b chosen ok (ap (λ (x : Lent). x .board) (o .parts)))

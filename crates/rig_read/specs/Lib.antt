@@ -1,3 +1,4 @@
 pub mod Opened
 pub mod Room
 pub mod Passing
+pub mod Slots

@@ -6,14 +6,13 @@ use lib.ListN.{length, getD}
 use Rattle.plan.specs.declared.PlanAnswer.the-variants.{Accepted}
 use Rattle.plan.specs.Files.{fileAnswer}
 use Rattle.plan.specs.Outcomes.{planRead}
-use Rattle.rules.specs.declared.message.Network.{Network}
 use Rattle.board.specs.declared.act.Size.{Size}
 use Rattle.board.specs.Lent.{Lent}
 use Rattle.image.specs.Numbers.{numberAt}
-use Rattle.image.specs.Image.{rigSize, planRoom, planFile, networkIn, chosenIn}
+use Rattle.image.specs.Image.{rigSize, planRoom, planFile, chosenIn}
 use Rattle.image_laws.specs.Parts.{lentIn}
 
-pub record Opened (b lengths codes : List ℕ) (n : Size) (l : Lent) (k : Network) (chosen : List ℕ) : Type 0 where
+pub record Opened (b lengths codes : List ℕ) (n : Size) (l : Lent) (chosen : List ℕ) : Type 0 where
   pub long : length b ≡ rigSize
   pub room : numberAt 4 b 4 ≤ planRoom
   pub plan : fileAnswer (planFile b) ≡ Accepted
@@ -23,5 +22,4 @@ pub record Opened (b lengths codes : List ℕ) (n : Size) (l : Lent) (k : Networ
   pub processors : n .processors ≡ getD b 12 0
   pub used : n .used ≡ numberAt 4 b 8
   pub parts : l ≡ lentIn b
-  pub network : k ≡ networkIn b
   pub last : chosen ≡ chosenIn b

@@ -8,10 +8,14 @@ pub mod head;
 pub mod mail;
 // The sets of ready tasks.
 pub mod ready;
+// A slot of the mail.
+pub mod slots;
 // What desks keep for channels.
 pub mod tables;
 // The tasks.
 pub mod tasks;
+// Zeros in bytes.
+pub mod zeros;
 
 ghost use mathlib.Core.Path.{_≡_};
 ghost use mathlib.Core.Bool.{_&&_};
@@ -27,7 +31,7 @@ use crate::check::entries::channels_ok;
 use crate::check::entries::parents_ok;
 use crate::check::head::head_ok;
 use crate::check::head::zeros_behind;
-use crate::check::mail::mail_tidy;
+use crate::check::mail::mail_ok;
 use crate::check::ready::ready_ok;
 use crate::check::tables::hints_ok;
 use crate::check::tables::notes_ok;
@@ -37,20 +41,17 @@ use crate::check::tasks::tasks_tidy;
 use crate::numbers::number4;
 use board::Board;
 use board::act::Size;
-use rig_check::network::network_ok;
 use rig_check::system::processors_ok;
 use rig_check::tables::all_at_most;
-use rules::message::Network;
 
-// The bytes themselves, with so many letters in use.
-fn bytes_ok(rig: &[u8], used: usize) -> bool
-    requires { ⌜ (length (now rig) ≡ 34120) × (used ≡ numberAt 4 (now rig) 8) × (numberAt 4 (now rig) 4 ≤ 16644) ⌝ }
+// The bytes themselves, beside the parts.
+fn bytes_ok(rig: &[u8]) -> bool
+    requires { ⌜ (length (now rig) ≡ 34120) × (numberAt 4 (now rig) 4 ≤ 16644) ⌝ }
     ensures { λ r. ⌜ r ≡ bytesPass (now (rig .entry)) ⌝ }
 {
     let size = number4(rig, 4);
     let zeros = zeros_behind(rig, size);
-    let mail = mail_tidy(rig, used);
-    base::both(head_ok(rig), base::both(zeros, mail))
+    base::both(head_ok(rig), zeros)
 }
 
 // A board of a rig of n desks and m tasks, with these programs.
@@ -111,18 +112,17 @@ pub fn passes<'a>(
     notes: &'a [u8; 768],
     board: &'a Board,
     n: Size,
-    network: Network,
     chosen: [u8; 6],
 ) -> bool
     requires { ⌜
         Opened (now rig) (now lengths) (now codes) n
         (lent (now hintprocessors) (now hintmoves) (now heldprocessors) (now heldnumbers) (now notes) (now board))
-        network chosen ⌝ }
+        chosen ⌝ }
     ensures { λ r. ⌜ r ≡ isImage (now (rig .entry)) && systemOk (rigOf (now (rig .entry))) ⌝ }
 {
     let m = n.tasks;
     let desks = n.processors;
-    let bytes = bytes_ok(rig, n.used);
+    let bytes = bytes_ok(rig);
     let entries = board_ok(lengths, codes, desks, m, board);
     let tables = tables_ok(
         desks,
@@ -133,7 +133,7 @@ pub fn passes<'a>(
         notes,
     );
     let choices = all_at_most(m, &chosen);
-    let mail = base::both(choices, network_ok(desks, m, network));
+    let mail = base::both(choices, mail_ok(rig, desks, m, n.used));
     let last = base::both(processors_ok(desks), mail);
     base::both(bytes, base::both(entries, base::both(tables, last)))
 }

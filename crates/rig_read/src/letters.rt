@@ -1,13 +1,8 @@
-// A letter, read from its two numbers, and whether these are its numbers.
+// A letter, read from its two numbers.
 ghost use mathlib.Core.Path.{_≡_};
-ghost use mathlib.Core.Bool.{_&&_};
-ghost use mathlib.Core.List.{[], _∷_};
 ghost use Prim.Native.Nat.{_%_};
-ghost use lib.Dec.{eqb};
 ghost use Rattle.board.specs.packing.Packed.{wordOf};
-ghost use Rattle.image.specs.Numbers.{sameBytes};
-ghost use Rattle.image.specs.Letters.{letterOf, letterWord, letterNumbers};
-use board::packing::word_number;
+ghost use Rattle.image.specs.Letters.{letterOf};
 use plan::ChannelId;
 use plan::ProcessorId;
 use plan::TaskId;
@@ -84,67 +79,5 @@ pub fn letter_of(v: u64, w: u64) -> Message
         }
         6 => Message::Migration(to, TaskId(number)),
         _ => Message::Empty,
-    }
-}
-
-// The first number of a letter, by its fields.
-fn letter_word(
-    kind: u8,
-    number: u8,
-    to: ProcessorId,
-    second: ProcessorId,
-    offer: u8,
-    moves: u16,
-) -> u64
-    ensures { λ r. ⌜ r ≡ letterWord kind number (to .0) (second .0) offer moves ⌝ }
-{
-    kind as u64
-        + 256 * (number as u64)
-        + 65536 * (to.0 as u64)
-        + 16777216 * (second.0 as u64)
-        + 4294967296 * (offer as u64)
-        + 281474976710656 * (moves as u64)
-}
-
-// Whether v and w are these two numbers.
-fn same(a: u64, b: u64, v: u64, w: u64) -> bool
-    ensures { λ r. ⌜ r ≡ sameBytes (a ∷ b ∷ []) (v ∷ w ∷ []) ⌝ }
-{
-    base::both(a == v, b == w)
-}
-
-// Whether v and w are the numbers of a letter.
-pub fn letter_tidy(x: Message, v: u64, w: u64) -> bool
-    ensures { λ r. ⌜ r ≡ sameBytes (letterNumbers x) (v ∷ w ∷ []) ⌝ }
-{
-    let none = ProcessorId(0);
-    match x {
-        Message::Empty => same(0, 0, v, w),
-        Message::Offered(c, o, h) => same(
-            letter_word(1, c.0, h.processor, o.processor, o.number, h.moves),
-            0,
-            v,
-            w,
-        ),
-        Message::Advert(c, d, from) => same(letter_word(2, c.0, d, from, 0, 0), 0, v, w),
-        Message::ReadyToReceive(c, d, h) => same(
-            letter_word(3, c.0, d, h.processor, 0, h.moves),
-            0,
-            v,
-            w,
-        ),
-        Message::Data(c, d, word) => same(
-            letter_word(4, c.0, d, none, 0, 0),
-            word_number(word),
-            v,
-            w,
-        ),
-        Message::Terminated(h, t) => same(
-            letter_word(5, t.0, h.processor, none, 0, h.moves),
-            0,
-            v,
-            w,
-        ),
-        Message::Migration(d, t) => same(letter_word(6, t.0, d, none, 0, 0), 0, v, w),
     }
 }

@@ -6,15 +6,13 @@ ghost use Rattle.image.specs.Numbers.{numbersAt};
 ghost use Rattle.image.specs.Image.{boardIn, networkIn, chosenIn};
 ghost use Rattle.image_laws.specs.Parts.{lentIn};
 ghost use Rattle.board.specs.Lent.{lent, Whole};
+ghost use Rattle.rules.specs.Networks.{messageAt};
 ghost use Rattle.rig_read.specs.Room.{Room};
 use crate::letters::letter_of;
 use crate::numbers::number2;
-use crate::numbers::number4;
 use crate::numbers::number8;
 use board::Board;
 use rules::message::Message;
-use rules::message::Network;
-use rules::message::Slot;
 
 // The numbers of a board.
 fn read_board<'a>(rig: &'a [u8], board: &'a mut Board)
@@ -77,30 +75,15 @@ pub fn read_parts<'a>(
     read_bytes(rig, 29256, notes);
 }
 
-// The mail. A slot whose first number is 0 holds no letter.
-pub fn read_mail(rig: &[u8]) -> Network
-    requires { ⌜ length (now rig) ≡ 34120 ⌝ }
-    ensures { λ r. ⌜ r ≡ networkIn (now (rig .entry)) ⌝ }
+// The letter at a position of the mail, from 1.
+pub fn letter_in(rig: &[u8], p: usize) -> Message
+    requires { ⌜ (length (now rig) ≡ 34120) × (1 ≤ p) × (p ≤ 256) ⌝ }
+    ensures { λ r. ⌜ r ≡ messageAt (networkIn (now (rig .entry))) p ⌝ }
 {
-    let none = Slot {
-        message: Message::Empty,
-    };
-    let mut slots = [none; 256];
-    let mut k: usize = 0;
-    while k < 256 {
-        let v = number8(rig, 30024 + 16 * k);
-        if v != 0 {
-            let letter = letter_of(v, number8(rig, 30032 + 16 * k));
-            let slot = Slot { message: letter };
-            slots[k] = slot;
-        }
-        k += 1;
-    }
-    let used = number4(rig, 8);
-    Network {
-        slots: slots,
-        used: used,
-    }
+    let k = p - 1;
+    let v = number8(rig, 30024 + 16 * k);
+    let w = number8(rig, 30032 + 16 * k);
+    letter_of(v, w)
 }
 
 // The last choices of the desks.

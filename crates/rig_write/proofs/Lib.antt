@@ -1,7 +1,12 @@
 pub mod Puts
 pub mod Tidy
-pub mod Mail
+pub mod MailNumbers
+pub mod MailBytes
+pub mod Shift
+pub mod Taken
 pub mod Boards
 pub mod Whole
+pub mod Posts
 pub mod Written
+pub mod Loans
 pub mod Images

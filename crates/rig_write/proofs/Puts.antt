@@ -95,7 +95,7 @@ module _ (w : ℕ) where
   unfolding numbersBytes
   numbers-one v = append-nil (numberBytes w v)
 
-  numbers-two : (v u : ℕ) → numbersBytes w (v ∷ u ∷ []) ≡ numberBytes w v ++ numberBytes w u
+  pub numbers-two : (v u : ℕ) → numbersBytes w (v ∷ u ∷ []) ≡ numberBytes w v ++ numberBytes w u
   unfolding numbersBytes
   numbers-two v u = ap (λ (l : List ℕ). numberBytes w v ++ l) (append-nil (numberBytes w u))
 

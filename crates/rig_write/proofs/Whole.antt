@@ -1,6 +1,6 @@
 -- All that is written, put together: bytes cut into pieces of which some are replaced.
 use mathlib.Core.Path.{_≡_, refl, sym, ap, _∙_}
-use mathlib.Core.List.{List, [], _++_, append-assoc, append-nil}
+use mathlib.Core.List.{List, [], _++_, append-assoc}
 use Prim.Native.Nat.{ℕ, _+_, _-_, _≤_}
 use native.Mathlib.Omega.{arith}
 use lib.ListN.{length, take, drop, length-append, length-drop, take-append-drop}
@@ -52,20 +52,21 @@ three-replaced p1 p2 p3 p4 p5 p6 p7 x y z o1 o2 o3 a b c l1 l2 l4 l6 pb pc e1 e2
     e3 ∙ rw s2 (replaced f2 p6 p7 z c n2 l6 ∙ simp append-assoc)
 
 module _ (b : List ℕ) (h : length b ≡ 34120) where
-  pub parts-put : (x y z o1 o2 o3 : List ℕ) → length x ≡ 4 → length y ≡ 6 → length z ≡ 17456
+  -- the number of letters, the last choices, and the board with the tables
+  pub parts-put : (x y z o1 o2 o3 : List ℕ) → length x ≡ 4 → length y ≡ 6 → length z ≡ 13360
       → o1 ≡ overlay b 8 x → o2 ≡ overlay o1 14 y → o3 ≡ overlay o2 16664 z
-      → o3 ≡ take 8 b ++ (x ++ (take 2 (drop 12 b) ++ (y ++ (take 16644 (drop 20 b) ++ z))))
+      → o3 ≡ take 8 b ++ (x ++ (take 2 (drop 12 b) ++ (y ++ (take 16644 (drop 20 b) ++ (z ++ drop 30024 b)))))
   parts-put x y z o1 o2 o3 lx ly lz e1 e2 e3 =
       let n1 : length (take 8 b) ≡ 8 = length-take-le 8 b (omega arith) in
       let n2 = piece-long b 8 4 (omega arith) in
       let n3 = piece-long b 12 2 (omega arith) in
       let n4 = piece-long b 14 6 (omega arith) in
       let n5 = piece-long b 20 16644 (omega arith) in
-      let n6 : length (drop 16664 b) ≡ 17456 = length-drop 16664 b ∙ omega arith in
-      three-replaced (take 8 b) (take 4 (drop 8 b)) (take 2 (drop 12 b)) (take 6 (drop 14 b)) (take 16644 (drop 20 b)) (drop 16664 b) [] x y z o1 o2 o3 8 14 16664
-      n1 (n2 ∙ sym lx) (n4 ∙ sym ly) (n6 ∙ sym lz) (omega arith) (omega arith)
-      (e1 ∙ ap (λ (l : List ℕ). overlay l 8 x) (six-pieces b ∙ ap (λ (l : List ℕ). take 8 b ++ (take 4 (drop 8 b) ++ (take 2 (drop 12 b) ++ (take 6 (drop 14 b) ++ (take 16644 (drop 20 b) ++ l))))) (sym (append-nil (drop 16664 b))))) e2 e3
-      ∙ ap (λ (l : List ℕ). take 8 b ++ (x ++ (take 2 (drop 12 b) ++ (y ++ (take 16644 (drop 20 b) ++ l))))) (append-nil z)
+      let n6 = piece-long b 16664 13360 (omega arith) in
+      let seven : b ≡ take 8 b ++ (take 4 (drop 8 b) ++ (take 2 (drop 12 b) ++ (take 6 (drop 14 b) ++ (take 16644 (drop 20 b) ++ (take 13360 (drop 16664 b) ++ drop 30024 b))))) =
+      six-pieces b ∙ ap (λ (l : List ℕ). take 8 b ++ (take 4 (drop 8 b) ++ (take 2 (drop 12 b) ++ (take 6 (drop 14 b) ++ (take 16644 (drop 20 b) ++ l))))) (cut b 16664 13360) in
+      three-replaced (take 8 b) (take 4 (drop 8 b)) (take 2 (drop 12 b)) (take 6 (drop 14 b)) (take 16644 (drop 20 b)) (take 13360 (drop 16664 b)) (drop 30024 b) x y z o1 o2 o3 8 14 16664
+      n1 (n2 ∙ sym lx) (n4 ∙ sym ly) (n6 ∙ sym lz) (omega arith) (omega arith) (e1 ∙ ap (λ (l : List ℕ). overlay l 8 x) seven) e2 e3
 
   pub head-put : (x y z o1 o2 o3 : List ℕ) → length x ≡ 8 → length y ≡ 2 → length z ≡ 16644
       → o1 ≡ overlay b 0 x → o2 ≡ overlay o1 12 y → o3 ≡ overlay o2 20 z

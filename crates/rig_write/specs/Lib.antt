@@ -1,3 +1,4 @@
 pub mod Head
 pub mod Sections
 pub mod Written
+pub mod Mail

@@ -6,12 +6,13 @@ use lib.ListN.{length, take, drop}
 use Rattle.rules.specs.declared.message.Network.{Network}
 use Rattle.rules.specs.declared.system.Tables.{Tables}
 use Rattle.rules.specs.declared.system.System.{System}
-use Rattle.board.specs.Lent.{Lent}
+use Rattle.board.specs.Lent.{Lent, storeOf}
 use Rattle.plan_write.specs.output.Output.{overlay}
 use Rattle.image.specs.Numbers.{numberBytes, numbersBytes}
 use Rattle.image.specs.Letters.{mailNumbers}
 use Rattle.image.specs.Image.{boardNumbers, tableBytes, rigOf, planRoom}
 use Rattle.image_laws.specs.Parts.{systemOn}
+use Rattle.rig_write.specs.Sections.{tidyNumbers}
 
 -- the tables of desks and channels
 abbrev pub tables : List ℕ → List ℕ → List ℕ → List ℕ → List ℕ → Tables
@@ -22,6 +23,18 @@ tables hintprocessors hintmoves heldprocessors heldnumbers notes =
 pub record TablesPut (before : List ℕ) (x : Tables) (after : List ℕ) : Type 0 where
   pub bytes : after ≡ overlay before 25416 (tableBytes x)
   pub long : length (tableBytes x) ≡ 4608
+
+-- the bytes with other parts but for the mail, which stays, and with another number of letters
+unfoldable pub lentWritten : List ℕ → Lent → ℕ → List ℕ → List ℕ
+lentWritten b l used chosen =
+    take 8 b
+    ++ (numberBytes 4 used
+    ++ (take 2 (drop 12 b)
+    ++ (chosen
+    ++ (take planRoom (drop 20 b)
+    ++ (numbersBytes 8 (tidyNumbers (l .board))
+    ++ (tableBytes (storeOf l .tables)
+    ++ drop 30024 b))))))
 
 -- the rig of bytes b with other parts
 abbrev pub rigWith : List ℕ → Lent → Network → List ℕ → System

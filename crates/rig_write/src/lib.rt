@@ -4,6 +4,8 @@
 pub mod head;
 // The two numbers of a letter.
 mod letters;
+// The mail in its bytes.
+pub mod mail;
 // Numbers, bytes and zeros put at a place.
 pub mod numbers;
 // The parts of a rig that a step can change.

@@ -2,14 +2,12 @@
 ghost use mathlib.Core.Path.{_≡_};
 ghost use lib.ListN.{length};
 ghost use Rattle.board.specs.Lent.{lent};
-ghost use Rattle.rig_write.specs.Written.{tables, TablesPut, partsWritten};
+ghost use Rattle.rig_write.specs.Written.{tables, TablesPut, lentWritten};
 use crate::numbers::put_bytes;
 use crate::numbers::put4;
 use crate::sections::put_board;
-use crate::sections::put_mail;
 use crate::sections::put_moves;
 use board::Board;
-use rules::message::Network;
 
 // The tables of desks and channels.
 fn put_tables(
@@ -30,8 +28,8 @@ fn put_tables(
     put_bytes(rig, 29256, notes);
 }
 
-// The number of letters, the last choices, the board, the tables and the mail; what a step never changes stays.
-pub fn write_parts(
+// The number of letters, the last choices, the board and the tables; the mail and what a step never changes stay.
+pub fn write_lent(
     rig: &mut [u8],
     hintprocessors: &[u8; 768],
     hintmoves: &[u16; 768],
@@ -39,13 +37,13 @@ pub fn write_parts(
     heldnumbers: &[u8; 768],
     notes: &[u8; 768],
     board: &Board,
-    network: Network,
+    used: usize,
     chosen: [u8; 6],
 )
     requires { ⌜ length (now rig) ≡ 34120 ⌝ }
-    ensures { λ _. ⌜ now (rig .exit) ≡ partsWritten (now (rig .entry)) (lent (now (hintprocessors .entry)) (now (hintmoves .entry)) (now (heldprocessors .entry)) (now (heldnumbers .entry)) (now (notes .entry)) (now (board .entry))) network chosen ⌝ }
+    ensures { λ _. ⌜ now (rig .exit) ≡ lentWritten (now (rig .entry)) (lent (now (hintprocessors .entry)) (now (hintmoves .entry)) (now (heldprocessors .entry)) (now (heldnumbers .entry)) (now (notes .entry)) (now (board .entry))) used chosen ⌝ }
 {
-    put4(rig, 8, network.used as u64);
+    put4(rig, 8, used as u64);
     put_bytes(rig, 14, &chosen);
     put_board(rig, board);
     put_tables(
@@ -56,5 +54,4 @@ pub fn write_parts(
         heldnumbers,
         notes,
     );
-    put_mail(rig, network);
 }

@@ -1,21 +1,16 @@
 // The sections of the parts that a step can change, each put at its place.
 ghost use mathlib.Core.Path.{_≡_};
-ghost use Prim.Native.Nat.{_+_, _*_, _≤_, _<_};
+ghost use Prim.Native.Nat.{_+_, _*_, _≤_};
 ghost use lib.ListN.{length};
 ghost use Rattle.board.specs.Lent.{setOn};
 ghost use Rattle.base.specs.Lists.{table};
 ghost use Rattle.base.specs.Range.{joined};
 ghost use Rattle.plan_write.specs.output.Output.{overlay};
 ghost use Rattle.image.specs.Numbers.{numbersBytes};
-ghost use Rattle.image.specs.Letters.{mailNumbers};
-ghost use Rattle.rig_write.specs.Sections.{channelTidy, taskTidy, wordTidy, hintTidy, channelAt, taskAt, wordAt, parentAt, tidyNumbers, slotAt};
-use crate::letters::first_number;
-use crate::letters::second_number;
-use crate::numbers::put_zeros;
+ghost use Rattle.rig_write.specs.Sections.{channelTidy, taskTidy, wordTidy, hintTidy, channelAt, taskAt, wordAt, parentAt, tidyNumbers};
 use crate::numbers::put2;
 use crate::numbers::put8;
 use board::Board;
-use rules::message::Network;
 
 // A channel's number with its fields alone: the lowest 49 bits.
 fn tidy_channel(v: u64) -> u64
@@ -133,36 +128,4 @@ pub fn put_moves(rig: &mut [u8], at: usize, moves: &[u16])
         put2(rig, at + 2 * k, moves[k]);
         k += 1;
     }
-}
-
-// The first n letters of the mail.
-fn put_letters(rig: &mut [u8], network: Network, n: usize)
-    requires { ⌜ (34120 ≤ length (now rig)) × (n ≤ 256) × (n ≤ network .used) ⌝ }
-    ensures { λ _. ⌜ now (rig .exit) ≡ overlay (now (rig .entry)) 30024 (numbersBytes 8 (joined n (slotAt network))) ⌝ }
-{
-    let mut k: usize = 0;
-    while k < n {
-        let slot = network.slots[k];
-        let m = slot.message;
-        put8(rig, 30024 + 16 * k, first_number(m));
-        put8(rig, 30032 + 16 * k, second_number(m));
-        k += 1;
-    }
-}
-
-// How many letters are to be written.
-fn letters_of(used: usize) -> usize
-    ensures { λ r. ⌜ (r ≤ 256) × (r ≤ used) × (r < 256 → r ≡ used) ⌝ }
-{
-    if used < 256 { used } else { 256 }
-}
-
-// The mail: its letters, and zeros in the unused slots.
-pub fn put_mail(rig: &mut [u8], network: Network)
-    requires { ⌜ length (now rig) ≡ 34120 ⌝ }
-    ensures { λ _. ⌜ now (rig .exit) ≡ overlay (now (rig .entry)) 30024 (numbersBytes 8 (mailNumbers network)) ⌝ }
-{
-    let n = letters_of(network.used);
-    put_letters(rig, network, n);
-    put_zeros(rig, 30024 + 16 * n, 4096 - 16 * n);
 }

@@ -1,7 +1,7 @@
 // The numbers of a board that hold channels' own entries, and what desks keep for parents.
 ghost use mathlib.Core.Path.{_≡_};
-ghost use Prim.Native.Nat.{_≤_};
-ghost use Rattle.rig_read.specs.Passing.{channelPasses, channelsPass, parentPasses, parentsPass};
+ghost use Prim.Native.Nat.{_<_};
+ghost use Rattle.rig_read.specs.Passing.{channelPasses, channelsPass, parentPasses, blockZero, blockPasses, parentsPass};
 use board::Board;
 use board::packing::channel_of;
 use board::packing::channel_word;
@@ -74,16 +74,51 @@ fn parent_ok(n: u8, m: u8, v: u64, held: u64) -> bool
     full_parent_ok(n, m, v, held)
 }
 
+// The numbers of sixteen parents, after b times as many, are zeros.
+fn block_zero(board: &Board, b: usize) -> bool
+    requires { ⌜ b < 24 ⌝ }
+    ensures { λ r. ⌜ r ≡ blockZero (now (board .entry)) b ⌝ }
+{
+    let first = 320 + 32 * b;
+    let mut any: u64 = 0;
+    let mut k: usize = 0;
+    while k < 32 {
+        any = any | board[first + k];
+        k += 1;
+    }
+    any == 0
+}
+
+// What the desks keep for sixteen parents, after b times as many.
+fn block_ok(n: u8, m: u8, board: &Board, b: usize) -> bool
+    requires { ⌜ b < 24 ⌝ }
+    ensures { λ r. ⌜ r ≡ blockPasses n m (now (board .entry)) b ⌝ }
+{
+    if block_zero(board, b) {
+        return true;
+    }
+    let first = 16 * b;
+    let mut i: usize = 0;
+    while i < 16 {
+        let k = first + i;
+        if !parent_ok(n, m, board[320 + 2 * k], board[321 + 2 * k]) {
+            return false;
+        }
+        i += 1;
+    }
+    true
+}
+
 // What the desks keep for parents.
 pub fn parents_ok(n: u8, m: u8, board: &Board) -> bool
     ensures { λ r. ⌜ r ≡ parentsPass n m (now (board .entry)) ⌝ }
 {
-    let mut k: usize = 0;
-    while k < 384 {
-        if !parent_ok(n, m, board[320 + 2 * k], board[321 + 2 * k]) {
+    let mut b: usize = 0;
+    while b < 24 {
+        if !block_ok(n, m, board, b) {
             return false;
         }
-        k += 1;
+        b += 1;
     }
     true
 }

@@ -5,6 +5,7 @@ ghost use Prim.Native.Nat.{_≤_};
 ghost use lib.Dec.{eqb};
 ghost use lib.ListN.{length, getD};
 ghost use Rattle.image_laws.specs.Parts.{versionOk, zerosBehind};
+use crate::check::zeros::zeros_at;
 
 // The version, and the zero byte behind the number of desks.
 pub fn head_ok(rig: &[u8]) -> bool
@@ -21,13 +22,5 @@ pub fn zeros_behind(rig: &[u8], n: usize) -> bool
     requires { ⌜ (length (now rig) ≡ 34120) × (n ≤ 16644) ⌝ }
     ensures { λ r. ⌜ r ≡ zerosBehind n (now (rig .entry)) ⌝ }
 {
-    let first = 20 + n;
-    let end = 16644 - n;
-    let mut any: u8 = 0;
-    let mut k: usize = 0;
-    while k < end {
-        any = any | rig[first + k];
-        k += 1;
-    }
-    any == 0
+    zeros_at(rig, 20 + n, 16644 - n)
 }

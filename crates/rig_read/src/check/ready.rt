@@ -1,32 +1,30 @@
-// The sets of ready tasks of a board, as its tasks give them.
+// The sets of ready tasks of a board, as its tasks give them: one pass over the tasks makes all six.
 ghost use mathlib.Core.Path.{_≡_};
 ghost use Prim.Native.Nat.{_≤_};
-ghost use Rattle.base.specs.Sets.{setOf};
-ghost use Rattle.rules.specs.Numbers.{taskId};
-ghost use Rattle.rules.specs.Systems.{taskIn, isReadyAt};
 ghost use Rattle.rules.specs.Sound.{readyOk};
 ghost use Rattle.board.specs.Lent.{tasksOn};
+ghost use Rattle.rig_read.specs.Passing.{ReadySets};
 use board::Board;
-use board::task_at;
-use plan::ProcessorId;
-use plan::TaskId;
-use rig_check::ready::insert_where;
-use task_rules::ready::is_ready_at;
+use board::packing::ready_desk;
+use task_rules::set::insert;
 
-// Those of tasks 1 to m that are ready at desk d.
-fn ready_set(m: u8, board: &Board, d: ProcessorId) -> u64
+// Of each desk, at its number, those of tasks 1 to m that are ready there.
+fn ready_sets(m: u8, board: &Board) -> [u64; 7]
     requires { ⌜ m ≤ 64 ⌝ }
-    ensures { λ r. ⌜ r ≡ setOf m (λ t. isReadyAt d (taskIn (tasksOn (now (board .entry))) (taskId t))) ⌝ }
+    ensures { λ r. ⌜ ReadySets m (now (board .entry)) r ⌝ }
 {
-    let mut s: u64 = 0;
+    let mut sets = [0u64; 7];
     let mut t: u8 = 0;
     while t < m {
-        let x = task_at(board, TaskId(t + 1));
-        let more = insert_where(is_ready_at(x, d), s, t + 1);
-        s = more;
+        let k = base::wide8(t);
+        let d = base::wide8(ready_desk(board[128 + 2 * k]));
+        if base::both(1 <= d, d <= 6) {
+            let more = insert(sets[d], t + 1);
+            sets[d] = more;
+        }
         t = t + 1;
     }
-    s
+    sets
 }
 
 // No stored set differs from the tasks, of which there are m.
@@ -34,14 +32,13 @@ pub fn ready_ok(m: u8, board: &Board) -> bool
     requires { ⌜ m ≤ 64 ⌝ }
     ensures { λ r. ⌜ r ≡ readyOk m (tasksOn (now (board .entry))) ⌝ }
 {
-    let mut d: u8 = 0;
+    let sets = ready_sets(m, board);
+    let mut d: usize = 0;
     while d < 6 {
-        let k = base::wide8(d);
-        let stored = board[1088 + k];
-        if stored != ready_set(m, board, ProcessorId(d + 1)) {
+        if board[1088 + d] != sets[d + 1] {
             return false;
         }
-        d = d + 1;
+        d += 1;
     }
     true
 }

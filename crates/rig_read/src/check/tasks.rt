@@ -2,28 +2,35 @@
 ghost use mathlib.Core.Path.{_≡_};
 ghost use Prim.Native.Nat.{ℕ, _≤_, _<_};
 ghost use lib.ListN.{getD};
-ghost use Rattle.rig_read.specs.Passing.{tasksTidy, tasksPass};
+ghost use Rattle.base.specs.Choice.{pick};
+ghost use Rattle.rig_read.specs.Passing.{taskTidy, tasksTidy, tasksPass};
 use board::Board;
 use board::packing::task_of;
-use board::packing::task_word;
 use rig_check::system::last_kind;
 use rig_check::tasks::origin_ok;
 use rig_check::tasks::task_ok;
 
-// The number of each record is that of what it holds.
+// 1 where the first number of a record is not that of what it holds: its state is none of seven.
+fn untidy(v: u64) -> u8
+    ensures { λ r. ⌜ r ≡ pick (taskTidy v) 0 1 ⌝ }
+{
+    if v % 128 < 7 {
+        return 0;
+    }
+    1
+}
+
+// The number of each record is that of what it holds: each is looked at, so that many are looked at at once.
 pub fn tasks_tidy(board: &Board) -> bool
     ensures { λ r. ⌜ r ≡ tasksTidy (now (board .entry)) ⌝ }
 {
+    let mut any: u8 = 0;
     let mut k: usize = 0;
     while k < 64 {
-        let v = board[128 + 2 * k];
-        let x = task_of(v, board[129 + 2 * k], board[256 + k]);
-        if task_word(x) != v {
-            return false;
-        }
+        any = any | untidy(board[128 + 2 * k]);
         k += 1;
     }
-    true
+    any == 0
 }
 
 // Tasks 1 to m and their own pointers.

@@ -10,22 +10,15 @@ number4-requires c κs = search needs
 zeros-behind-requires : tie.Need-zeros-behind-requires
 zeros-behind-requires c κs = search needs
 
-mail-tidy-requires : tie.Need-mail-tidy-requires
-mail-tidy-requires c κs = search needs
-
 head-ok-requires : tie.Need-head-ok-requires
 head-ok-requires c κs = search needs
 
 both-requires : tie.Need-both-requires
 both-requires c κs = search needs
 
-both-requires-2 : tie.Need-both-requires-2
-both-requires-2 c κs = search needs
-
 returns : tie.Need-returns
 unfolding bytesPass
-returns c =
-    rw (c .both2 .ensures, c .before .both .ensures, c .before .before .head-ok .ensures, c .before .before .before .mail-tidy .ensures, c .before .before .before .before .zeros-behind .ensures, c .before .before .before .before .before .number4 .ensures) refl
+returns c = rw (c .both .ensures, c .before .head-ok .ensures, c .before .before .zeros-behind .ensures, c .before .before .before .number4 .ensures) refl
 
 pub bytes-ok-spec : {M : Type 1} → statement M
 bytes-ok-spec =
@@ -33,8 +26,6 @@ bytes-ok-spec =
     (tie.spec
     number4-requires
     zeros-behind-requires
-    mail-tidy-requires
     head-ok-requires
     both-requires
-    both-requires-2
     returns)

@@ -21,8 +21,8 @@ slice-aggregate-all-at-most c = search needs
 all-at-most-requires : tie.Need-all-at-most-requires
 all-at-most-requires c κs = search needs
 
-network-ok-requires : tie.Need-network-ok-requires
-network-ok-requires c κs = search needs
+mail-ok-requires : tie.Need-mail-ok-requires
+mail-ok-requires c κs = search needs
 
 both-requires : tie.Need-both-requires
 both-requires c κs = search needs
@@ -54,7 +54,7 @@ returns c =
       c .before .before .before .both2 .ensures,
       c .before .before .before .before .processors-ok .ensures,
       c .before .before .before .before .before .both .ensures,
-      c .before .before .before .before .before .before .network-ok .ensures,
+      c .before .before .before .before .before .before .mail-ok .ensures,
       c .before .before .before .before .before .before .before .all-at-most .ensures,
       c .before .before .before .before .before .before .before .before .before .tables-ok .ensures,
       c .before .before .before .before .before .before .before .before .before .before .board-ok .ensures,
@@ -71,7 +71,7 @@ passes-spec =
     tables-ok-requires
     slice-aggregate-all-at-most
     all-at-most-requires
-    network-ok-requires
+    mail-ok-requires
     both-requires
     processors-ok-requires
     both-requires-2
