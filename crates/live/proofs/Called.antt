@@ -13,7 +13,6 @@ use Rattle.base.proofs.Tests.{and-left, and-right, tests-differ}
 use Rattle.plan.specs.declared.ProcessorId.{ProcessorId}
 use Rattle.rules.specs.declared.dispatch.Dispatched.{Dispatched}
 use Rattle.rules.specs.declared.dispatch.Turn.{Turn}
-use Rattle.rules.specs.declared.message.Network.{Network}
 use Rattle.rules.specs.declared.step.StepAnswer.the-variants.{Accepted, BadSystem, NoProcessor}
 use Rattle.rules.specs.declared.system.System.{System}
 use Rattle.rules.specs.Numbers.{processorOk}
@@ -25,16 +24,14 @@ use Rattle.rules.specs.Dispatch.{Turned, deliverStep, earliest, choice, choosin
 use Rattle.rules_laws.proofs.Shapes.{step-plan}
 use Rattle.board.specs.declared.act.Size.{Size}
 use Rattle.board.specs.Lent.{Lent}
-use Rattle.dispatch.specs.Boards.{On}
 use Rattle.image.specs.Image.{rigOf, isImage, rigSize}
-use Rattle.image_laws.proofs.Read.{image-tidy}
-use Rattle.image_laws.proofs.Unused.{TidyMail, dispatched-tidy}
-use Rattle.rig_write.specs.Written.{partsWritten}
+use Rattle.rig_write.specs.Written.{lentWritten}
+use Rattle.rig_write.proofs.Loans.{backIn}
 use Rattle.live.specs.declared.desk_call.Call.{Call}
 use Rattle.live.specs.Live.{held, Left}
 use Rattle.live.specs.Open.{sound}
 use Rattle.live.specs.Turns.{Planned}
-use Rattle.live.specs.Calls.{TurnLeft, noCall, callIn, CalledIn, CalledHeld}
+use Rattle.live.specs.Calls.{TurnsLeft, noCall, callIn, CalledIn, CalledHeld}
 use Rattle.live.proofs.Turns.{Small, written-holds}
 
 -- 9
@@ -92,30 +89,20 @@ module _ (b : List ℕ) (d : ProcessorId) (ok : sound b ≡ true) where
     unfolding dispatched
     call-is = rw (image-call, passed-call, desk) refl
 
-    tidy-call : TidyMail (dispatched (rigOf b) d .system)
-    tidy-call = dispatched-tidy (rigOf b) d (unfold rigOf in image-tidy b image-call)
-
-    ruled-is : dispatched (rigOf b) d ≡ ruledDispatch (rigOf b) d
-    unfolding dispatched
-    ruled-is = rw (passed-call, desk) refl
-
     -- the two turns
-    module _ (lengths codes numbers users : List ℕ) (tasks : ℕ) (p : Planned b lengths codes numbers users tasks) {n n' : Size} {k k' : Network} {l l' : Lent} {last last' : List ℕ} (t t' : Turn)
-        (h : TurnLeft codes numbers users n (deliveryTurn (rigOf b) d) t k l last)
-        (h' : TurnLeft codes numbers users n' (runTurn (deliveryTurn (rigOf b) d .system) d) t' k' l' last')
-        (same : n' .processors ≡ rigOf b .processors) where
-      pub call-written : Small l' k' last' → {after : List ℕ} → after ≡ partsWritten b l' k' last' → CalledIn b d (record { answer = Accepted; delivery = t; run = t' }) after
+    module _ (lengths codes users : List ℕ) (tasks : ℕ) (p : Planned b lengths codes users tasks) {n : Size} {l : Lent} {mail last : List ℕ} {used : ℕ} (t t' : Turn)
+        (h : TurnsLeft lengths codes users n (rigOf b) d t t' used l mail last) (same : n .processors ≡ rigOf b .processors) where
+      pub call-written : Small l last → {after : List ℕ} → after ≡ lentWritten (backIn b mail) l used last → CalledIn b d (record { answer = Accepted; delivery = t; run = t' }) after
       unfolding ruledDispatch
       call-written z w =
           let r = rigOf b in
-          let r' = runTurn (deliveryTurn r d .system) d .system in
-          let tidy = rw ruled-is at tidy-call in
+          let live = h .run .on in
           let holds =
-          written-holds (h' .on) z tidy b lengths numbers users codes tasks p image-call (sym (h' .on .processors) ∙ same) (run-plan (deliveryTurn r d .system) d ∙ delivery-plan r d) w in
+          written-holds live z b lengths codes users tasks p image-call (sym (live .on .processors) ∙ same) (run-plan (deliveryTurn r d .system) d ∙ delivery-plan r d) refl w in
           record {
             answer = rw call-is refl;
-            delivery = rw call-is (h .turn);
-            run = rw call-is (h' .turn);
+            delivery = rw call-is (h .delivery);
+            run = rw call-is (h .run .turn);
             refused = λ m. absurd (m refl);
             accepted = λ a. rw call-is holds;
           }

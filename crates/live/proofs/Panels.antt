@@ -10,31 +10,27 @@ use Rattle.base.proofs.Tables.{length-table}
 use Rattle.base.proofs.Tests.{tests-differ}
 use Rattle.plan.specs.declared.Plan.{Plan}
 use Rattle.plan.specs.declared.PlanAnswer.the-variants.{Accepted}
-use Rattle.plan.specs.Programs.{programs}
-use Rattle.plan.specs.Refusals.{planAnswer}
-use Rattle.plan_file.specs.declared.Loaded.{Loaded}
+use Rattle.plan_value.specs.Slots.{planIn}
+use Rattle.plan_file.specs.declared.opening.Opened.{Opened}
 use Rattle.plan_index.specs.ends.Derived.{endsOf}
-use Rattle.plan_index.specs.user_table.Built.{Few, Built}
+use Rattle.plan_index.specs.user_table.Built.{Built}
 use Rattle.rules.specs.Panel.{panelSteps, panel}
 use Rattle.rig_parts.specs.Facts.{factsOf}
-use Rattle.rig.proofs.start.Tables.{few-ends}
 use Rattle.board.specs.declared.act.Size.{Size}
 use Rattle.board.specs.Lent.{Lent, Whole}
 use Rattle.board.specs.Rigs.{RigOn, factsIn}
-use Rattle.run.proofs.file.Beginning.{facts-in}
-use Rattle.run.proofs.file.Outcomes.{read-plan-is, plan-ok}
 use Rattle.panel_laws.specs.Tallies.{tallied}
 use Rattle.panel_laws.proofs.Tallies.{panel-counts}
 use Rattle.panel_laws.proofs.Inside.{inside}
 use Rattle.panel.specs.Counted.{Lends}
 use Rattle.image.specs.Numbers.{numbersAt}
-use Rattle.image.specs.Image.{rigOf, planFile, boardIn}
+use Rattle.image.specs.Image.{rigOf, boardIn}
 use Rattle.live.specs.declared.open.Opening.{Opening}
 use Rattle.live.specs.declared.rig_panel.Counted.{Counted}
 use Rattle.live.specs.Live.{held, PanelMeets}
 use Rattle.live.specs.Open.{sound, PlanIn, Opens}
 use Rattle.live.specs.Shows.{Counts}
-use Rattle.live.proofs.Opened.{plan-of, shaped, passed-here, plan-here, tasks-here, kept-here}
+use Rattle.live.proofs.Opened.{plan-is, plan-of, facts-of, shaped, passed-here, tasks-here, kept-here}
 
 -- 9, or the counts
 module _ {b : List ℕ} {q : Counted} where
@@ -44,79 +40,58 @@ module _ {b : List ℕ} {q : Counted} where
   pub counts-shown : sound b ≡ true → q .ok ≡ true → q .counts ≡ panel (rigOf b) → Counts b q
   counts-shown h e c = record { ok-is = e ∙ sym h; counts-are = λ k. c }
 
--- who uses what in a plan that was loaded
-module _ {b : List ℕ} {l : Loaded} (p : PlanIn b l) (a : l .answer ≡ Accepted) where
-  pub accepted-here : planAnswer (programs (l .plan)) ≡ Accepted
-  accepted-here =
-      let f = plan-of p a .accepted in
-      rw (read-plan-is (planFile b) (p .loads a .read) f) (plan-ok (planFile b) f)
+-- the rig is lent, with its plan and what is derived of it
+module _ {b : List ℕ} {p : Opened} {codes parents senders receivers : List ℕ} (k : PlanIn b p codes parents senders receivers) (a : p .answer ≡ Accepted)
+    {o : Opening} {t : Lent} (h : Opens b o t) (ok : o .ok ≡ true) {numbers users : List ℕ} (n : numbers ≡ endsOf (planIn (p .tasks) (p .lengths) codes) .numbers)
+    (u : Built senders receivers parents users) where
+  facts-here : factsIn (o .size .tasks) codes numbers users ≡ factsOf (rigOf b .plan)
+  unfolding rigOf
+  facts-here =
+      ap (λ (s : Size). factsIn (s .tasks) codes numbers users) (h .size)
+      ∙ ap (λ (x : Plan). factsIn (x .tasks) codes numbers users) (sym (plan-is (plan-of k a)))
+      ∙ facts-of k a n u
 
-  senders-here : l .senders ≡ endsOf (l .plan) .senders
-  unfolding endsOf
-  senders-here = p .loads a .firsts a .senders
+  pub lends-here : Lends (rigOf b) codes numbers users (o .size) t
+  lends-here =
+      record {
+        shaped = shaped b;
+        sound = passed-here h ok;
+        facts-of = facts-here;
+        processors = ap (λ (s : Size). s .processors) (h .size);
+        tasks = tasks-here h ok;
+        kept = kept-here h ok;
+        messages = ap (λ (s : Size). s .used) (h .size);
+      }
 
-  receivers-here : l .receivers ≡ endsOf (l .plan) .receivers
-  unfolding endsOf
-  receivers-here = p .loads a .firsts a .receivers
+  whole-here : Whole (t .board)
+  unfolding boardIn numbersAt
+  whole-here = rw (h .parts) (length-table 1094 _)
 
-  parents-here : l .parents ≡ endsOf (l .plan) .parents
-  unfolding endsOf
-  parents-here = p .loads a .firsts a .parents
+  pub rig-here : RigOn codes numbers users (o .size) t
+  rig-here =
+      let r = lends-here in
+      record {
+        whole = whole-here;
+        parts =
+            record {
+              system = rigOf b;
+              shaped = r .shaped;
+              sound = r .sound;
+              facts-of = r .facts-of;
+              processors = r .processors;
+              tasks = r .tasks;
+              kept = r .kept;
+              messages = r .messages;
+            };
+        indexed = u .indexed;
+      }
 
-  pub users-here : Few (l .senders) (l .receivers) (l .parents)
-  users-here = rw (senders-here, receivers-here, parents-here) (few-ends (l .plan) accepted-here)
-
-  -- the rig is lent
-  module _ {o : Opening} {t : Lent} (h : Opens b o t) (ok : o .ok ≡ true) {numbers users : List ℕ} (n : numbers ≡ endsOf (l .plan) .numbers)
-      (u : Built (l .senders) (l .receivers) (l .parents) users) where
-    facts-here : factsIn (o .size .tasks) (l .plan .codes) numbers users ≡ factsOf (rigOf b .plan)
-    facts-here =
-        ap (λ (s : Size). factsIn (s .tasks) (l .plan .codes) numbers users) (h .size)
-        ∙ ap (λ (x : Plan). factsIn (x .tasks) (l .plan .codes) numbers users) (sym (plan-here p a h ok))
-        ∙ facts-in (l .plan .tasks) (l .plan .codes) numbers u
-        ∙ rw (n, senders-here, receivers-here, parents-here) (ap factsOf (plan-here p a h ok))
-
-    pub lends-here : Lends (rigOf b) (l .plan .codes) numbers users (o .size) t
-    lends-here =
-        record {
-          shaped = shaped b;
-          sound = passed-here p a h ok;
-          facts-of = facts-here;
-          processors = ap (λ (s : Size). s .processors) (h .size);
-          tasks = tasks-here p a h ok;
-          kept = kept-here p a h ok;
-          messages = ap (λ (s : Size). s .used) (h .size);
-        }
-
-    whole-here : Whole (t .board)
-    unfolding boardIn numbersAt
-    whole-here = rw (h .parts) (length-table 1094 _)
-
-    pub rig-here : RigOn (l .plan .codes) numbers users (o .size) t
-    rig-here =
-        let r = lends-here in
-        record {
-          whole = whole-here;
-          parts =
-              record {
-                system = rigOf b;
-                shaped = r .shaped;
-                sound = r .sound;
-                facts-of = r .facts-of;
-                processors = r .processors;
-                tasks = r .tasks;
-                kept = r .kept;
-                messages = r .messages;
-              };
-          indexed = u .indexed;
-        }
-
-    -- so its counts are the panel
-    pub panel-here : {q : List ℕ} → q ≡ tallied (rigOf b) (panelSteps (o .size .tasks) (o .size .processors)) → q ≡ panel (rigOf b)
-    panel-here e =
-        e
-        ∙ ap (λ (s : Size). tallied (rigOf b) (panelSteps (s .tasks) (s .processors))) (h .size)
-        ∙ sym (panel-counts (rigOf b) (inside (rigOf b) (passed-here p a h ok)))
+  -- so its counts are the panel
+  pub panel-here : {q : List ℕ} → q ≡ tallied (rigOf b) (panelSteps (o .size .tasks) (o .size .processors)) → q ≡ panel (rigOf b)
+  panel-here e =
+      e
+      ∙ ap (λ (s : Size). tallied (rigOf b) (panelSteps (s .tasks) (s .processors))) (h .size)
+      ∙ sym (panel-counts (rigOf b) (inside (rigOf b) (passed-here h ok)))
 
 -- what the call answers and leaves
 module _ (b counts : List ℕ) where

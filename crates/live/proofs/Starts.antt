@@ -5,12 +5,11 @@ use mathlib.Core.Bool.{true, false}
 use mathlib.Core.List.{List, _++_}
 use Prim.Native.Nat.{ℕ, _≤_, _<_}
 use native.Mathlib.Omega.{arith}
-use lib.ListN.{length, drop}
+use lib.ListN.{length, drop, replicate}
 use borrow.Author.Tests.{le-leb, lt-leb, ne-eqb}
 use Rattle.base.specs.Choice.{within}
 use Rattle.base.proofs.Tests.{within-low, within-high}
 use Rattle.plan.specs.declared.Plan.{Plan}
-use Rattle.plan.specs.declared.PlanRead.{PlanRead}
 use Rattle.plan.specs.declared.PlanAnswer.the-variants.{Accepted, Refused}
 use Rattle.plan.specs.declared.Refusal.{Refusal}
 use Rattle.plan.specs.declared.Refusal.the-variants.{BadProcessors, BadLayout, BadInstruction, BadFinish, BadCreate, BadChannel, OutputShort, BadRepeat, RepeatedCreate, TooLong}
@@ -18,8 +17,9 @@ use Rattle.plan.specs.Answers.{refusalNumber}
 use Rattle.plan.specs.Files.{fileAnswer, startAnswer}
 use Rattle.plan.specs.Outcomes.{planRead, startNumber}
 use Rattle.plan_laws.specs.Bytes.{Bytes}
-use Rattle.plan_file.specs.declared.Loaded.{Loaded}
-use Rattle.plan_file.specs.Stages.{Loads}
+use Rattle.plan_file.specs.declared.opening.Opened.{Opened}
+use Rattle.plan_file.specs.Opens.{filePlan, PlanOpened}
+use Rattle.plan_write.specs.output.Output.{overlay}
 use Rattle.plan_index.specs.ends.Derived.{endsOf}
 use Rattle.plan_index.specs.user_table.Built.{Few, Built}
 use Rattle.plan_index.specs.user_table.Users.{receiversOf}
@@ -41,13 +41,14 @@ use Rattle.rig.specs.start.Parts.{StartsOn}
 use Rattle.rig.proofs.start.Tables.{few-ends}
 use Rattle.run.specs.file.Begins.{Begins}
 use Rattle.run.proofs.file.Beginning.{begun}
-use Rattle.run.proofs.file.Outcomes.{read-answer}
+use Rattle.run.proofs.file.Opening.{opened-file}
 use Rattle.image.specs.Image.{image, rigSize, planRoom}
 use Rattle.image_laws.specs.Parts.{systemOn}
-use Rattle.image_laws.proofs.Plans.{plan-back, plan-size, plan-fits}
+use Rattle.image_laws.proofs.Plans.{read-plan, plan-back, plan-size, plan-fits}
 use Rattle.image_laws.proofs.Started.{start-imaged}
 use Rattle.rig_write.specs.Head.{headWritten}
-use Rattle.rig_write.specs.Written.{partsWritten}
+use Rattle.rig_write.specs.Written.{lentWritten, partsWritten}
+use Rattle.rig_write.proofs.Written.{no-letters}
 use Rattle.rig_write.proofs.Images.{started-image}
 use Rattle.live.specs.Live.{StartMeets}
 use Rattle.live.specs.Start.{Starts}
@@ -81,8 +82,7 @@ module _ {b : List ℕ} {n : ℕ} {f senders receivers parents : List ℕ} (s : 
   plan-room bytes = rw (plan-back f bytes (s .accepted)) at (plan-size f)
 
   -- what is lent is the start
-  module _ {users : List ℕ} (t : Built senders receivers parents users) {k : Network} {z : Tables} {hp hm board : List ℕ} (network : k ≡ noMessages) (empty : z ≡ noTables)
-      (on : StartsOn board)
+  module _ {users : List ℕ} (t : Built senders receivers parents users) {z : Tables} {hp hm board : List ℕ} (empty : z ≡ noTables) (on : StartsOn board)
       (located : StoredBy (forEnds (receiversOf users) (taskId 1) (processorId 1) (Locate (processorId 1) 1))
       (lent (z .hintprocessors) (z .hintmoves) (z .heldprocessors) (z .heldnumbers) (z .notes) board)
       (lent hp hm (z .heldprocessors) (z .heldnumbers) (z .notes) board)) where
@@ -98,18 +98,20 @@ module _ {b : List ℕ} {n : ℕ} {f senders receivers parents : List ℕ} (s : 
           derived = rw (s .senders-are, s .receivers-are, s .parents-are) refl;
         }
 
-    start-is : systemOn n read given k noneChosen ≡ started n read
+    start-is : systemOn n read given noMessages noneChosen ≡ started n read
     start-is =
-        let rig = begun (read .tasks) (read .codes) (endsOf read .numbers) t {k = k} {z = z} {hp = hp} {hm = hm} {board = board} begins network empty on located in
+        let rig = begun (read .tasks) (read .codes) (endsOf read .numbers) t {k = noMessages} {z = z} {hp = hp} {hm = hm} {board = board} begins refl empty on located in
         made-same (started n read) (rig .parts .processors) (started-plan n read) (rig .parts .tasks) (rig .parts .kept) (rig .network) (started-chosen n read)
 
-    -- so its image is written
-    pub start-written : Bytes f → {head after : List ℕ} → head ≡ headWritten b n f → after ≡ partsWritten head given k noneChosen → after ≡ image (started n read)
-    start-written bytes eh ea =
+    -- so its image is written: a head, zeros for the mail, and the parts
+    pub start-written : Bytes f → {head blank after : List ℕ} → length head ≡ rigSize → head ≡ headWritten b n f → blank ≡ overlay head 30024 (replicate 4096 0)
+        → after ≡ lentWritten blank given 0 noneChosen → after ≡ image (started n read)
+    start-written bytes {head} {blank} long eh ez ea =
         ea
-        ∙ ap (λ (x : List ℕ). partsWritten x given k noneChosen) eh
-        ∙ ap (λ (x : List ℕ). partsWritten (headWritten b n x) given k noneChosen) (sym (plan-back f bytes (s .accepted)))
-        ∙ started-image b n read given k noneChosen (s .long) (plan-size f)
+        ∙ no-letters head long blank given noMessages noneChosen refl ez
+        ∙ ap (λ (x : List ℕ). partsWritten x given noMessages noneChosen) eh
+        ∙ ap (λ (x : List ℕ). partsWritten (headWritten b n x) given noMessages noneChosen) (sym (plan-back f bytes (s .accepted)))
+        ∙ started-image b n read given noMessages noneChosen (s .long) (plan-size f)
         ∙ ap image start-is
 
 -- a refusal has a number
@@ -125,26 +127,22 @@ refusal-some BadRepeat e = omega arith
 refusal-some RepeatedCreate e = omega arith
 refusal-some TooLong e = omega arith
 
--- what is loaded of an accepted file
-module _ (f : List ℕ) {l : Loaded} (h : Loads (planRead f) l) (a : l .answer ≡ Accepted) where
-  pub file-accepted : fileAnswer f ≡ Accepted
-  file-accepted = sym (read-answer f (h .read)) ∙ a
-
-  plan-same : l .plan ≡ planRead f .plan
-  plan-same = ap (λ (r : PlanRead). r .plan) (h .read)
-
-  pub starts : {b : List ℕ} {n : ℕ} → length b ≡ rigSize → within 1 6 n ≡ true → Starts b n f (l .senders) (l .receivers) (l .parents)
+-- what is opened of an accepted file
+module _ (f : List ℕ) {o : Opened} {codes parents senders receivers : List ℕ} (h : PlanOpened f o codes parents senders receivers) (a : o .answer ≡ Accepted) where
+  pub starts : {b : List ℕ} {n : ℕ} → length b ≡ rigSize → within 1 6 n ≡ true → Starts b n f senders receivers parents
   unfolding endsOf
   starts {n = n} e d =
-      let x = rw plan-same at (h .firsts a) in
+      let accepted = opened-file h a in
+      let users = h .firsts a in
+      let plan : filePlan f ≡ planRead f .plan = sym (read-plan f accepted) in
       record {
         long = e;
         some = within-low 1 6 n d;
         most = within-high 1 6 n d;
-        accepted = file-accepted;
-        senders-are = x .senders;
-        receivers-are = x .receivers;
-        parents-are = x .parents;
+        accepted = accepted;
+        senders-are = rw (← plan) (users .senders);
+        receivers-are = rw (← plan) (users .receivers);
+        parents-are = rw (← plan) (users .parents);
       }
 
 -- what the call answers and leaves

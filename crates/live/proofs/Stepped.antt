@@ -11,7 +11,6 @@ use lib.Seq.{take-at}
 use borrow.Author.Tests.{le-leb, lt-leb}
 use Rattle.base.specs.Choice.{pick}
 use Rattle.base.proofs.Tests.{and-left, tests-differ}
-use Rattle.rules.specs.declared.message.Network.{Network}
 use Rattle.rules.specs.declared.rule.Received.{Received}
 use Rattle.rules.specs.declared.rule.Received.the-variants.{Nothing, Word}
 use Rattle.rules.specs.declared.step.Report.{Report}
@@ -24,22 +23,21 @@ use Rattle.rules.specs.Logs.{logRecord}
 use Rattle.rules.specs.Sound.{systemOk}
 use Rattle.rules.specs.Steps.{step, refused}
 use Rattle.rules_laws.proofs.Shapes.{step-plan, step-processors}
+use Rattle.rules_laws.proofs.Steps.{step-cases}
 use Rattle.plan_write.specs.output.Output.{overlay}
 use Rattle.plan_write.proofs.output.Overlay.{overlay-front}
 use Rattle.board.specs.declared.act.Size.{Size}
 use Rattle.board.specs.Lent.{Lent}
-use Rattle.board.specs.Rigs.{factsIn}
-use Rattle.rig_step.specs.Rigs.{TurnedOn}
 use Rattle.rig_step.proofs.Parts.{bad-system}
-use Rattle.dispatch.specs.Boards.{On}
 use Rattle.image.specs.Image.{image, rigOf, isImage, rigSize}
-use Rattle.image_laws.proofs.Read.{image-tidy}
-use Rattle.image_laws.proofs.Unused.{TidyMail, step-tidy}
-use Rattle.rig_write.specs.Written.{partsWritten}
+use Rattle.rig_write.specs.Mail.{mailBytes}
+use Rattle.rig_write.specs.Written.{lentWritten}
+use Rattle.rig_write.proofs.Loans.{mailOf, backIn}
 use Rattle.live.specs.Live.{held, liveStep, Left, wordRecord, StepMeets}
 use Rattle.live.specs.Open.{sound}
 use Rattle.live.specs.Turns.{Planned, Holds, stepIn, SteppedIn, SteppedHeld}
-use Rattle.live.proofs.Turns.{Small, turn-says, on-turn, written-holds}
+use Rattle.live.specs.Calls.{StepLeft}
+use Rattle.live.proofs.Turns.{Small, written-holds}
 
 abbrev nine : Report
 nine = record { answer = BadSystem; received = Nothing }
@@ -82,22 +80,28 @@ module _ (b : List ℕ) (s : Step) (ok : sound b ≡ true) where
         accepted = λ a. rw step-here h;
       }
 
--- a step on what is lent, written
-module _ (b lengths codes numbers users : List ℕ) (tasks : ℕ) (p : Planned b lengths codes numbers users tasks) (ok : sound b ≡ true)
-    {n : Size} {k : Network} {l : Lent} {chosen : List ℕ} (o : On codes numbers users n k l chosen (rigOf b)) (s : Step)
-    {l' : Lent} {k' : Network} (q : Report) (h : TurnedOn (factsIn (n .tasks) codes numbers users) (n .processors) l k s l' q k') where
-  tidy-here : TidyMail (rigOf b)
-  unfolding rigOf
-  tidy-here = image-tidy b (image-here b s ok)
+-- the mail back as it was
+back-same : (b : List ℕ) → backIn b (mailOf b) ≡ b
+back-same b = ap (λ (z : List ℕ). take 30024 b ++ z) (take-append-drop 4096 (drop 30024 b)) ∙ take-append-drop 30024 b
 
-  pub turn-refused : isAccepted (q .answer) ≡ false → SteppedIn b s q b
-  turn-refused f = step-refused b s ok q (turn-says o s h) f
+-- a refused step leaves the rig
+refused-same : (r : System) (s : Step) → isAccepted (step r s .report .answer) ≡ false → step r s .system ≡ r
+refused-same r s = step-cases r s (λ (o : Stepped). isAccepted (o .report .answer) ≡ false → o .system ≡ r) (λ e f. refl) (λ e f. absurd (tests-differ {b = true} refl f))
 
-  pub turn-written : isAccepted (q .answer) ≡ true → Small l' k' chosen → {after : List ℕ} → after ≡ partsWritten b l' k' chosen → SteppedIn b s q after
+-- a step on what is lent and on the mail's bytes, and the rig written
+module _ (b lengths codes users : List ℕ) (tasks : ℕ) (p : Planned b lengths codes users tasks) (ok : sound b ≡ true) (s : Step) {n : Size} {l' : Lent} {mail last : List ℕ} {used : ℕ} (q : Report)
+    (h : StepLeft lengths codes users n (rigOf b) s q used l' mail last) where
+  pub turn-refused : mailOf b ≡ mailBytes (rigOf b .network) → isAccepted (q .answer) ≡ false → SteppedIn b s q (backIn b mail)
+  turn-refused m f =
+      let same = refused-same (rigOf b) s (sym (ap (λ (x : Report). isAccepted (x .answer)) (h .report)) ∙ f) in
+      let back : mail ≡ mailOf b = h .on .mail-in .bytes ∙ ap (λ (r : System). mailBytes (r .network)) same ∙ sym m in
+      rw (back, back-same b) (step-refused b s ok q (h .report) f)
+
+  pub turn-written : isAccepted (q .answer) ≡ true → Small l' last → {after : List ℕ} → after ≡ lentWritten (backIn b mail) l' used last → SteppedIn b s q after
   turn-written f z w =
       let r = rigOf b in
-      step-accepted b s ok q (turn-says o s h) f
-      (written-holds (on-turn o s h) z (step-tidy r s tidy-here) b lengths numbers users codes tasks p (image-here b s ok) (step-processors r s) (step-plan r s) w)
+      step-accepted b s ok q (h .report) f
+      (written-holds (h .on) z b lengths codes users tasks p (image-here b s ok) (step-processors r s) (step-plan r s) refl w)
 
 -- bytes behind them
 module _ (b : List ℕ) (s : Step) (q : Report) where

@@ -4,11 +4,12 @@ use mathlib.Core.Logic.{_≢_}
 use mathlib.Core.Bool.{Bool, false, _&&_}
 use mathlib.Core.List.{List}
 use Prim.Native.Nat.{ℕ, _≤_}
+use lib.ListN.{replicate}
 use Rattle.plan.specs.declared.PlanAnswer.the-variants.{Accepted}
 use Rattle.plan.specs.Files.{fileAnswer}
 use Rattle.plan.specs.Outcomes.{planRead}
-use Rattle.plan_file.specs.declared.Loaded.{Loaded}
-use Rattle.plan_file.specs.Stages.{Loads}
+use Rattle.plan_file.specs.declared.opening.Opened.{Opened}
+use Rattle.plan_file.specs.Opens.{PlanOpened}
 use Rattle.rules.specs.declared.system.System.{System}
 use Rattle.rules.specs.Sound.{systemOk}
 use Rattle.board.specs.declared.act.Size.{Size}
@@ -22,11 +23,16 @@ use Rattle.live.specs.declared.open.Opening.{Opening}
 abbrev pub sound : List ℕ → Bool
 sound b = isImage b && systemOk (rigOf b)
 
--- what the plan file of a rig's bytes is loaded as; where it is refused, so are the bytes
-pub record PlanIn (b : List ℕ) (l : Loaded) : Type 0 where
-  pub refused : l .answer ≢ Accepted → sound b ≡ false
-  pub room : l .answer ≡ Accepted → numberAt 4 b 4 ≤ planRoom
-  pub loads : l .answer ≡ Accepted → Loads (planRead (planFile b)) l
+-- nothing stands in what a plan file is opened into
+abbrev pub Blank : List ℕ → List ℕ → List ℕ → List ℕ → Type 0
+Blank codes parents senders receivers =
+    (codes ≡ replicate 4096 0) × (parents ≡ replicate 129 0) × (senders ≡ replicate 129 0) × (receivers ≡ replicate 129 0)
+
+-- what opening the plan file of a rig's bytes leaves; where it is refused, so are the bytes
+pub record PlanIn (b : List ℕ) (o : Opened) (codes parents senders receivers : List ℕ) : Type 0 where
+  pub refused : o .answer ≢ Accepted → sound b ≡ false
+  pub room : o .answer ≡ Accepted → numberAt 4 b 4 ≤ planRoom
+  pub opens : o .answer ≡ Accepted → PlanOpened (planFile b) o codes parents senders receivers
 
 -- the plan of a rig's bytes, by its numbers
 pub record PlanOf (b : List ℕ) (tasks : ℕ) (lengths codes : List ℕ) : Type 0 where

@@ -3,32 +3,30 @@ use mathlib.Core.Path.{_≡_}
 use mathlib.Core.Logic.{_≢_}
 use mathlib.Core.Bool.{true}
 use mathlib.Core.List.{List}
-use Prim.Native.Nat.{ℕ, _<_}
-use lib.ListN.{length, getD}
+use Prim.Native.Nat.{ℕ}
+use lib.ListN.{length}
 use Rattle.base.specs.Choice.{pick}
 use Rattle.plan.specs.Outcomes.{planRead}
-use Rattle.rules.specs.declared.message.Network.{Network}
 use Rattle.rules.specs.declared.step.Report.{Report}
 use Rattle.rules.specs.declared.step.Step.{Step}
 use Rattle.rules.specs.declared.step.Stepped.{Stepped}
 use Rattle.rules.specs.declared.step.StepAnswer.the-variants.{BadSystem}
 use Rattle.rules.specs.declared.system.System.{System}
 use Rattle.rules.specs.Answers.{isAccepted}
-use Rattle.rules.specs.Networks.{noSlot}
 use Rattle.rules.specs.Steps.{step, refused}
 use Rattle.plan_index.specs.user_table.Users.{Indexed}
 use Rattle.rig_parts.specs.Facts.{factsOf}
 use Rattle.board.specs.Rigs.{factsIn}
+use Rattle.rig_step.specs.Acts.{numbersOf}
 use Rattle.image.specs.Image.{image, rigOf, isImage, rigSize, planFile}
-use Rattle.image_laws.specs.Held.{LetterFits}
 use Rattle.live.specs.Live.{liveStep, Left}
 use Rattle.live.specs.Open.{PlanOf}
 
 -- the plan in the bytes is known, and this is derived of it
-pub record Planned (b lengths codes numbers users : List ℕ) (tasks : ℕ) : Type 0 where
+pub record Planned (b lengths codes users : List ℕ) (tasks : ℕ) : Type 0 where
   pub long : length b ≡ rigSize
   pub plan : PlanOf b tasks lengths codes
-  pub facts-of : factsIn tasks codes numbers users ≡ factsOf (planRead (planFile b) .plan)
+  pub facts-of : factsIn tasks codes (numbersOf tasks lengths codes) users ≡ factsOf (planRead (planFile b) .plan)
   pub indexed : Indexed users
 
 -- the bytes are those of the rig r, which can be read from them
@@ -53,7 +51,3 @@ pub record SteppedHeld (b : List ℕ) (s : Step) (q : Report) (b' : List ℕ) : 
   pub report : q ≡ liveStep b s .report
   pub refused : isAccepted (q .answer) ≢ true → b' ≡ b
   pub accepted : isAccepted (q .answer) ≡ true → Left b (liveStep b s .system) b'
-
--- the numbers of the first n letters fit their fields
-abbrev pub LettersFit : Network → ℕ → Type 0
-LettersFit k n = (i : ℕ) → i < n → LetterFits (getD (k .slots) i noSlot .message)

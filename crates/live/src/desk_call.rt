@@ -4,23 +4,19 @@ ghost use lib.ListN.{length};
 ghost use Rattle.image.specs.Image.{rigSize};
 ghost use Rattle.live.specs.Turns.{Planned};
 ghost use Rattle.live.specs.Calls.{CalledIn, CalledHeld, noCall};
-use crate::call::delivery_turn;
-use crate::call::run_turn;
+use crate::call::both_turns;
+use crate::letter::letter_at;
+use crate::mail::earliest_in;
+use crate::open::open_parts;
 use crate::open::plan_in;
 use crate::ranges::bytes_fit;
 use crate::ranges::counts_fit;
-use crate::ranges::letters_fit;
 use crate::ranges::numbers_fit;
-use board::act::Size;
 use plan::PlanAnswer;
 use plan::ProcessorId;
-use plan_index::ends::numbers::send_numbers;
 use plan_index::user_table::users::build;
-use rig_read::check::passes;
 use rig_read::parts::read_chosen;
-use rig_read::parts::read_mail;
-use rig_read::parts::read_parts;
-use rig_write::parts::write_parts;
+use rig_write::parts::write_lent;
 use rules::dispatch::Turn;
 use rules::step::StepAnswer;
 
@@ -44,17 +40,17 @@ fn no_call(answer: StepAnswer) -> Call
     }
 }
 
-// A call on bytes whose plan is known: the parts are read, 9 and 15 are tested, the two turns are made on the parts, and these are written.
+// A call on bytes whose plan is known: the parts are read, 9 and 15 are tested, the two turns are made on the parts and on the mail, and the parts are
+// written.
 fn call_parts<'a>(
     rig: &'a mut [u8],
     tasks: u8,
     lengths: &'a [u8; 64],
     codes: &'a [u32; 4096],
-    numbers: &'a [u8; 4096],
     users: &'a [u8; 1024],
     d: ProcessorId,
 ) -> Call
-    requires { ⌜ Planned (now rig) (now lengths) (now codes) (now numbers) (now users) tasks ⌝ }
+    requires { ⌜ Planned (now rig) (now lengths) (now codes) (now users) tasks ⌝ }
     ensures { λ q. ⌜ CalledIn (now (rig .entry)) d q (now (rig .exit)) ⌝ }
 {
     let mut hintprocessors = [0u8; 768];
@@ -63,45 +59,32 @@ fn call_parts<'a>(
     let mut heldnumbers = [0u8; 768];
     let mut notes = [0u8; 768];
     let mut board = [0u64; 1094];
-    read_parts(
+    bytes_fit(rig);
+    let o = open_parts(
         rig,
-        &mut hintprocessors,
-        &mut hintmoves,
-        &mut heldprocessors,
-        &mut heldnumbers,
-        &mut notes,
-        &mut board,
-    );
-    let network = read_mail(rig);
-    let mut chosen = read_chosen(rig);
-    let processors = rig[12];
-    let n = Size {
-        tasks: tasks,
-        processors: processors,
-        used: network.used,
-    };
-    if !passes(
-        rig,
+        tasks,
         lengths,
         codes,
-        &hintprocessors,
-        &hintmoves,
-        &heldprocessors,
-        &heldnumbers,
-        &notes,
-        &board,
-        n,
-        network,
-        chosen,
-    ) {
+        &mut hintprocessors,
+        &mut hintmoves,
+        &mut heldprocessors,
+        &mut heldnumbers,
+        &mut notes,
+        &mut board,
+    );
+    if !o.ok {
         return no_call(StepAnswer::BadSystem);
     }
-    if !base::is_within(1, base::wide8(processors), base::wide8(d.0)) {
+    let n = o.size;
+    if !base::is_within(1, base::wide8(n.processors), base::wide8(d.0)) {
         return no_call(StepAnswer::NoProcessor);
     }
-    let a = delivery_turn(
+    let mut chosen = read_chosen(rig);
+    let p = earliest_in(rig, n.used, d);
+    let letter = letter_at(rig, base::wide16(p));
+    let q = both_turns(
+        lengths,
         codes,
-        numbers,
         users,
         &mut hintprocessors,
         &mut hintmoves,
@@ -109,34 +92,13 @@ fn call_parts<'a>(
         &mut heldnumbers,
         &mut notes,
         &mut board,
+        &mut rig[30024..34120],
         n,
-        network,
-        d,
-    );
-    let delivery = a.turn;
-    let delivered = a.network;
-    let m = Size {
-        tasks: tasks,
-        processors: processors,
-        used: delivered.used,
-    };
-    let b = run_turn(
-        codes,
-        numbers,
-        users,
-        &mut hintprocessors,
-        &mut hintmoves,
-        &mut heldprocessors,
-        &mut heldnumbers,
-        &mut notes,
-        &mut board,
-        m,
-        delivered,
+        letter,
+        p,
         &mut chosen,
         d,
     );
-    let run = b.turn;
-    let after = b.network;
     bytes_fit(&hintprocessors);
     counts_fit(&hintmoves);
     bytes_fit(&heldprocessors);
@@ -144,8 +106,7 @@ fn call_parts<'a>(
     bytes_fit(&notes);
     numbers_fit(&board);
     bytes_fit(&chosen);
-    letters_fit(after);
-    write_parts(
+    write_lent(
         rig,
         &hintprocessors,
         &hintmoves,
@@ -153,9 +114,11 @@ fn call_parts<'a>(
         &heldnumbers,
         &notes,
         &board,
-        after,
+        q.used,
         chosen,
     );
+    let delivery = q.delivery;
+    let run = q.run;
     Call {
         answer: StepAnswer::Accepted,
         delivery: delivery,
@@ -163,28 +126,24 @@ fn call_parts<'a>(
     }
 }
 
-// A call on bytes of a rig's size: their plan file is loaded first.
+// A call on bytes of a rig's size: their plan file is opened first.
 fn call_image(rig: &mut [u8], d: ProcessorId) -> Call
     requires { ⌜ length (now rig) ≡ rigSize ⌝ }
     ensures { λ q. ⌜ CalledIn (now (rig .entry)) d q (now (rig .exit)) ⌝ }
 {
-    let read = plan_in(rig);
+    let mut codes = [0u32; 4096];
+    let mut parents = [0u8; 129];
+    let mut senders = [0u8; 129];
+    let mut receivers = [0u8; 129];
+    let read = plan_in(rig, &mut codes, &mut parents, &mut senders, &mut receivers);
     let answer = read.answer;
     match answer {
         PlanAnswer::Refused(_) => no_call(StepAnswer::BadSystem),
         PlanAnswer::Accepted => {
-            let numbers = send_numbers(read.plan.tasks, &read.plan.lengths, &read.plan.codes);
+            let lengths = read.lengths;
             let mut users = [0u8; 1024];
-            build(&read.senders, &read.receivers, &read.parents, &mut users);
-            call_parts(
-                rig,
-                read.plan.tasks,
-                &read.plan.lengths,
-                &read.plan.codes,
-                &numbers,
-                &users,
-                d,
-            )
+            build(&senders, &receivers, &parents, &mut users);
+            call_parts(rig, read.tasks, &lengths, &codes, &users, d)
         }
     }
 }

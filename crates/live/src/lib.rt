@@ -1,7 +1,13 @@
 // The calls of a live rig.
 
+// A step on what is lent and on the mail.
+pub mod make;
 // A call of a desk's dispatcher.
 pub mod call;
+// The letters of the mail, in the bytes of a rig.
+pub mod mail;
+// The letter that a step delivers.
+mod letter;
 // A call on a live rig.
 pub mod desk_call;
 // A call on a live rig, as a C program calls it.

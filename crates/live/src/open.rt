@@ -1,20 +1,19 @@
-// A rig that is lent as bytes, opened: its plan file is loaded, its parts are read, and 9 is tested.
+// A rig that is lent as bytes, opened: its plan file is opened, its parts are read, and 9 is tested.
 ghost use mathlib.Core.Path.{_≡_};
 ghost use lib.ListN.{length};
 ghost use Rattle.board.specs.Lent.{lent};
 ghost use Rattle.image.specs.Image.{rigSize};
 ghost use Rattle.rig_read.specs.Room.{Room};
-ghost use Rattle.live.specs.Open.{PlanIn, PlanOf, Opens};
+ghost use Rattle.live.specs.Open.{Blank, PlanIn, PlanOf, Opens};
 use board::Board;
 use board::act::Size;
-use plan::Plan;
 use plan::PlanAnswer;
 use plan::Refusal;
-use plan_file::Loaded;
+use plan_file::opening::Opened;
+use plan_file::opening::open;
 use rig_read::check::passes;
 use rig_read::numbers::number4;
 use rig_read::parts::read_chosen;
-use rig_read::parts::read_mail;
 use rig_read::parts::read_parts;
 
 // Whether 9 does not refuse the bytes, and how large their rig is.
@@ -24,35 +23,34 @@ pub struct Opening {
 }
 
 // No plan: its file is too long.
-fn no_plan() -> Loaded
-    ensures { λ r. ⌜ r .answer ≡ PlanAnswer.Refused Refusal.BadLayout ⌝ }
+fn no_plan() -> Opened
+    ensures { λ o. ⌜ o .answer ≡ PlanAnswer.Refused Refusal.BadLayout ⌝ }
 {
     let answer = PlanAnswer::Refused(Refusal::BadLayout);
-    let plan = Plan {
+    Opened {
+        answer: answer,
         tasks: 0,
         lengths: [0; 64],
-        codes: [0; 4096],
-    };
-    Loaded {
-        answer: answer,
-        plan: plan,
-        parents: [0; 129],
-        senders: [0; 129],
-        receivers: [0; 129],
     }
 }
 
-// The plan file of a rig's bytes loaded.
-pub fn plan_in(rig: &[u8]) -> Loaded
-    requires { ⌜ length (now rig) ≡ rigSize ⌝ }
-    ensures { λ r. ⌜ PlanIn (now (rig .entry)) r ⌝ }
+// The plan file of a rig's bytes opened into what is lent.
+pub fn plan_in<'a>(
+    rig: &'a [u8],
+    codes: &'a mut [u32; 4096],
+    parents: &'a mut [u8; 129],
+    senders: &'a mut [u8; 129],
+    receivers: &'a mut [u8; 129],
+) -> Opened
+    requires { ⌜ (length (now rig) ≡ rigSize) × Blank (now codes) (now parents) (now senders) (now receivers) ⌝ }
+    ensures { λ o. ⌜ PlanIn (now (rig .entry)) o (now (codes .exit)) (now (parents .exit)) (now (senders .exit)) (now (receivers .exit)) ⌝ }
 {
     let size = number4(rig, 4);
     if 16644 < size {
         return no_plan();
     }
     let end = 20 + size;
-    plan_file::load(&rig[20..end])
+    open(&rig[20..end], codes, parents, senders, receivers)
 }
 
 // The parts of a rig's bytes, whose plan is known, are put into what is lent, and 9 is tested.
@@ -84,13 +82,13 @@ pub fn open_parts<'a>(
         notes,
         board,
     );
-    let network = read_mail(rig);
+    let used = number4(rig, 8);
     let chosen = read_chosen(rig);
     let processors = rig[12];
     let n = Size {
         tasks: tasks,
         processors: processors,
-        used: network.used,
+        used: used,
     };
     let ok = passes(
         rig,
@@ -103,7 +101,6 @@ pub fn open_parts<'a>(
         notes,
         board,
         n,
-        network,
         chosen,
     );
     Opening { ok: ok, size: n }

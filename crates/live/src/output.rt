@@ -1,4 +1,4 @@
-// Bytes and numbers put into a lent output.
+// Bytes put into a lent output.
 ghost use mathlib.Core.List.{_++_};
 ghost use mathlib.Core.Path.{_≡_};
 ghost use Prim.Native.Nat.{_≤_};
@@ -12,19 +12,6 @@ pub fn put_bytes<'a>(out: &'a mut [u8], bytes: &'a [u8])
     let mut k: usize = 0;
     while k < bytes.len() {
         out[k] = bytes[k];
-        k += 1;
-    }
-}
-
-// The counts become the first 27 of the lent numbers.
-pub fn put_counts(out: &mut [u32], counts: [u16; 27])
-    requires { ⌜ 27 ≤ length (now out) ⌝ }
-    ensures { λ r. ⌜ now (out .exit) ≡ counts ++ drop 27 (now (out .entry)) ⌝ }
-{
-    let mut k: usize = 0;
-    while k < 27 {
-        let c = counts[k];
-        out[k] = c as u32;
         k += 1;
     }
 }

@@ -1,12 +1,11 @@
 // What the types of numbers tell of them: each fits its field.
-ghost use Prim.Native.Nat.{_≤_, _<_};
-ghost use Rattle.image_laws.specs.Held.{top8, top16, top64, AllBelow, HintFits, OfferFits, WordFits, LetterFits};
-ghost use Rattle.live.specs.Turns.{LettersFit};
+ghost use Prim.Native.Nat.{_<_};
+ghost use Rattle.image_laws.specs.Held.{top8, top16, top64, AllBelow, HintFits, OfferFits, WordFits, LetterFits, PostingFits};
 use plan::Word;
 use rules::channel::Hint;
 use rules::channel::Offer;
 use rules::message::Message;
-use rules::message::Network;
+use rules::rule::Posting;
 
 // Bytes.
 pub fn bytes_fit(xs: &[u8]) -> bool
@@ -97,18 +96,13 @@ fn letter_fits(m: Message) -> bool
     }
 }
 
-// The letters of the mail.
-pub fn letters_fit(network: Network) -> bool
-    requires { ⌜ network .used ≤ 256 ⌝ }
-    ensures { λ r. ⌜ LettersFit network (network .used) ⌝ }
+// What is posted.
+pub fn posting_fits(x: Posting) -> bool
+    ensures { λ r. ⌜ PostingFits x ⌝ }
 {
-    let end = network.used;
-    let mut k: usize = 0;
-    while k < end {
-        let slot = network.slots[k];
-        let m = slot.message;
-        letter_fits(m);
-        k += 1;
+    match x {
+        Posting::Nothing => true,
+        Posting::Single(m) => letter_fits(m),
+        Posting::Adverts(c, d) => base::both(byte_fits(c.0), byte_fits(d.0)),
     }
-    true
 }

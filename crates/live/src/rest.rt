@@ -28,11 +28,16 @@ fn rest_of(rig: &[u8]) -> u64
     requires { ⌜ length (now rig) ≡ rigSize ⌝ }
     ensures { λ r. ⌜ r ≡ restOn (now (rig .entry)) ⌝ }
 {
-    let read = plan_in(rig);
+    let mut codes = [0u32; 4096];
+    let mut parents = [0u8; 129];
+    let mut senders = [0u8; 129];
+    let mut receivers = [0u8; 129];
+    let read = plan_in(rig, &mut codes, &mut parents, &mut senders, &mut receivers);
     let answer = read.answer;
     match answer {
         PlanAnswer::Refused(a) => 9,
         PlanAnswer::Accepted => {
+            let lengths = read.lengths;
             let mut hintprocessors = [0u8; 768];
             let mut hintmoves = [0u16; 768];
             let mut heldprocessors = [0u8; 768];
@@ -41,9 +46,9 @@ fn rest_of(rig: &[u8]) -> u64
             let mut board = [0u64; 1094];
             let o = open_parts(
                 rig,
-                read.plan.tasks,
-                &read.plan.lengths,
-                &read.plan.codes,
+                read.tasks,
+                &lengths,
+                &codes,
                 &mut hintprocessors,
                 &mut hintmoves,
                 &mut heldprocessors,
@@ -56,7 +61,7 @@ fn rest_of(rig: &[u8]) -> u64
             }
             let n = o.size;
             let used = n.used;
-            let rest = at_rest(read.plan.tasks, &read.plan.codes, &board, used);
+            let rest = at_rest(read.tasks, &codes, &board, used);
             rest_number(rest, used)
         }
     }

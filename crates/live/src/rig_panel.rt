@@ -7,10 +7,10 @@ ghost use Rattle.live.specs.Live.{held, PanelMeets};
 ghost use Rattle.live.specs.Shows.{Counts};
 use crate::open::open_parts;
 use crate::open::plan_in;
-use crate::output::put_counts;
 use panel::counts::counts_on;
+use panel::output::put_counts;
 use plan::PlanAnswer;
-use plan_index::ends::numbers::send_numbers;
+use plan_index::ends::numbers::put_numbers;
 use plan_index::user_table::users::build;
 
 // Whether 9 does not refuse the rig, and its counts then.
@@ -34,11 +34,16 @@ fn counts_of(rig: &[u8]) -> Counted
     requires { ⌜ length (now rig) ≡ rigSize ⌝ }
     ensures { λ q. ⌜ Counts (now (rig .entry)) q ⌝ }
 {
-    let read = plan_in(rig);
+    let mut codes = [0u32; 4096];
+    let mut parents = [0u8; 129];
+    let mut senders = [0u8; 129];
+    let mut receivers = [0u8; 129];
+    let read = plan_in(rig, &mut codes, &mut parents, &mut senders, &mut receivers);
     let answer = read.answer;
     match answer {
         PlanAnswer::Refused(a) => refused(),
         PlanAnswer::Accepted => {
+            let lengths = read.lengths;
             let mut hintprocessors = [0u8; 768];
             let mut hintmoves = [0u16; 768];
             let mut heldprocessors = [0u8; 768];
@@ -47,9 +52,9 @@ fn counts_of(rig: &[u8]) -> Counted
             let mut board = [0u64; 1094];
             let o = open_parts(
                 rig,
-                read.plan.tasks,
-                &read.plan.lengths,
-                &read.plan.codes,
+                read.tasks,
+                &lengths,
+                &codes,
                 &mut hintprocessors,
                 &mut hintmoves,
                 &mut heldprocessors,
@@ -60,12 +65,13 @@ fn counts_of(rig: &[u8]) -> Counted
             if !o.ok {
                 return refused();
             }
-            let numbers = send_numbers(read.plan.tasks, &read.plan.lengths, &read.plan.codes);
+            let mut numbers = [0u8; 4096];
+            put_numbers(read.tasks, &lengths, &codes, &mut numbers);
             let mut users = [0u8; 1024];
-            build(&read.senders, &read.receivers, &read.parents, &mut users);
+            build(&senders, &receivers, &parents, &mut users);
             let n = o.size;
             let counts = counts_on(
-                &read.plan.codes,
+                &codes,
                 &numbers,
                 &users,
                 &hintprocessors,

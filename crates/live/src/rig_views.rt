@@ -43,11 +43,16 @@ fn task_of(rig: &[u8], t: TaskId) -> Found
     requires { ⌜ length (now rig) ≡ rigSize ⌝ }
     ensures { λ f. ⌜ Finds (now (rig .entry)) t f ⌝ }
 {
-    let read = plan_in(rig);
+    let mut codes = [0u32; 4096];
+    let mut parents = [0u8; 129];
+    let mut senders = [0u8; 129];
+    let mut receivers = [0u8; 129];
+    let read = plan_in(rig, &mut codes, &mut parents, &mut senders, &mut receivers);
     let answer = read.answer;
     match answer {
         PlanAnswer::Refused(a) => refused(9),
         PlanAnswer::Accepted => {
+            let lengths = read.lengths;
             let mut hintprocessors = [0u8; 768];
             let mut hintmoves = [0u16; 768];
             let mut heldprocessors = [0u8; 768];
@@ -56,9 +61,9 @@ fn task_of(rig: &[u8], t: TaskId) -> Found
             let mut board = [0u64; 1094];
             let o = open_parts(
                 rig,
-                read.plan.tasks,
-                &read.plan.lengths,
-                &read.plan.codes,
+                read.tasks,
+                &lengths,
+                &codes,
                 &mut hintprocessors,
                 &mut hintmoves,
                 &mut heldprocessors,
@@ -69,7 +74,7 @@ fn task_of(rig: &[u8], t: TaskId) -> Found
             if !o.ok {
                 return refused(9);
             }
-            if !has_task(read.plan.tasks, t) {
+            if !has_task(read.tasks, t) {
                 return refused(10);
             }
             let x = task_at(&board, t);

@@ -10,16 +10,17 @@ use plan::PlanAnswer;
 use plan::ProcessorId;
 use plan::Refusal;
 use plan::TaskId;
+use plan_file::opening::open;
 use plan_index::user_table::users::build;
-use rig::start::no_messages;
 use rig::start::no_tables;
 use rig::start::start_board;
 use rig_write::head::write_head;
-use rig_write::parts::write_parts;
+use rig_write::numbers::put_zeros;
+use rig_write::parts::write_lent;
 use rules::channel::Hint;
 
-// The image of the start of an accepted plan, by who uses what. The birth of task 1 at desk 1 sets pointers; the other tables have
-// nothing yet.
+// The image of the start of an accepted plan, by who uses what. The birth of task 1 at desk 1 sets pointers; the other tables and
+// the mail have nothing yet.
 fn start_in<'a>(
     rig: &'a mut [u8],
     processors: u8,
@@ -54,10 +55,10 @@ fn start_in<'a>(
         one,
         born,
     );
-    let network = no_messages();
     let chosen = [0u8; 6];
     write_head(rig, processors, plan);
-    write_parts(
+    put_zeros(rig, 30024, 4096);
+    write_lent(
         rig,
         &hintprocessors,
         &hintmoves,
@@ -65,7 +66,7 @@ fn start_in<'a>(
         &heldnumbers,
         &notes,
         &board,
-        network,
+        0,
         chosen,
     );
 }
@@ -78,7 +79,11 @@ pub extern "C" fn mortarsedge_start<'a>(processors: u32, plan: &'a [u8], rig: &'
     if !base::is_within(1, 6, processors as usize) {
         return Refusal::BadProcessors.number();
     }
-    let read = plan_file::load(plan);
+    let mut codes = [0u32; 4096];
+    let mut parents = [0u8; 129];
+    let mut senders = [0u8; 129];
+    let mut receivers = [0u8; 129];
+    let read = open(plan, &mut codes, &mut parents, &mut senders, &mut receivers);
     let answer = read.answer;
     match answer {
         PlanAnswer::Refused(a) => a.number(),
@@ -90,9 +95,9 @@ pub extern "C" fn mortarsedge_start<'a>(processors: u32, plan: &'a [u8], rig: &'
                 &mut rig[..34120],
                 processors as u8,
                 plan,
-                &read.senders,
-                &read.receivers,
-                &read.parents,
+                &senders,
+                &receivers,
+                &parents,
             );
             0
         }

@@ -4,23 +4,20 @@ ghost use lib.ListN.{length};
 ghost use Rattle.image.specs.Image.{rigSize};
 ghost use Rattle.live.specs.Live.{stepGiven, StepMeets};
 ghost use Rattle.live.specs.Turns.{Planned, SteppedIn, SteppedHeld};
+use crate::letter::letter_at;
+use crate::make::make;
+use crate::open::open_parts;
 use crate::open::plan_in;
 use crate::ranges::bytes_fit;
 use crate::ranges::counts_fit;
-use crate::ranges::letters_fit;
 use crate::ranges::numbers_fit;
 use crate::record::put_received;
 use crate::record::step_number;
-use board::act::Size;
+use network::position;
 use plan::PlanAnswer;
-use plan_index::ends::numbers::send_numbers;
 use plan_index::user_table::users::build;
-use rig_read::check::passes;
 use rig_read::parts::read_chosen;
-use rig_read::parts::read_mail;
-use rig_read::parts::read_parts;
-use rig_step::turn::turn_on;
-use rig_write::parts::write_parts;
+use rig_write::parts::write_lent;
 use rules::rule::Received;
 use rules::step::Report;
 use rules::step::Step;
@@ -37,17 +34,17 @@ fn bad_system() -> Report
     }
 }
 
-// A step of bytes whose plan is known: the parts are read, 9 is tested, the step is made on them, and they are written where it is accepted.
+// A step of bytes whose plan is known: the parts are read, 9 is tested, the step is made on them and on the mail, and they are written where it is
+// accepted.
 fn step_parts<'a>(
     rig: &'a mut [u8],
     tasks: u8,
     lengths: &'a [u8; 64],
     codes: &'a [u32; 4096],
-    numbers: &'a [u8; 4096],
     users: &'a [u8; 1024],
     s: Step,
 ) -> Report
-    requires { ⌜ Planned (now rig) (now lengths) (now codes) (now numbers) (now users) tasks ⌝ }
+    requires { ⌜ Planned (now rig) (now lengths) (now codes) (now users) tasks ⌝ }
     ensures { λ r. ⌜ SteppedIn (now (rig .entry)) s r (now (rig .exit)) ⌝ }
 {
     let mut hintprocessors = [0u8; 768];
@@ -56,8 +53,12 @@ fn step_parts<'a>(
     let mut heldnumbers = [0u8; 768];
     let mut notes = [0u8; 768];
     let mut board = [0u64; 1094];
-    read_parts(
+    bytes_fit(rig);
+    let o = open_parts(
         rig,
+        tasks,
+        lengths,
+        codes,
         &mut hintprocessors,
         &mut hintmoves,
         &mut heldprocessors,
@@ -65,33 +66,15 @@ fn step_parts<'a>(
         &mut notes,
         &mut board,
     );
-    let network = read_mail(rig);
-    let chosen = read_chosen(rig);
-    let processors = rig[12];
-    let n = Size {
-        tasks: tasks,
-        processors: processors,
-        used: network.used,
-    };
-    if !passes(
-        rig,
-        lengths,
-        codes,
-        &hintprocessors,
-        &hintmoves,
-        &heldprocessors,
-        &heldnumbers,
-        &notes,
-        &board,
-        n,
-        network,
-        chosen,
-    ) {
+    if !o.ok {
         return bad_system();
     }
-    let t = turn_on(
+    let n = o.size;
+    let chosen = read_chosen(rig);
+    let letter = letter_at(rig, position(n.used, s));
+    let q = make(
+        lengths,
         codes,
-        numbers,
         users,
         &mut hintprocessors,
         &mut hintmoves,
@@ -99,16 +82,16 @@ fn step_parts<'a>(
         &mut heldnumbers,
         &mut notes,
         &mut board,
+        &mut rig[30024..34120],
         n,
-        network,
+        letter,
         s,
     );
-    let report = t.report;
+    let report = q.report;
     let answer = report.answer;
     if !is_accepted(answer) {
         return report;
     }
-    let after = t.network;
     bytes_fit(&hintprocessors);
     counts_fit(&hintmoves);
     bytes_fit(&heldprocessors);
@@ -116,8 +99,7 @@ fn step_parts<'a>(
     bytes_fit(&notes);
     numbers_fit(&board);
     bytes_fit(&chosen);
-    letters_fit(after);
-    write_parts(
+    write_lent(
         rig,
         &hintprocessors,
         &hintmoves,
@@ -125,34 +107,30 @@ fn step_parts<'a>(
         &heldnumbers,
         &notes,
         &board,
-        after,
+        q.used,
         chosen,
     );
     report
 }
 
-// A step of bytes of a rig's size: their plan file is loaded first.
+// A step of bytes of a rig's size: their plan file is opened first.
 fn step_image(rig: &mut [u8], s: Step) -> Report
     requires { ⌜ length (now rig) ≡ rigSize ⌝ }
     ensures { λ r. ⌜ SteppedIn (now (rig .entry)) s r (now (rig .exit)) ⌝ }
 {
-    let read = plan_in(rig);
+    let mut codes = [0u32; 4096];
+    let mut parents = [0u8; 129];
+    let mut senders = [0u8; 129];
+    let mut receivers = [0u8; 129];
+    let read = plan_in(rig, &mut codes, &mut parents, &mut senders, &mut receivers);
     let answer = read.answer;
     match answer {
         PlanAnswer::Refused(_) => bad_system(),
         PlanAnswer::Accepted => {
-            let numbers = send_numbers(read.plan.tasks, &read.plan.lengths, &read.plan.codes);
+            let lengths = read.lengths;
             let mut users = [0u8; 1024];
-            build(&read.senders, &read.receivers, &read.parents, &mut users);
-            step_parts(
-                rig,
-                read.plan.tasks,
-                &read.plan.lengths,
-                &read.plan.codes,
-                &numbers,
-                &users,
-                s,
-            )
+            build(&senders, &receivers, &parents, &mut users);
+            step_parts(rig, read.tasks, &lengths, &codes, &users, s)
         }
     }
 }

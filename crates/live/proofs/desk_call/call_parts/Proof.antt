@@ -1,56 +1,154 @@
--- `call_parts`: the parts of the bytes, 9, 15, the two turns on them, and the parts written.
-use mathlib.Core.Path.{_≡_, refl, sym, _∙_}
+-- `call_parts`: the parts of the bytes, 9, 15, the two turns on them and on the mail, and the parts written.
+use mathlib.Core.Path.{_≡_, refl, sym, ap, _∙_}
 use mathlib.Core.Bool.{true}
 use native.Mathlib.Omega.{arith}
-use lib.ListN.{getD}
-use borrow.Author.Needs.{needs}
 use borrow.Author.Tests.{not-true, not-false}
-use Rattle.base.proofs.Tests.{within-low, within-high}
-use Rattle.rules.specs.Numbers.{processorOk}
-use Rattle.rules.specs.Dispatch.{deliveryTurn, runTurn}
-use Rattle.rules_laws.proofs.Sound.{system-passed}
+use Rattle.plan.specs.declared.PlanAnswer.the-variants.{Accepted}
+use Rattle.plan.specs.Programs.{programs}
+use Rattle.plan.specs.Refusals.{planAnswer}
+use Rattle.plan_value.specs.Slots.{planIn}
 use Rattle.board.specs.Lent.{lent}
-use Rattle.dispatch.specs.Boards.{On}
-use Rattle.image.specs.Image.{rigOf}
-use Rattle.live.specs.Open.{sound}
-use Rattle.live.specs.Calls.{TurnLeft}
-use Rattle.live.proofs.Opened.{opened}
-use Rattle.live.proofs.Turns.{on-opened, lent-long, chosen-long, few-letters}
-use Rattle.live.proofs.Calls.{resized}
+use Rattle.image.specs.Image.{rigOf, isImage, networkIn}
+use Rattle.rig_write.proofs.Loans.{mailOf, lent-long, back-long}
+use Rattle.live.specs.Open.{sound, sizeOf}
+use mathlib.Core.List.{List}
+use Prim.Native.Nat.{ℕ, _≤_}
+use Rattle.base.proofs.Tests.{and-left, and-right, within-low, within-high}
+use Rattle.plan.specs.declared.ProcessorId.{ProcessorId}
+use Rattle.rules.specs.Numbers.{processorOk}
+use Rattle.rules.specs.Networks.{messages, messageAt}
+use Rattle.rules.specs.Sound.{systemOk}
+use Rattle.rules.specs.Dispatch.{earliest}
+use Rattle.rules_laws.proofs.Sound.{system-passed, messages-fit}
+use Rattle.board.specs.declared.act.Size.{Size}
+use Rattle.image.specs.Numbers.{numberAt}
+use Rattle.live.specs.Calls.{RigLive, LetterAt, Runs, TurnsLeft}
+use Rattle.live.proofs.Opened.{shaped, blank-room, sound-here, few-here, refused-here}
+use Rattle.live.proofs.Turns.{live-opened, accepted-opened, lent-long as tables-long, chosen-long}
+use Rattle.live.proofs.Making.{mail-long}
+use Rattle.live.proofs.Calls.{earliest-there}
 use Rattle.live.proofs.Called.{bad-call, no-desk, call-written}
+use borrow.Author.Needs.{needs}
 use Rattle.live.proofs.desk_call.call_parts.Statement.{statement}
 use Rattle.live.proofs.desk_call.call_parts.Tie as tie
 
--- where the parts are read
-abbrev start : tie.After-board2 → tie.Start
-start c = c .before .before .before .before .before .before .before .before .before .before .before .before .before .before .before .before .before .before .before .before .before
+-- how many letters there are, and that the earliest for a desk is one of them
+used-is : (b : List ℕ) {n : Size} → n ≡ sizeOf (rigOf b) → n .used ≡ numberAt 4 b 8
+unfolding rigOf networkIn
+used-is b e = ap (λ (s : Size). s .used) e
 
-abbrev parts : tie.After-board2 → tie.After-read-parts
-parts c = c .before .before .before .before .before .before .before .before .before .before .before .before
+mail-there : (b : List ℕ) (d : ProcessorId) → sound b ≡ true → earliest d (messages (networkIn b)) ≤ 256
+unfolding rigOf
+mail-there b d ok = earliest-there d (networkIn b) (shaped b .slots) (messages-fit (rigOf b) (and-right (isImage b) (systemOk (rigOf b)) ok))
 
-abbrev mail : tie.After-board2 → tie.After-read-mail
-mail c = c .before .before .before .before .before .before .before .before .before .before
+-- where the bytes were opened
+abbrev start : tie.After-open-parts → tie.Start
+start c = c .before .before .before .before .before .before .before .before .before .before .before
 
-abbrev choices : tie.After-board2 → tie.After-read-chosen
-choices c = c .before .before .before .before .before .before .before .before
+-- 9 does not refuse them
+passed : (e : tie.Else1) → sound (start (e .before .before) .args .rig .now) ≡ true
+passed e = let p = e .before .before in sound-here (p .open-parts .ensures) (not-false (p .open-parts .result .ok) (e .if1 .left))
 
-read-parts-requires : tie.Need-read-parts-requires
-read-parts-requires c κs = (c .before .before .before .before .before .before .before .before .pre .long, record { hintprocessors = refl; hintmoves = refl; heldprocessors = refl; heldnumbers = refl; notes = refl; board = refl })
+-- where the letter was read
+abbrev opened : tie.After-letter-at → tie.After-open-parts
+opened c = c .before .before .before .before .before .before .before .before .before .before .before .before .before .before
 
-read-mail-requires : tie.Need-read-mail-requires
-read-mail-requires c κs = search needs
+abbrev tested : tie.After-letter-at → tie.Else1
+tested c = c .before .before .before .before .before .before .before .before .before .before .before .before
 
-read-chosen-requires : tie.Need-read-chosen-requires
-read-chosen-requires c κs = search needs
+abbrev choices : tie.After-letter-at → tie.After-read-chosen
+choices c = c .before .before .before .before .before
 
-slice-read-processors : tie.Need-slice-read-processors
-slice-read-processors c = search needs
+-- their rig is lent
+abbrev Live-rig : tie.After-letter-at → Type 0
+Live-rig c =
+    let p = opened c in
+    let a = start p .args in
+    let h = p .open-parts .last .1 .1 .1 .1 in
+    RigLive (a .lengths .now) (a .codes .now) (a .users .now) (p .open-parts .result .size)
+    (lent (h .0) (h .1 .0) (h .1 .1 .0) (h .1 .1 .1 .0) (h .1 .1 .1 .1 .0) (h .1 .1 .1 .1 .1 .0))
+    (mailOf (a .rig .now)) (choices c .read-chosen .result) (rigOf (a .rig .now))
 
-passes-requires : tie.Need-passes-requires
-passes-requires c κs =
-    let a = start c .args in
-    let g = start c .pre in
-    opened (a .rig .now) (a .lengths .now) (a .codes .now) (a .tasks) (g .long) (g .plan) (parts c .read-parts .ensures) (mail c .read-mail .ensures) (choices c .read-chosen .ensures)
+live : (c : tie.After-letter-at) → Live-rig c
+live c =
+    let p = opened c in
+    let a = start p .args in
+    live-opened (a .rig .now) (a .lengths .now) (a .codes .now) (a .users .now) (a .tasks) (start p .pre)
+    (p .open-parts .ensures .parts)
+    (p .open-parts .ensures .size)
+    (choices c .read-chosen .ensures)
+    (passed (tested c))
+    (p .before .before .before .before .before .before .before .before .bytes-fit .ensures)
+
+accepted : (c : tie.After-letter-at) → let p = opened c in let a = start p .args in
+    planAnswer (programs (planIn (p .open-parts .result .size .tasks) (a .lengths .now) (a .codes .now))) ≡ Accepted
+accepted c =
+    let p = opened c in
+    let a = start p .args in
+    accepted-opened (a .rig .now) (a .lengths .now) (a .codes .now) (a .users .now) (a .tasks) (start p .pre)
+    (p .open-parts .ensures .parts)
+    (p .open-parts .ensures .size)
+    (choices c .read-chosen .ensures)
+    (passed (tested c))
+
+abbrev Runs-rig : tie.After-letter-at → Type 0
+Runs-rig c =
+    let p = opened c in
+    let a = start p .args in
+    let h = p .open-parts .last .1 .1 .1 .1 in
+    Runs (a .lengths .now) (a .codes .now) (a .users .now) (p .open-parts .result .size)
+    (lent (h .0) (h .1 .0) (h .1 .1 .0) (h .1 .1 .1 .0) (h .1 .1 .1 .1 .0) (h .1 .1 .1 .1 .1 .0))
+    (mailOf (a .rig .now)) (choices c .read-chosen .result) (a .d)
+
+given : (c : tie.After-letter-at) → let a = start (opened c) .args in
+    LetterAt (rigOf (a .rig .now) .network) (c .before .before .before .earliest-in .result) (c .letter-at .result)
+unfolding rigOf
+given c ne = let w = c .before .wide16 .ensures in c .letter-at .ensures (λ z. ne (sym w ∙ z)) ∙ ap (messageAt (networkIn (start (opened c) .args .rig .now))) w
+
+position : (c : tie.After-letter-at) → let a = start (opened c) .args in
+    c .before .before .before .earliest-in .result ≡ earliest (a .d) (messages (rigOf (a .rig .now) .network))
+unfolding rigOf
+position c = c .before .before .before .earliest-in .ensures
+
+-- the desk was tested
+desk : (c : tie.Else2) → let p = c .before .before .before .before .before .before .before in processorOk (rigOf (start p .args .rig .now) .processors) (start p .args .d) ≡ true
+desk c =
+    let w = c .before in
+    let p = c .before .before .before .before .before .before .before in
+    rw (← ap (λ (s : Size). s .processors) (p .open-parts .ensures .size))
+    (sym (rw (w .before .wide82 .ensures, w .before .before .wide8 .ensures) at (w .is-within .ensures)) ∙ not-false (w .is-within .result) (c .if2 .left))
+
+abbrev runs : (c : tie.After-letter-at) → Runs-rig c
+runs c =
+    let p = opened c in
+    let a = start p .args in
+    let r = rigOf (a .rig .now) in
+    let d = desk (c .before .before .before .before .before .before .before) in
+    record {
+      some = record { accepted = accepted c; system = _; on = live c };
+      first = within-low 1 (r .processors) (a .d .0) d;
+      most = omega (arith, within-high 1 (r .processors) (a .d .0) d, within-high 1 6 (r .processors) (system-passed r (live c .on .sound) .processors));
+    }
+
+-- the turns were made
+abbrev Made-rig : tie.After-both-turns → Type 0
+Made-rig t =
+    let c = t .before .before .before .before .before .before .before .before .before in
+    let a = start (opened c) .args in
+    let h = t .both-turns .last .1 .1 .1 in
+    TurnsLeft (a .lengths .now) (a .codes .now) (a .users .now) (opened c .open-parts .result .size) (rigOf (a .rig .now)) (a .d)
+    (t .both-turns .result .delivery) (t .both-turns .result .run) (t .both-turns .result .used)
+    (lent (h .0) (h .1 .0) (h .1 .1 .0) (h .1 .1 .1 .0) (h .1 .1 .1 .1 .0) (h .1 .1 .1 .1 .1 .0))
+    (h .1 .1 .1 .1 .1 .1 .0) (h .1 .1 .1 .1 .1 .1 .1 .1 .1 .1 .0)
+
+made : (t : tie.After-both-turns) → Made-rig t
+made t = let c = t .before .before .before .before .before .before .before .before .before in t .both-turns .ensures _ (live c) (given c) (position c)
+
+bytes-fit-requires : tie.Need-bytes-fit-requires
+bytes-fit-requires c κs = search needs
+
+open-parts-requires : tie.Need-open-parts-requires
+open-parts-requires c κs = let s = c .before .before .before .before .before .before .before .before .before .before in (s .pre .long, s .pre .plan, blank-room)
 
 no-call-requires : tie.Need-no-call-requires
 no-call-requires c κs = search needs
@@ -60,35 +158,9 @@ same-length c = search needs
 
 returns : tie.Need-returns
 returns c =
-    let p = c .before .before in
-    let a = start (p .before) .args in
-    rw (c .no-call .ensures) (bad-call (a .rig .now) (a .d) (sym (p .passes .ensures) ∙ not-true (p .passes .result) (c .before .if1 .taken)))
-
--- 9 does not refuse the bytes
-passed : (c : tie.Else1) → sound (start (c .before .before) .args .rig .now) ≡ true
-passed c = let p = c .before in sym (p .passes .ensures) ∙ not-false (p .passes .result) (c .if1 .left)
-
--- their rig is lent
-abbrev Lent-rig : tie.Else1 → Type 0
-Lent-rig c =
-    let p = c .before .before in
+    let p = c .before .before .before in
     let a = start p .args in
-    let h = parts p .read-parts .last .1 in
-    On (a .codes .now) (a .numbers .now) (a .users .now) (record { tasks = a .tasks; processors = getD (a .rig .now) 12 0; used = mail p .read-mail .result .used })
-    (mail p .read-mail .result)
-    (lent (h .0) (h .1 .0) (h .1 .1 .0) (h .1 .1 .1 .0) (h .1 .1 .1 .1 .0) (h .1 .1 .1 .1 .1 .0))
-    (choices p .read-chosen .result)
-    (rigOf (a .rig .now))
-
-rig : (c : tie.Else1) → Lent-rig c
-rig c =
-    let p = c .before .before in
-    let a = start p .args in
-    on-opened (a .rig .now) (a .lengths .now) (a .codes .now) (a .numbers .now) (a .users .now) (a .tasks) (start p .pre)
-    (parts p .read-parts .ensures)
-    (mail p .read-mail .ensures)
-    (choices p .read-chosen .ensures)
-    (passed c)
+    rw (c .no-call .ensures) (bad-call (a .rig .now) (a .d) (refused-here (p .open-parts .ensures) (not-true (p .open-parts .result .ok) (c .before .if1 .taken))))
 
 wide8-requires : tie.Need-wide8-requires
 wide8-requires c κs = search needs
@@ -105,195 +177,130 @@ no-call-requires-2 c κs = search needs
 same-length-2 : tie.Need-same-length-2
 same-length-2 c = search needs
 
--- the desk was tested
-abbrev tested : tie.After-is-within → tie.Else1
-tested c = c .before .before .before
-
 returns-2 : tie.Need-returns-2
 returns-2 c =
     let w = c .before .before in
-    let e = tested w in
-    let a = start (e .before .before) .args in
+    let e = w .before .before .before .before in
+    let p = e .before .before in
+    let a = start p .args in
     rw (c .no-call2 .ensures)
     (no-desk (a .rig .now) (a .d) (passed e)
-    (rw (← rig e .processors)
+    (rw (← ap (λ (s : Size). s .processors) (p .open-parts .ensures .size))
     (sym (rw (w .before .wide82 .ensures, w .before .before .wide8 .ensures) at (w .is-within .ensures)) ∙ not-true (w .is-within .result) (c .before .if2 .taken))))
 
-desk : (c : tie.Else2) → let a = start (tested (c .before) .before .before) .args in processorOk (rigOf (a .rig .now) .processors) (a .d) ≡ true
-desk c =
-    let w = c .before in
-    rw (← rig (tested w) .processors)
-    (sym (rw (w .before .wide82 .ensures, w .before .before .wide8 .ensures) at (w .is-within .ensures)) ∙ not-false (w .is-within .result) (c .if2 .left))
+read-chosen-requires : tie.Need-read-chosen-requires
+read-chosen-requires c κs = search needs
 
-delivery-turn-requires : tie.Need-delivery-turn-requires
-delivery-turn-requires c κs = (record { last = _; system = _; on = rig (tested (c .before .before .before .before .before .before .before)) }, refl)
+earliest-in-requires : tie.Need-earliest-in-requires
+earliest-in-requires c κs =
+    let e = c .before .before .before .before .before .before .before .before in
+    let p = e .before .before in
+    let b = start p .args .rig .now in
+    (start p .pre .long, and-left (isImage b) (systemOk (rigOf b)) (passed e), used-is b (p .open-parts .ensures .size), few-here (p .open-parts .ensures) (not-false (p .open-parts .result .ok) (e .if1 .left)))
 
--- the delivery
-abbrev at-desk : tie.After-delivery-turn → tie.Else2
-at-desk c = c .before .before .before .before .before .before .before
+wide16-requires : tie.Need-wide16-requires
+wide16-requires c κs = search needs
 
-abbrev Delivered : tie.After-delivery-turn → Type 0
-Delivered c =
-    let p = tested (at-desk c .before) .before .before in
-    let a = start p .args in
-    let h = c .delivery-turn .last .1 .1 .1 in
-    TurnLeft (a .codes .now) (a .numbers .now) (a .users .now) (record { tasks = a .tasks; processors = getD (a .rig .now) 12 0; used = mail p .read-mail .result .used })
-    (deliveryTurn (rigOf (a .rig .now)) (a .d))
-    (c .delivery-turn .result .turn)
-    (c .delivery-turn .result .network)
-    (lent (h .0) (h .1 .0) (h .1 .1 .0) (h .1 .1 .1 .0) (h .1 .1 .1 .1 .0) (h .1 .1 .1 .1 .1 .0))
-    (choices p .read-chosen .result)
+letter-at-requires : tie.Need-letter-at-requires
+letter-at-requires c κs =
+    let e = c .before .before .before .before .before .before .before .before .before .before .before in
+    let p = e .before .before in
+    let b = start p .args .rig .now in
+    (start p .pre .long, omega (arith, c .wide16 .ensures, c .before .before .earliest-in .ensures, mail-there b (start p .args .d) (passed e)))
 
-delivered : (c : tie.After-delivery-turn) → Delivered c
-delivered c = c .delivery-turn .ensures _ _ (rig (tested (at-desk c .before)))
+sub-both-turns : tie.Need-sub-both-turns
+sub-both-turns c = search needs
 
-run-turn-requires : tie.Need-run-turn-requires
-run-turn-requires c κs =
-    let q = c .before .before .before .before .before .before .before .before in
-    let d = at-desk q in
-    let e = tested (d .before) in
-    let a = start (e .before .before) .args in
-    let r = rigOf (a .rig .now) in (
-      record { system = _; on = resized (delivered q .on) },
-      refl,
-      within-low 1 (r .processors) (a .d .0) (desk d),
-      omega (arith, within-high 1 (r .processors) (a .d .0) (desk d), within-high 1 6 (r .processors) (system-passed r (rig e .sound) .processors)),
-    )
+part-both-turns-start : tie.Need-part-both-turns-start
+part-both-turns-start c = search needs
 
--- the run
-abbrev came : tie.After-run-turn → tie.After-delivery-turn
-came c = c .before .before .before .before .before .before .before .before .before
+part-both-turns-end : tie.Need-part-both-turns-end
+part-both-turns-end c = omega (arith, c .before .before .before .before .before .before .before .before .before .before .before .before .before .before .before .before .before .before .before .before .before .before .before .before .before .before .before .before .before .before .before .pre .long)
 
-abbrev Ran : tie.After-run-turn → Type 0
-Ran c =
-    let q = came c in
-    let p = tested (at-desk q .before) .before .before in
-    let a = start p .args in
-    let h = c .run-turn .last .1 .1 .1 in
-    TurnLeft (a .codes .now) (a .numbers .now) (a .users .now) (record { tasks = a .tasks; processors = getD (a .rig .now) 12 0; used = q .delivery-turn .result .network .used })
-    (runTurn (deliveryTurn (rigOf (a .rig .now)) (a .d) .system) (a .d))
-    (c .run-turn .result .turn)
-    (c .run-turn .result .network)
-    (lent (h .0) (h .1 .0) (h .1 .1 .0) (h .1 .1 .1 .0) (h .1 .1 .1 .1 .0) (h .1 .1 .1 .1 .1 .0))
-    (h .1 .1 .1 .1 .1 .1 .1 .1 .0)
-
-ran : (c : tie.After-run-turn) → Ran c
-ran c = c .run-turn .ensures _ (resized (delivered (came c) .on))
+both-turns-requires : tie.Need-both-turns-requires
+both-turns-requires c κs =
+    let t = c .before .before .before .before .before .before .before .before in
+    record { runs = runs t; letter = given t; position = position t }
 
 slice-aggregate-bytes-fit : tie.Need-slice-aggregate-bytes-fit
-slice-aggregate-bytes-fit c = sym (lent-long (ran (c .before .before) .on) .hintprocessors)
+slice-aggregate-bytes-fit c = sym (tables-long (made (c .before .before .before) .run .on .on) .hintprocessors)
 
-bytes-fit-requires : tie.Need-bytes-fit-requires
-bytes-fit-requires c κs = search needs
+bytes-fit-requires-2 : tie.Need-bytes-fit-requires-2
+bytes-fit-requires-2 c κs = search needs
 
 slice-aggregate-counts-fit : tie.Need-slice-aggregate-counts-fit
-slice-aggregate-counts-fit c = sym (lent-long (ran (c .before .before .before .before) .on) .hintmoves)
+slice-aggregate-counts-fit c = sym (tables-long (made (c .before .before .before .before .before) .run .on .on) .hintmoves)
 
 counts-fit-requires : tie.Need-counts-fit-requires
 counts-fit-requires c κs = search needs
 
 slice-aggregate-bytes-fit-2 : tie.Need-slice-aggregate-bytes-fit-2
-slice-aggregate-bytes-fit-2 c = sym (lent-long (ran (c .before .before .before .before .before .before) .on) .heldprocessors)
-
-bytes-fit-requires-2 : tie.Need-bytes-fit-requires-2
-bytes-fit-requires-2 c κs = search needs
-
-slice-aggregate-bytes-fit-3 : tie.Need-slice-aggregate-bytes-fit-3
-slice-aggregate-bytes-fit-3 c = sym (lent-long (ran (c .before .before .before .before .before .before .before .before) .on) .heldnumbers)
+slice-aggregate-bytes-fit-2 c = sym (tables-long (made (c .before .before .before .before .before .before .before) .run .on .on) .heldprocessors)
 
 bytes-fit-requires-3 : tie.Need-bytes-fit-requires-3
 bytes-fit-requires-3 c κs = search needs
 
-slice-aggregate-bytes-fit-4 : tie.Need-slice-aggregate-bytes-fit-4
-slice-aggregate-bytes-fit-4 c = sym (lent-long (ran (c .before .before .before .before .before .before .before .before .before .before) .on) .notes)
+slice-aggregate-bytes-fit-3 : tie.Need-slice-aggregate-bytes-fit-3
+slice-aggregate-bytes-fit-3 c = sym (tables-long (made (c .before .before .before .before .before .before .before .before .before) .run .on .on) .heldnumbers)
 
 bytes-fit-requires-4 : tie.Need-bytes-fit-requires-4
 bytes-fit-requires-4 c κs = search needs
 
+slice-aggregate-bytes-fit-4 : tie.Need-slice-aggregate-bytes-fit-4
+slice-aggregate-bytes-fit-4 c = sym (tables-long (made (c .before .before .before .before .before .before .before .before .before .before .before) .run .on .on) .notes)
+
+bytes-fit-requires-5 : tie.Need-bytes-fit-requires-5
+bytes-fit-requires-5 c κs = search needs
+
 slice-aggregate-numbers-fit : tie.Need-slice-aggregate-numbers-fit
-slice-aggregate-numbers-fit c = sym (ran (c .before .before .before .before .before .before .before .before .before .before .before .before) .on .whole)
+slice-aggregate-numbers-fit c = sym (made (c .before .before .before .before .before .before .before .before .before .before .before .before .before) .run .on .on .whole)
 
 numbers-fit-requires : tie.Need-numbers-fit-requires
 numbers-fit-requires c κs = search needs
 
 slice-aggregate-bytes-fit-5 : tie.Need-slice-aggregate-bytes-fit-5
-slice-aggregate-bytes-fit-5 c = sym (chosen-long (ran (c .before .before .before .before .before .before .before .before .before .before .before .before .before .before) .on))
+slice-aggregate-bytes-fit-5 c = sym (chosen-long (made (c .before .before .before .before .before .before .before .before .before .before .before .before .before .before .before) .run .on .on))
 
-bytes-fit-requires-5 : tie.Need-bytes-fit-requires-5
-bytes-fit-requires-5 c κs = search needs
+bytes-fit-requires-6 : tie.Need-bytes-fit-requires-6
+bytes-fit-requires-6 c κs = search needs
 
-letters-fit-requires : tie.Need-letters-fit-requires
-letters-fit-requires c κs = few-letters (ran (c .before .before .before .before .before .before .before .before .before .before .before .before .before .before .before) .on)
-
-write-parts-requires : tie.Need-write-parts-requires
-write-parts-requires c κs = start (tested (at-desk (came (c .before .before .before .before .before .before .before .before .before .before .before .before .before .before .before .before .before .before .before .before .before .before .before)) .before) .before .before) .pre .long
+write-lent-requires : tie.Need-write-lent-requires
+write-lent-requires c κs =
+    let t = c .before .before .before .before .before .before .before .before .before .before .before .before .before .before .before .before .before .before .before .before .before .before .before in
+    let s = start (opened (t .before .before .before .before .before .before .before .before .before)) in
+    back-long (s .args .rig .now) (s .pre .long) (t .both-turns .last .1 .1 .1 .1 .1 .1 .1 .1 .1 .0) (mail-long (made t .run .on))
 
 same-length-3 : tie.Need-same-length-3
-same-length-3 c = search needs
+same-length-3 c =
+    let w = c .before .before in
+    let t = w .before .before .before .before .before .before .before .before .before .before .before .before .before .before .before .before .before .before .before .before .before .before .before .before in
+    let s = start (opened (t .before .before .before .before .before .before .before .before .before)) in
+    omega (arith, c .before .rig2 .given, back-long (s .args .rig .now) (s .pre .long) (t .both-turns .last .1 .1 .1 .1 .1 .1 .1 .1 .1 .0) (mail-long (made t .run .on)), s .pre .long)
 
 returns-3 : tie.Need-returns-3
 returns-3 c =
     let w = c .before .before in
     let z = w .before .before .before .before .before .before .before .before in
-    let m = z .before .before .before .before .before .before .before .before .before .before .before .before .before .before .before .before in
-    let q = came m in
-    let d = at-desk q in
-    let e = tested (d .before) in
-    let s = start (e .before .before) in
+    let t = z .before .before .before .before .before .before .before .before .before .before .before .before .before .before .before .before in
+    let l = t .before .before .before .before .before .before .before .before .before in
+    let p = opened l in
+    let s = start p in
     let a = s .args in
-    call-written (a .rig .now) (a .d) (passed e) (desk d) (a .lengths .now) (a .codes .now) (a .numbers .now) (a .users .now) (a .tasks) (s .pre)
-    (q .delivery-turn .result .turn)
-    (m .run-turn .result .turn)
-    (delivered q)
-    (ran m)
-    (rig e .processors)
+    call-written (a .rig .now) (a .d) (passed (tested l)) (desk (l .before .before .before .before .before .before .before)) (a .lengths .now) (a .codes .now) (a .users .now) (a .tasks) (s .pre)
+    (t .both-turns .result .delivery)
+    (t .both-turns .result .run)
+    (made t)
+    (ap (λ (x : Size). x .processors) (p .open-parts .ensures .size))
     (record {
-      hintprocessors = z .before .before .before .before .before .before .before .before .before .before .before .before .before .bytes-fit .ensures;
-      hintmoves = z .before .before .before .before .before .before .before .before .before .before .before .counts-fit .ensures;
-      heldprocessors = z .before .before .before .before .before .before .before .before .before .bytes-fit2 .ensures;
-      heldnumbers = z .before .before .before .before .before .before .before .bytes-fit3 .ensures;
-      notes = z .before .before .before .before .before .bytes-fit4 .ensures;
-      board = z .before .before .before .numbers-fit .ensures;
-      letters = z .letters-fit .ensures;
-      chosen = z .before .bytes-fit5 .ensures;
+      hintprocessors = z .before .before .before .before .before .before .before .before .before .before .before .before .bytes-fit2 .ensures;
+      hintmoves = z .before .before .before .before .before .before .before .before .before .before .counts-fit .ensures;
+      heldprocessors = z .before .before .before .before .before .before .before .before .bytes-fit3 .ensures;
+      heldnumbers = z .before .before .before .before .before .before .bytes-fit4 .ensures;
+      notes = z .before .before .before .before .bytes-fit5 .ensures;
+      board = z .before .before .numbers-fit .ensures;
+      chosen = z .bytes-fit6 .ensures;
     })
-    (w .write-parts .ensures)
+    (w .write-lent .ensures)
 
 pub call-parts-spec : {M : Type 1} → statement M
-call-parts-spec =
-    tie.close
-    (tie.spec
-    read-parts-requires
-    read-mail-requires
-    read-chosen-requires
-    slice-read-processors
-    passes-requires
-    no-call-requires
-    same-length
-    returns
-    wide8-requires
-    wide8-requires-2
-    is-within-requires
-    no-call-requires-2
-    same-length-2
-    returns-2
-    delivery-turn-requires
-    run-turn-requires
-    slice-aggregate-bytes-fit
-    bytes-fit-requires
-    slice-aggregate-counts-fit
-    counts-fit-requires
-    slice-aggregate-bytes-fit-2
-    bytes-fit-requires-2
-    slice-aggregate-bytes-fit-3
-    bytes-fit-requires-3
-    slice-aggregate-bytes-fit-4
-    bytes-fit-requires-4
-    slice-aggregate-numbers-fit
-    numbers-fit-requires
-    slice-aggregate-bytes-fit-5
-    bytes-fit-requires-5
-    letters-fit-requires
-    write-parts-requires
-    same-length-3
-    returns-3)
+call-parts-spec = tie.close (tie.spec bytes-fit-requires open-parts-requires no-call-requires same-length returns wide8-requires wide8-requires-2 is-within-requires no-call-requires-2 same-length-2 returns-2 read-chosen-requires earliest-in-requires wide16-requires letter-at-requires sub-both-turns part-both-turns-start part-both-turns-end both-turns-requires slice-aggregate-bytes-fit bytes-fit-requires-2 slice-aggregate-counts-fit counts-fit-requires slice-aggregate-bytes-fit-2 bytes-fit-requires-3 slice-aggregate-bytes-fit-3 bytes-fit-requires-4 slice-aggregate-bytes-fit-4 bytes-fit-requires-5 slice-aggregate-numbers-fit numbers-fit-requires slice-aggregate-bytes-fit-5 bytes-fit-requires-6 write-lent-requires same-length-3 returns-3)

@@ -1,13 +1,11 @@
--- `plan_in`: a plan file that is too long is refused, any other is loaded.
+-- `plan_in`: a plan file that is too long is refused, any other is opened.
 use borrow.Author.Needs.{needs}
 use native.Mathlib.Omega.{arith}
-use mathlib.Core.Path.{_≡_, subst}
+use mathlib.Core.Path.{_≡_, ap}
 use Prim.Native.Nat.{ℕ, _+_, _-_}
 use lib.ListN.{take, drop}
 use Rattle.image.specs.Numbers.{numberAt}
-use Rattle.plan.specs.Outcomes.{planRead}
-use Rattle.plan_file.specs.Stages.{Loads}
-use Rattle.live.proofs.Opened.{too-long, loaded}
+use Rattle.live.proofs.Opened.{too-long, plan-opened}
 use Rattle.live.proofs.open.plan_in.Statement.{statement}
 use Rattle.live.proofs.open.plan_in.Tie as tie
 
@@ -26,25 +24,24 @@ returns c =
 add-end : tie.Need-add-end
 add-end c = search needs
 
-sub-load : tie.Need-sub-load
-sub-load c = search needs
+sub-open : tie.Need-sub-open
+sub-open c = search needs
 
-part-load-start : tie.Need-part-load-start
-part-load-start c = search needs
+part-open-start : tie.Need-part-open-start
+part-open-start c = search needs
 
-part-load-end : tie.Need-part-load-end
-part-load-end c = search needs
+part-open-end : tie.Need-part-open-end
+part-open-end c = search needs
 
-load-requires : tie.Need-load-requires
-load-requires c κs = search needs
+open-requires : tie.Need-open-requires
+open-requires c κs = c .before .before .before .before .before .before .before .before .pre .1
 
 returns-2 : tie.Need-returns-2
 returns-2 c =
-    let n = c .before .before .before in
-    let s = c .before .before .before .before .before in
-    loaded (s .args .rig .now) (c .load .result) (omega (arith, n .number4 .ensures))
-    (let size : 20 + n .number4 .result - 20 ≡ numberAt 4 (s .args .rig .now) 4 = omega (arith, n .number4 .ensures) in
-    subst (λ (k : ℕ). Loads (planRead (take k (drop 20 (s .args .rig .now)))) (c .load .result)) size (c .load .ensures))
+    let n = c .before .before .before .before .before .before .before in
+    let s = c .before .before .before .before .before .before .before .before .before in
+    let size : 20 + n .number4 .result - 20 ≡ numberAt 4 (s .args .rig .now) 4 = omega (arith, n .number4 .ensures) in
+    plan-opened (s .args .rig .now) (c .open .result) (omega (arith, n .number4 .ensures)) (ap (λ (k : ℕ). take k (drop 20 (s .args .rig .now))) size) (c .open .ensures)
 
 pub plan-in-spec : {M : Type 1} → statement M
 plan-in-spec =
@@ -54,8 +51,8 @@ plan-in-spec =
     no-plan-requires
     returns
     add-end
-    sub-load
-    part-load-start
-    part-load-end
-    load-requires
+    sub-open
+    part-open-start
+    part-open-end
+    open-requires
     returns-2)

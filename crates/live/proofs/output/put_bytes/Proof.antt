@@ -5,7 +5,7 @@ use Prim.Native.Nat.{ℕ, _-_, _≤_}
 use native.Mathlib.Omega.{arith}
 use lib.ListN.{length, take, drop, getD, set, length-set}
 use lib.Seq.{take-length}
-use Rattle.live.proofs.Puts.{put-next}
+use Rattle.panel.proofs.Puts.{put-next}
 use Rattle.live.proofs.output.put_bytes.Statement.{statement}
 use Rattle.live.proofs.output.put_bytes.Tie as tie
 

@@ -6,8 +6,15 @@ use Rattle.live.proofs.Starts.{few-users, plan-room, start-written}
 use Rattle.live.proofs.start.start_in.Statement.{statement}
 use Rattle.live.proofs.start.start_in.Tie as tie
 
+-- where the users are known, and where the head was written
+abbrev begin : tie.After-users → tie.Start
+begin c = c .before .before .before
+
+abbrev built : tie.After-write-head → tie.After-build
+built c = c .before .before .before .before .before .before .before .before .before .before .before .before .before .before
+
 build-requires : tie.Need-build-requires
-build-requires c κs = (refl, few-users (c .before .before .before .pre))
+build-requires c κs = (refl, few-users (begin c .pre))
 
 no-tables-requires : tie.Need-no-tables-requires
 no-tables-requires c κs = search needs
@@ -18,14 +25,22 @@ start-board-requires c κs = search needs
 locate-requires : tie.Need-locate-requires
 locate-requires c κs = search needs
 
-no-messages-requires : tie.Need-no-messages-requires
-no-messages-requires c κs = search needs
-
 write-head-requires : tie.Need-write-head-requires
-write-head-requires c κs = (c .before .before .before .before .before .before .before .before .before .before .before .before .before .before .before .before .before .before .pre .long, plan-room (c .before .before .before .before .before .before .before .before .before .before .before .before .before .before .before .before .before .before .pre) (λ i. omega (arith, c .before .before .before .before .before .before .before .before .before .before .before .before .before .before .before .before .shared-slice-known .given i)))
+write-head-requires c κs =
+    let p = c .before .before .before .before .before .before .before .before .before .before .before .before .before .before .before in
+    let s = p .before .before in
+    (s .pre .long, plan-room (s .pre) (λ i. omega (arith, p .shared-slice-known .given i)))
 
-write-parts-requires : tie.Need-write-parts-requires
-write-parts-requires c κs = omega (arith, c .before .before .before .before .before .before .before .before .rig .given, c .before .before .before .before .before .before .before .before .before .before .before .before .before .before .before .before .before .before .before .before .before .before .before .before .before .before .before .before .pre .long)
+put-zeros-requires : tie.Need-put-zeros-requires
+put-zeros-requires c κs =
+    let r = c .before .before in
+    omega (arith, r .rig .given, begin (built (r .before) .before) .pre .long)
+
+write-lent-requires : tie.Need-write-lent-requires
+write-lent-requires c κs =
+    let z = c .before .before .before .before .before .before .before .before in
+    let r = z .before .before .before .before in
+    omega (arith, z .rig2 .given, r .rig .given, begin (built (r .before) .before) .pre .long)
 
 same-length : tie.Need-same-length
 same-length c = search needs
@@ -33,15 +48,17 @@ same-length c = search needs
 returns : tie.Need-returns
 returns c =
     let w = c .before .before in
-    let m = c .before .before .before .before .before .before .before .before .before .before .before .before .before .before in
-    let at = m .before in
+    let z = w .before .before .before .before .before .before .before .before .before .before in
+    let r = z .before .before .before in
+    let h = r .before in
+    let at = h .before .before in
     let on = at .before .before .before .before in
-    let z = on .before .before .before .before .before .before .before in
-    let u = z .before in
-    let s = u .before .before .before .before in
-    start-written (s .pre) (u .build .ensures) (m .no-messages .ensures) (z .no-tables .ensures) (on .start-board .ensures)
-    (at .locate .ensures (z .no-tables .result .heldprocessors) (z .no-tables .result .heldnumbers) (z .no-tables .result .notes) (on .start-board .last .0) (on .start-board .ensures .whole))
-    (λ i. omega (arith, u .before .before .shared-slice-known .given i)) (c .before .before .before .before .before .before .before .before .before .before .before .before .write-head .ensures) (w .write-parts .ensures)
+    let none = on .before .before .before .before .before .before .before in
+    let u = none .before in
+    let s = begin (u .before) in
+    start-written (s .pre) (u .build .ensures) (none .no-tables .ensures) (on .start-board .ensures)
+    (at .locate .ensures (none .no-tables .result .heldprocessors) (none .no-tables .result .heldnumbers) (none .no-tables .result .notes) (on .start-board .last .0) (on .start-board .ensures .whole))
+    (λ i. omega (arith, u .before .before .shared-slice-known .given i)) (omega (arith, r .rig .given, s .pre .long)) (h .write-head .ensures) (z .put-zeros .ensures) (w .write-lent .ensures)
 
 pub start-in-spec : {M : Type 1} → statement M
 start-in-spec =
@@ -51,8 +68,8 @@ start-in-spec =
     no-tables-requires
     start-board-requires
     locate-requires
-    no-messages-requires
     write-head-requires
-    write-parts-requires
+    put-zeros-requires
+    write-lent-requires
     same-length
     returns)

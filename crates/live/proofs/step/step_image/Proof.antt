@@ -1,16 +1,14 @@
 -- `step_image`: a plan that is refused is answered 9; else what is derived of it goes beside the bytes.
 use mathlib.Core.Path.{_≡_, refl}
-use Rattle.plan.specs.declared.PlanAnswer.the-variants.{Accepted}
-use borrow.Author.Needs.{needs}
-use Rattle.live.proofs.Opened.{refused-plan}
-use Rattle.live.proofs.Panels.{accepted-here, users-here}
+use Rattle.live.proofs.Opened.{refused-plan, users-of}
 use Rattle.live.proofs.Turns.{planned}
 use Rattle.live.proofs.Stepped.{bad-bytes}
+use borrow.Author.Needs.{needs}
 use Rattle.live.proofs.step.step_image.Statement.{statement}
 use Rattle.live.proofs.step.step_image.Tie as tie
 
 plan-in-requires : tie.Need-plan-in-requires
-plan-in-requires c κs = search needs
+plan-in-requires c κs = (c .before .before .before .before .before .before .pre, (refl, refl, refl, refl))
 
 enum-told : tie.Need-enum-told
 enum-told c = search needs
@@ -21,26 +19,15 @@ bad-system-requires c κs = search needs
 enum-told-2 : tie.Need-enum-told-2
 enum-told-2 c = search needs
 
--- where the plan was loaded
-abbrev loaded : tie.After-enum-told2 → tie.After-plan-in
-loaded c = c .before .before
-
-abbrev told : tie.After-send-numbers → tie.After-enum-told2
-told c = c .before .before .before .before
-
-send-numbers-requires : tie.Need-send-numbers-requires
-send-numbers-requires c κs = let e = c .before .before .before in accepted-here (loaded e .plan-in .ensures) (e .enum-told2 .given .1)
-
 build-requires : tie.Need-build-requires
-build-requires c κs = let e = told (c .before .before .before .before .before) in (refl, users-here (loaded e .plan-in .ensures) (e .enum-told2 .given .1))
+build-requires c κs = (refl, users-of (c .before .before .before .before .before .before .before .plan-in .ensures) (c .before .before .before .before .before .enum-told2 .given .1))
 
 step-parts-requires : tie.Need-step-parts-requires
 step-parts-requires c κs =
-    let built = c .before .before .before .before .before .before in
-    let n = built .before .before .before .before .before .before in
-    let e = told n in
-    let l = loaded e in
-    planned (l .plan-in .ensures) (e .enum-told2 .given .1) (l .before .before .before .pre) (n .send-numbers .ensures) (built .build .ensures)
+    let b = c .before .before .before .before in
+    let e = b .before .before .before .before .before .before in
+    let l = e .before .before in
+    planned (l .plan-in .ensures) (e .enum-told2 .given .1) (l .before .before .before .before .before .before .before .pre) (b .build .ensures)
 
 same-length : tie.Need-same-length
 same-length c = search needs
@@ -48,7 +35,7 @@ same-length c = search needs
 returns : tie.Need-returns
 returns c =
     let l = c .before .before .before in
-    let s = l .before .before .before in
+    let s = l .before .before .before .before .before .before .before in
     rw (c .bad-system .ensures) (bad-bytes (s .args .rig .now) (s .args .s) (refused-plan (l .plan-in .ensures) (c .before .enum-told .given .1)))
 
 same-length-2 : tie.Need-same-length-2
@@ -58,17 +45,4 @@ returns-2 : tie.Need-returns-2
 returns-2 c = search needs
 
 pub step-image-spec : {M : Type 1} → statement M
-step-image-spec =
-    tie.close
-    (tie.spec
-    plan-in-requires
-    enum-told
-    bad-system-requires
-    enum-told-2
-    send-numbers-requires
-    build-requires
-    step-parts-requires
-    same-length
-    returns
-    same-length-2
-    returns-2)
+step-image-spec = tie.close (tie.spec plan-in-requires enum-told bad-system-requires enum-told-2 build-requires step-parts-requires same-length returns same-length-2 returns-2)

@@ -1,50 +1,109 @@
--- `step_parts`: the parts of the bytes, 9, the step on them, and the parts written.
+-- `step_parts`: the parts of the bytes, 9, the step on them and on the mail, and the parts written.
 use mathlib.Core.Path.{_≡_, refl, sym, _∙_}
 use mathlib.Core.Bool.{true}
-use lib.ListN.{getD}
-use borrow.Author.Needs.{needs}
+use native.Mathlib.Omega.{arith}
 use borrow.Author.Tests.{not-true, not-false}
-use Rattle.rules.specs.Steps.{step}
+use Rattle.plan.specs.declared.PlanAnswer.the-variants.{Accepted}
+use Rattle.plan.specs.Programs.{programs}
+use Rattle.plan.specs.Refusals.{planAnswer}
+use Rattle.plan_value.specs.Slots.{planIn}
 use Rattle.board.specs.Lent.{lent}
-use Rattle.dispatch.specs.Boards.{On}
 use Rattle.image.specs.Image.{rigOf}
+use Rattle.rig_write.proofs.Loans.{mailOf, lent-long, back-long}
 use Rattle.live.specs.Open.{sound}
-use Rattle.live.proofs.Opened.{opened}
-use Rattle.live.proofs.Turns.{on-opened, rig-with, on-turn, lent-long, chosen-long, few-letters}
+use Rattle.rig_step.specs.Acts.{Delivers}
+use Rattle.live.specs.Calls.{RigLive, StepLeft}
+use Rattle.live.proofs.Opened.{blank-room, sound-here, few-here, refused-here}
+use Rattle.live.proofs.Turns.{live-opened, accepted-opened, letter-opened, lent-long as tables-long, chosen-long}
+use Rattle.live.proofs.Making.{mail-long}
 use Rattle.live.proofs.Stepped.{bad-bytes, turn-refused, turn-written}
+use borrow.Author.Needs.{needs}
 use Rattle.live.proofs.step.step_parts.Statement.{statement}
 use Rattle.live.proofs.step.step_parts.Tie as tie
 
--- where the parts are read
-abbrev start : tie.After-board2 → tie.Start
-start c = c .before .before .before .before .before .before .before .before .before .before .before .before .before .before .before .before .before .before .before .before .before
+-- where the bytes were opened
+abbrev start : tie.After-open-parts → tie.Start
+start c = c .before .before .before .before .before .before .before .before .before .before .before
 
-abbrev parts : tie.After-board2 → tie.After-read-parts
-parts c = c .before .before .before .before .before .before .before .before .before .before .before .before
+-- 9 does not refuse them
+passed : (e : tie.Else1) → sound (start (e .before .before) .args .rig .now) ≡ true
+passed e = let p = e .before .before in sound-here (p .open-parts .ensures) (not-false (p .open-parts .result .ok) (e .if1 .left))
 
-abbrev mail : tie.After-board2 → tie.After-read-mail
-mail c = c .before .before .before .before .before .before .before .before .before .before
+-- where the letter was read
+abbrev opened : tie.After-letter-at → tie.After-open-parts
+opened c = c .before .before .before .before .before .before .before .before
 
-abbrev choices : tie.After-board2 → tie.After-read-chosen
-choices c = c .before .before .before .before .before .before .before .before
+abbrev tested : tie.After-letter-at → tie.Else1
+tested c = c .before .before .before .before .before .before
 
-read-parts-requires : tie.Need-read-parts-requires
-read-parts-requires c κs = (c .before .before .before .before .before .before .before .before .pre .long, record { hintprocessors = refl; hintmoves = refl; heldprocessors = refl; heldnumbers = refl; notes = refl; board = refl })
+abbrev choices : tie.After-letter-at → tie.After-read-chosen
+choices c = c .before .before .before
 
-read-mail-requires : tie.Need-read-mail-requires
-read-mail-requires c κs = search needs
+-- their rig is lent
+abbrev Live-rig : tie.After-letter-at → Type 0
+Live-rig c =
+    let p = opened c in
+    let a = start p .args in
+    let h = p .open-parts .last .1 .1 .1 .1 in
+    RigLive (a .lengths .now) (a .codes .now) (a .users .now) (p .open-parts .result .size)
+    (lent (h .0) (h .1 .0) (h .1 .1 .0) (h .1 .1 .1 .0) (h .1 .1 .1 .1 .0) (h .1 .1 .1 .1 .1 .0))
+    (mailOf (a .rig .now)) (choices c .read-chosen .result) (rigOf (a .rig .now))
 
-read-chosen-requires : tie.Need-read-chosen-requires
-read-chosen-requires c κs = search needs
+live : (c : tie.After-letter-at) → Live-rig c
+live c =
+    let p = opened c in
+    let a = start p .args in
+    live-opened (a .rig .now) (a .lengths .now) (a .codes .now) (a .users .now) (a .tasks) (start p .pre)
+    (p .open-parts .ensures .parts)
+    (p .open-parts .ensures .size)
+    (choices c .read-chosen .ensures)
+    (passed (tested c))
+    (p .before .before .before .before .before .before .before .before .bytes-fit .ensures)
 
-slice-read-processors : tie.Need-slice-read-processors
-slice-read-processors c = search needs
+accepted : (c : tie.After-letter-at) → let p = opened c in let a = start p .args in
+    planAnswer (programs (planIn (p .open-parts .result .size .tasks) (a .lengths .now) (a .codes .now))) ≡ Accepted
+accepted c =
+    let p = opened c in
+    let a = start p .args in
+    accepted-opened (a .rig .now) (a .lengths .now) (a .codes .now) (a .users .now) (a .tasks) (start p .pre)
+    (p .open-parts .ensures .parts)
+    (p .open-parts .ensures .size)
+    (choices c .read-chosen .ensures)
+    (passed (tested c))
 
-passes-requires : tie.Need-passes-requires
-passes-requires c κs =
-    let a = start c .args in
-    let g = start c .pre in
-    opened (a .rig .now) (a .lengths .now) (a .codes .now) (a .tasks) (g .long) (g .plan) (parts c .read-parts .ensures) (mail c .read-mail .ensures) (choices c .read-chosen .ensures)
+-- the step was made
+abbrev Made-rig : tie.After-make → Type 0
+Made-rig t =
+    let c = t .before .before .before .before .before .before .before .before in
+    let a = start (opened c) .args in
+    let h = t .make .last .1 .1 .1 in
+    StepLeft (a .lengths .now) (a .codes .now) (a .users .now) (opened c .open-parts .result .size) (rigOf (a .rig .now)) (a .s)
+    (t .make .result .report) (t .make .result .used)
+    (lent (h .0) (h .1 .0) (h .1 .1 .0) (h .1 .1 .1 .0) (h .1 .1 .1 .1 .0) (h .1 .1 .1 .1 .1 .0))
+    (h .1 .1 .1 .1 .1 .1 .0) (choices c .read-chosen .result)
+
+given : (c : tie.After-letter-at) → let a = start (opened c) .args in
+    Delivers (opened c .open-parts .result .size) (rigOf (a .rig .now) .network) (c .letter-at .result) (a .s)
+given c =
+    let p = opened c in
+    let a = start p .args in
+    letter-opened (a .rig .now) (a .lengths .now) (a .codes .now) (a .users .now) (a .tasks) (start p .pre)
+    (p .open-parts .ensures .parts)
+    (p .open-parts .ensures .size)
+    (choices c .read-chosen .ensures)
+    (passed (tested c))
+    (a .s)
+    (c .before .position .ensures .0)
+    (c .letter-at .ensures)
+
+made : (t : tie.After-make) → Made-rig t
+made t = let c = t .before .before .before .before .before .before .before .before in t .make .ensures _ _ (live c) (given c)
+
+bytes-fit-requires : tie.Need-bytes-fit-requires
+bytes-fit-requires c κs = search needs
+
+open-parts-requires : tie.Need-open-parts-requires
+open-parts-requires c κs = let s = c .before .before .before .before .before .before .before .before .before .before in (s .pre .long, s .pre .plan, blank-room)
 
 bad-system-requires : tie.Need-bad-system-requires
 bad-system-requires c κs = search needs
@@ -54,187 +113,130 @@ same-length c = search needs
 
 returns : tie.Need-returns
 returns c =
-    let p = c .before .before in
-    let a = start (p .before) .args in
-    rw (c .bad-system .ensures) (bad-bytes (a .rig .now) (a .s) (sym (p .passes .ensures) ∙ not-true (p .passes .result) (c .before .if1 .taken)))
-
--- 9 does not refuse the bytes
-passed : (c : tie.Else1) → sound (start (c .before .before) .args .rig .now) ≡ true
-passed c = let p = c .before in sym (p .passes .ensures) ∙ not-false (p .passes .result) (c .if1 .left)
-
--- their rig is lent
-abbrev Lent-rig : tie.Else1 → Type 0
-Lent-rig c =
-    let p = c .before .before in
+    let p = c .before .before .before in
     let a = start p .args in
-    let h = parts p .read-parts .last .1 in
-    On (a .codes .now) (a .numbers .now) (a .users .now) (record { tasks = a .tasks; processors = getD (a .rig .now) 12 0; used = mail p .read-mail .result .used })
-    (mail p .read-mail .result)
-    (lent (h .0) (h .1 .0) (h .1 .1 .0) (h .1 .1 .1 .0) (h .1 .1 .1 .1 .0) (h .1 .1 .1 .1 .1 .0))
-    (choices p .read-chosen .result)
-    (rigOf (a .rig .now))
+    rw (c .bad-system .ensures) (bad-bytes (a .rig .now) (a .s) (refused-here (p .open-parts .ensures) (not-true (p .open-parts .result .ok) (c .before .if1 .taken))))
 
-rig : (c : tie.Else1) → Lent-rig c
-rig c =
-    let p = c .before .before in
-    let a = start p .args in
-    on-opened (a .rig .now) (a .lengths .now) (a .codes .now) (a .numbers .now) (a .users .now) (a .tasks) (start p .pre)
-    (parts p .read-parts .ensures)
-    (mail p .read-mail .ensures)
-    (choices p .read-chosen .ensures)
-    (passed c)
+read-chosen-requires : tie.Need-read-chosen-requires
+read-chosen-requires c κs = search needs
 
-turn-on-requires : tie.Need-turn-on-requires
-turn-on-requires c κs = rig-with (rig (c .before .before .before .before .before .before)) refl
+position-requires : tie.Need-position-requires
+position-requires c κs = search needs
+
+letter-at-requires : tie.Need-letter-at-requires
+letter-at-requires c κs =
+    let e = c .before .before .before .before .before in
+    let p = e .before .before in
+    (start p .pre .long, omega (arith, c .position .ensures .1, few-here (p .open-parts .ensures) (not-false (p .open-parts .result .ok) (e .if1 .left))))
+
+sub-make : tie.Need-sub-make
+sub-make c = search needs
+
+part-make-start : tie.Need-part-make-start
+part-make-start c = search needs
+
+part-make-end : tie.Need-part-make-end
+part-make-end c = omega (arith, c .before .before .before .before .before .before .before .before .before .before .before .before .before .before .before .before .before .before .before .before .before .before .before .before .before .pre .long)
+
+make-requires : tie.Need-make-requires
+make-requires c κs =
+    let t = c .before .before .before .before .before .before .before in
+    record { last = _; some = record { accepted = accepted t; system = _; on = live t }; letter = given t }
 
 is-accepted-requires : tie.Need-is-accepted-requires
 is-accepted-requires c κs = search needs
 
 same-length-2 : tie.Need-same-length-2
-same-length-2 c = search needs
-
--- where the step was made
-abbrev made : tie.After-is-accepted → tie.After-turn-on
-made c = c .before .before
-
-abbrev before : tie.After-turn-on → tie.Else1
-before c = c .before .before .before .before .before .before .before
+same-length-2 c =
+    let t = c .before .before .before .before .before in
+    let s = start (opened (t .before .before .before .before .before .before .before .before)) in
+    back-long (s .args .rig .now) (s .pre .long) (t .make .last .1 .1 .1 .1 .1 .1 .1 .1 .1 .0) (mail-long (made t .on)) ∙ sym (s .pre .long)
 
 returns-2 : tie.Need-returns-2
 returns-2 c =
-    let t = made (c .before) in
-    let e = before t in
-    let s = start (e .before .before) in
+    let t = c .before .before .before .before .before in
+    let l = t .before .before .before .before .before .before .before .before in
+    let s = start (opened l) in
     let a = s .args in
-    turn-refused (a .rig .now) (a .lengths .now) (a .codes .now) (a .numbers .now) (a .users .now) (a .tasks) (s .pre) (passed e) (rig e) (a .s) (t .turn-on .result .report)
-    (t .turn-on .ensures)
+    turn-refused (a .rig .now) (a .lengths .now) (a .codes .now) (a .users .now) (a .tasks) (s .pre) (passed (tested l)) (a .s) (t .make .result .report) (made t) (live l .mail-in .bytes)
     (sym (c .before .is-accepted .ensures) ∙ not-true (c .before .is-accepted .result) (c .if2 .taken))
 
--- the rig that it leaves
-abbrev Left-rig : tie.Else2 → Type 0
-Left-rig c =
-    let t = made (c .before) in
-    let p = before t .before .before in
-    let a = start p .args in
-    let h = t .turn-on .last .1 .1 .1 in
-    On (a .codes .now) (a .numbers .now) (a .users .now) (record { tasks = a .tasks; processors = getD (a .rig .now) 12 0; used = mail p .read-mail .result .used })
-    (t .turn-on .result .network)
-    (lent (h .0) (h .1 .0) (h .1 .1 .0) (h .1 .1 .1 .0) (h .1 .1 .1 .1 .0) (h .1 .1 .1 .1 .1 .0))
-    (choices p .read-chosen .result)
-    (step (rigOf (a .rig .now)) (a .s) .system)
-
-turned : (c : tie.Else2) → Left-rig c
-turned c =
-    let t = made (c .before) in
-    let e = before t in
-    on-turn (rig e) (start (e .before .before) .args .s) (t .turn-on .ensures)
-
 slice-aggregate-bytes-fit : tie.Need-slice-aggregate-bytes-fit
-slice-aggregate-bytes-fit c = sym (lent-long (turned (c .before .before)) .hintprocessors)
+slice-aggregate-bytes-fit c = sym (tables-long (made (c .before .before .before .before .before .before) .on .on) .hintprocessors)
 
-bytes-fit-requires : tie.Need-bytes-fit-requires
-bytes-fit-requires c κs = search needs
+bytes-fit-requires-2 : tie.Need-bytes-fit-requires-2
+bytes-fit-requires-2 c κs = search needs
 
 slice-aggregate-counts-fit : tie.Need-slice-aggregate-counts-fit
-slice-aggregate-counts-fit c = sym (lent-long (turned (c .before .before .before .before)) .hintmoves)
+slice-aggregate-counts-fit c = sym (tables-long (made (c .before .before .before .before .before .before .before .before) .on .on) .hintmoves)
 
 counts-fit-requires : tie.Need-counts-fit-requires
 counts-fit-requires c κs = search needs
 
 slice-aggregate-bytes-fit-2 : tie.Need-slice-aggregate-bytes-fit-2
-slice-aggregate-bytes-fit-2 c = sym (lent-long (turned (c .before .before .before .before .before .before)) .heldprocessors)
-
-bytes-fit-requires-2 : tie.Need-bytes-fit-requires-2
-bytes-fit-requires-2 c κs = search needs
-
-slice-aggregate-bytes-fit-3 : tie.Need-slice-aggregate-bytes-fit-3
-slice-aggregate-bytes-fit-3 c = sym (lent-long (turned (c .before .before .before .before .before .before .before .before)) .heldnumbers)
+slice-aggregate-bytes-fit-2 c = sym (tables-long (made (c .before .before .before .before .before .before .before .before .before .before) .on .on) .heldprocessors)
 
 bytes-fit-requires-3 : tie.Need-bytes-fit-requires-3
 bytes-fit-requires-3 c κs = search needs
 
-slice-aggregate-bytes-fit-4 : tie.Need-slice-aggregate-bytes-fit-4
-slice-aggregate-bytes-fit-4 c = sym (lent-long (turned (c .before .before .before .before .before .before .before .before .before .before)) .notes)
+slice-aggregate-bytes-fit-3 : tie.Need-slice-aggregate-bytes-fit-3
+slice-aggregate-bytes-fit-3 c = sym (tables-long (made (c .before .before .before .before .before .before .before .before .before .before .before .before) .on .on) .heldnumbers)
 
 bytes-fit-requires-4 : tie.Need-bytes-fit-requires-4
 bytes-fit-requires-4 c κs = search needs
 
+slice-aggregate-bytes-fit-4 : tie.Need-slice-aggregate-bytes-fit-4
+slice-aggregate-bytes-fit-4 c = sym (tables-long (made (c .before .before .before .before .before .before .before .before .before .before .before .before .before .before) .on .on) .notes)
+
+bytes-fit-requires-5 : tie.Need-bytes-fit-requires-5
+bytes-fit-requires-5 c κs = search needs
+
 slice-aggregate-numbers-fit : tie.Need-slice-aggregate-numbers-fit
-slice-aggregate-numbers-fit c = search needs
+slice-aggregate-numbers-fit c = sym (made (c .before .before .before .before .before .before .before .before .before .before .before .before .before .before .before .before) .on .on .whole)
 
 numbers-fit-requires : tie.Need-numbers-fit-requires
 numbers-fit-requires c κs = search needs
 
 slice-aggregate-bytes-fit-5 : tie.Need-slice-aggregate-bytes-fit-5
-slice-aggregate-bytes-fit-5 c = sym (chosen-long (turned (c .before .before .before .before .before .before .before .before .before .before .before .before .before .before)))
+slice-aggregate-bytes-fit-5 c = sym (chosen-long (made (c .before .before .before .before .before .before .before .before .before .before .before .before .before .before .before .before .before .before) .on .on))
 
-bytes-fit-requires-5 : tie.Need-bytes-fit-requires-5
-bytes-fit-requires-5 c κs = search needs
+bytes-fit-requires-6 : tie.Need-bytes-fit-requires-6
+bytes-fit-requires-6 c κs = search needs
 
-letters-fit-requires : tie.Need-letters-fit-requires
-letters-fit-requires c κs = few-letters (turned (c .before .before .before .before .before .before .before .before .before .before .before .before .before .before .before))
-
-write-parts-requires : tie.Need-write-parts-requires
-write-parts-requires c κs = let t = made (c .before .before .before .before .before .before .before .before .before .before .before .before .before .before .before .before .before .before .before .before .before .before .before .before) in start (before t .before .before) .pre .long
+write-lent-requires : tie.Need-write-lent-requires
+write-lent-requires c κs =
+    let t = c .before .before .before .before .before .before .before .before .before .before .before .before .before .before .before .before .before .before .before .before .before .before .before .before .before .before in
+    let s = start (opened (t .before .before .before .before .before .before .before .before)) in
+    back-long (s .args .rig .now) (s .pre .long) (t .make .last .1 .1 .1 .1 .1 .1 .1 .1 .1 .0) (mail-long (made t .on))
 
 same-length-3 : tie.Need-same-length-3
-same-length-3 c = search needs
+same-length-3 c =
+    let w = c .before .before in
+    let t = w .before .before .before .before .before .before .before .before .before .before .before .before .before .before .before .before .before .before .before .before .before .before .before .before .before .before .before in
+    let s = start (opened (t .before .before .before .before .before .before .before .before)) in
+    omega (arith, c .before .rig2 .given, back-long (s .args .rig .now) (s .pre .long) (t .make .last .1 .1 .1 .1 .1 .1 .1 .1 .1 .0) (mail-long (made t .on)), s .pre .long)
 
 returns-3 : tie.Need-returns-3
 returns-3 c =
     let w = c .before .before in
     let z = w .before .before .before .before .before .before .before .before in
-    let d = z .before .before .before .before .before .before .before .before .before .before .before .before .before .before .before .before in
-    let t = made (d .before) in
-    let e = before t in
-    let s = start (e .before .before) in
+    let d = z .before .before .before .before .before .before .before .before .before .before .before .before .before .before in
+    let t = d .before .before .before .before .before in
+    let l = t .before .before .before .before .before .before .before .before in
+    let s = start (opened l) in
     let a = s .args in
-    turn-written (a .rig .now) (a .lengths .now) (a .codes .now) (a .numbers .now) (a .users .now) (a .tasks) (s .pre) (passed e) (rig e) (a .s) (t .turn-on .result .report)
-    (t .turn-on .ensures)
+    turn-written (a .rig .now) (a .lengths .now) (a .codes .now) (a .users .now) (a .tasks) (s .pre) (passed (tested l)) (a .s) (t .make .result .report) (made t)
     (sym (d .before .is-accepted .ensures) ∙ not-false (d .before .is-accepted .result) (d .if2 .left))
     (record {
-      hintprocessors = z .before .before .before .before .before .before .before .before .before .before .before .before .before .bytes-fit .ensures;
-      hintmoves = z .before .before .before .before .before .before .before .before .before .before .before .counts-fit .ensures;
-      heldprocessors = z .before .before .before .before .before .before .before .before .before .bytes-fit2 .ensures;
-      heldnumbers = z .before .before .before .before .before .before .before .bytes-fit3 .ensures;
-      notes = z .before .before .before .before .before .bytes-fit4 .ensures;
-      board = z .before .before .before .numbers-fit .ensures;
-      letters = z .letters-fit .ensures;
-      chosen = z .before .bytes-fit5 .ensures;
+      hintprocessors = z .before .before .before .before .before .before .before .before .before .before .before .before .bytes-fit2 .ensures;
+      hintmoves = z .before .before .before .before .before .before .before .before .before .before .counts-fit .ensures;
+      heldprocessors = z .before .before .before .before .before .before .before .before .bytes-fit3 .ensures;
+      heldnumbers = z .before .before .before .before .before .before .bytes-fit4 .ensures;
+      notes = z .before .before .before .before .bytes-fit5 .ensures;
+      board = z .before .before .numbers-fit .ensures;
+      chosen = z .bytes-fit6 .ensures;
     })
-    (w .write-parts .ensures)
+    (w .write-lent .ensures)
 
 pub step-parts-spec : {M : Type 1} → statement M
-step-parts-spec =
-    tie.close
-    (tie.spec
-    read-parts-requires
-    read-mail-requires
-    read-chosen-requires
-    slice-read-processors
-    passes-requires
-    bad-system-requires
-    same-length
-    returns
-    turn-on-requires
-    is-accepted-requires
-    same-length-2
-    returns-2
-    slice-aggregate-bytes-fit
-    bytes-fit-requires
-    slice-aggregate-counts-fit
-    counts-fit-requires
-    slice-aggregate-bytes-fit-2
-    bytes-fit-requires-2
-    slice-aggregate-bytes-fit-3
-    bytes-fit-requires-3
-    slice-aggregate-bytes-fit-4
-    bytes-fit-requires-4
-    slice-aggregate-numbers-fit
-    numbers-fit-requires
-    slice-aggregate-bytes-fit-5
-    bytes-fit-requires-5
-    letters-fit-requires
-    write-parts-requires
-    same-length-3
-    returns-3)
+step-parts-spec = tie.close (tie.spec bytes-fit-requires open-parts-requires bad-system-requires same-length returns read-chosen-requires position-requires letter-at-requires sub-make part-make-start part-make-end make-requires is-accepted-requires same-length-2 returns-2 slice-aggregate-bytes-fit bytes-fit-requires-2 slice-aggregate-counts-fit counts-fit-requires slice-aggregate-bytes-fit-2 bytes-fit-requires-3 slice-aggregate-bytes-fit-3 bytes-fit-requires-4 slice-aggregate-bytes-fit-4 bytes-fit-requires-5 slice-aggregate-numbers-fit numbers-fit-requires slice-aggregate-bytes-fit-5 bytes-fit-requires-6 write-lent-requires same-length-3 returns-3)
