@@ -18,7 +18,7 @@ unfoldable pub behindRepeat : Program → ℕ → ℕ
 behindRepeat g zero = 0
 behindRepeat g (suc k) = pick (isRepeat (instructionAt g k)) (suc k) (behindRepeat g k)
 
--- "a repeat with argument n runs the instructions up to its end n times in a row, then goes on behind the end": at a repeat a task goes on behind it
+-- what a repeat runs (specs/Repeats has the sentence), place by place: at a repeat a task goes on behind it
 -- with n rounds; at the end it goes back behind the repeat while rounds are left, else on behind the end; at any other instruction on by one
 unfoldable pub goOn : Program → Place → Place
 goOn g p =

@@ -16,7 +16,7 @@ use Rattle.plan.specs.Refusals.{instructionOk, structureAnswer}
 use Rattle.plan.specs.Files.{layoutOk, filePrograms}
 use Rattle.plan.specs.Repeats.{isRepeat, isRepeatEnd, writtenOut, writtenOutPlan}
 
--- "refusals 2 and 3 with the two kinds allowed": "kind 8, repeat (argument 1..64), and kind 9, end of repeat (0)"; the second byte is "for other kinds"
+-- "refusals 2 and 3 with the two kinds allowed": a repeat and its end with the arguments that specs/Repeats gives them; the second byte is "for other kinds"
 -- than set and add zero
 unfoldable pub newInstructionOk : ℕ → Instruction → Bool
 newInstructionOk n i =

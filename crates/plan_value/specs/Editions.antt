@@ -10,7 +10,7 @@ use Rattle.plan_value.specs.declared.instruction.Edition.{Edition}
 abbrev pub presentEdition : Edition
 presentEdition = record { kinds = 7 }
 
--- "kind 8, repeat (argument 1..64), and kind 9, end of repeat (0)"
+-- the kinds of plan/specs/Repeats as well
 abbrev pub newEdition : Edition
 newEdition = record { kinds = 9 }
 

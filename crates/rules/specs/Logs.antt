@@ -41,7 +41,7 @@ leaving r s = byKind s (performed r s .received) (postedWord (performed r s .pos
 unfoldable pub sentBy : System → Step → Received
 sentBy r s = unless (isAccepted (stepAnswer r s)) NoWord (leaving r s)
 
--- by each step of a list; "each next" gets "the rig that the last left"
+-- by each step of a list, on the rigs of `steps`
 unfoldable pub sentIn : System → List Step → List Received
 sentIn r [] = []
 sentIn r (s ∷ ss) = sentBy r s ∷ sentIn (step r s .system) ss

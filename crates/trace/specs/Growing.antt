@@ -65,7 +65,7 @@ RefusedLeftOut =
     (r : System) (before : List Step) (s : Step) (behind : List Step) → isAccepted (stepAnswer (steps r before .system) s) ≡ false
     → LeftOut r before s behind
 
--- the accepted steps of a list; "each next" gets "the rig that the last left"
+-- the accepted steps of a list, on the rigs of `steps`
 unfoldable pub acceptedSteps : System → List Step → List Step
 acceptedSteps r [] = []
 acceptedSteps r (s ∷ ss) =
