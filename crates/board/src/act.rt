@@ -7,7 +7,7 @@ use rules::rule::{Outcome, Posting, Received};
 use rules::step::StepAnswer;
 
 // The answer, the word that was received, and what is posted.
-#[derive(Drop)]
+#[derive(Clone, Copy)]
 pub struct Act {
     pub answer: StepAnswer,
     pub received: Received,
@@ -15,7 +15,7 @@ pub struct Act {
 }
 
 // How many tasks, desks and letters a rig has.
-#[derive(Drop)]
+#[derive(Clone, Copy)]
 pub struct Size {
     pub tasks: u8,
     pub processors: u8,

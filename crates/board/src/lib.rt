@@ -1,4 +1,5 @@
 // What a run lends, five tables and a board of 1094 numbers: what is read of it and stored.
+#![tactic(auto)]
 
 // What a step says: its answer, what it received and what it posts.
 pub mod act;

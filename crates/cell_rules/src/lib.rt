@@ -1,4 +1,5 @@
 // What is kept for one channel at a desk, and each change of it.
+#![tactic(auto)]
 
 // What an offer, an advert, a call and a word change.
 pub mod change;

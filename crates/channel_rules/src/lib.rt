@@ -1,4 +1,5 @@
 // The rules of one channel, each a function of the small records that it may touch.
+#![tactic(auto)]
 
 // Delivered: a call, a word letter, an ended letter and a mover.
 pub mod messages;

@@ -1,4 +1,5 @@
 // The longest chase: a plan and steps for three desks, in which one offer is forwarded as often as asked.
+#![tactic(auto)]
 
 // The number of forwards, read from text.
 pub mod number;
@@ -10,7 +11,7 @@ ghost use Rattle.chase.specs.Outcomes.{ChaseMeets};
 use output::{put_plan, put_steps};
 
 // What is answered; specs/Outcomes gives the number of each. A written chase says how many bytes of steps there are.
-#[derive(Drop)]
+#[derive(Clone, Copy)]
 pub enum ChaseAnswer {
     Written(usize),
     TooMany,

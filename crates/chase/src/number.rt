@@ -3,7 +3,7 @@ ghost use Rattle.std.specs.Prelude.{◌≡◌};
 ghost use Rattle.chase.specs.Numbers.{at_most501, read_byte, read_on};
 
 // The number so far, 501 for all above 500, and whether further bytes may belong to it.
-#[derive(Drop)]
+#[derive(Clone, Copy)]
 pub struct Number {
     pub value: u16,
     pub more: bool,

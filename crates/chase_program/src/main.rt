@@ -1,6 +1,7 @@
 // The chase program: reads a number of forwards from standard input, the digits before the first other byte, and writes a plan and
 // steps for three desks in which one offer is forwarded so often, as the files `rig.plan` and `rig.steps`. It prints that offer's
 // count of forwarding deliveries; or `refused` and the number, and then no file is touched.
+#![tactic(auto)]
 use chase::ChaseAnswer;
 use chase::number::Number;
 use libc::{STDIN_FILENO, STDOUT_FILENO};

@@ -1,1 +1,2 @@
 // Runs of tasks at different desks, as definitions and theorems: see specs/ and proofs/.
+#![tactic(auto)]

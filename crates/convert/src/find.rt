@@ -9,7 +9,7 @@ use crate::marks::{Marks, next};
 use plan_file::code::fetch;
 
 // Whether repeats and ends are in order, and creates; and then whether no task is too long.
-#[derive(Drop)]
+#[derive(Clone, Copy)]
 pub struct Found {
     pub paired: bool,
     pub creates: bool,

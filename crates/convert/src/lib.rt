@@ -1,5 +1,6 @@
 // Plans with repeats converted: a file of the new edition is checked, written out and written as a file of
 // the present edition.
+#![tactic(auto)]
 
 // 21 to 23 of a file's instructions.
 pub mod find;

@@ -6,7 +6,7 @@ use plan::{CREATE, Instruction, REPEAT, REPEAT_END};
 
 // The instructions of a task so far: whether the next one stands within a repeat, and how often it is
 // written; whether repeats and ends are in order, and creates; how many instructions are written.
-#[derive(Drop)]
+#[derive(Clone, Copy)]
 pub struct Marks {
     pub inside: bool,
     pub paired: bool,

@@ -7,7 +7,7 @@ use plan::{Instruction, REPEAT, REPEAT_END};
 
 // How many instructions stand before it, how many rounds are left, and how many instructions stand before
 // the one behind the last repeat.
-#[derive(Drop)]
+#[derive(Clone, Copy)]
 pub struct Spot {
     pub at: usize,
     pub rounds: usize,

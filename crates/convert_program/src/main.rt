@@ -1,6 +1,7 @@
 // The converter program: writes the plan with repeats in the file `rig.repeats` into the file `rig.plan`,
 // with every repeat written out, and prints the number of instructions before and after; or `refused` and
 // the number, and then `rig.plan` is not touched.
+#![tactic(auto)]
 ghost use Rattle.io.specs.Counts.{IsPrefixLen};
 
 use libc::STDOUT_FILENO;

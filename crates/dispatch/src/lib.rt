@@ -1,4 +1,5 @@
 // The dispatcher of a desk: one call, over any rig; and calls at the desks in turn, from the start of a plan.
+#![tactic(auto)]
 
 // The steps that calls at the desks in turn choose.
 pub mod choose;
@@ -20,7 +21,7 @@ use rules::system::System;
 use task_rules::ready::next_ready;
 
 // A step that a call makes, or none, and the rig then.
-#[derive(Drop)]
+#[derive(Clone, Copy)]
 pub struct Turned {
     pub turn: Turn,
     pub system: System,

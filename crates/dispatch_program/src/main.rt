@@ -1,6 +1,7 @@
 // The dispatch program, for crews that don't want to choose steps: calls the dispatchers of the desks in turn until the rig is at
 // rest, on the plan in the file `rig.plan` and the number of desks that stands as one digit on standard input. It writes the steps
 // that they chose as the file `rig.steps` and prints the trace, or `refused` and the number.
+#![tactic(auto)]
 
 ghost use Rattle.io.specs.Counts.{IsPrefixLen};
 

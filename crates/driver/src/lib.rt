@@ -1,4 +1,5 @@
 // What the C driver calls: numbers and byte slices in, a number out.
+#![tactic(auto)]
 
 // The check of two logs.
 pub mod log_files;

@@ -1,5 +1,6 @@
 // Edges that are compared by a run: of the paper's list the limits of a plan file and the last move of a
 // task; sums at the top and over it, and an unborn task with a mark; pointers to parents, and a parent that moves.
+#![tactic(auto)]
 
 // Pointers to parents, and a parent that moves.
 mod parents;
@@ -30,7 +31,7 @@ fn load(name: &[u8], file: &mut [u8]) -> usize
 }
 
 // What the run of a plan file with no step answers, on one desk, and the output then.
-#[derive(Drop)]
+#[derive(Clone, Copy)]
 pub struct Ran {
     pub answer: u64,
     pub out: [u8; 8],

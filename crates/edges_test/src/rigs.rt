@@ -38,7 +38,7 @@ fn with_moves(mut r: System, moves: u16) -> System {
 }
 
 // What a step was answered, the move count of task 1 then, and the rig then.
-#[derive(Drop)]
+#[derive(Clone, Copy)]
 pub struct After {
     pub number: u8,
     pub moves: u16,

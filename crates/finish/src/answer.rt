@@ -12,7 +12,7 @@ use rig::start::{no_tables, start_board};
 use rules::channel::Hint;
 
 // How much of the output is filled, and whether every line fitted.
-#[derive(Drop)]
+#[derive(Clone, Copy)]
 pub struct Answered {
     pub filled: usize,
     pub whole: bool,

@@ -1,4 +1,5 @@
 // The finish check: a plan is run on one desk to rest, and what is stuck there is told.
+#![tactic(auto)]
 
 // The answer of a plan from its start: run, verdict, list.
 mod answer;

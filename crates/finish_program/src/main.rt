@@ -1,6 +1,7 @@
 // The finish program: says of the plan in the file `rig.plan` whether it runs to its end: `yes` or `no` and the number
 // of accepted run steps, and after `no` a line for each task that is stuck, with the task that it depends on; or
 // `refused` and the number.
+#![tactic(auto)]
 ghost use Rattle.io.specs.Counts.{IsPrefixLen};
 
 use libc::STDOUT_FILENO;

@@ -1,5 +1,6 @@
 // Compares the finish check with records of an independent model: refusal, verdict, accepted run steps and list, by the
 // number and every byte of the output.
+#![tactic(auto)]
 
 // An answer: its number and every byte of the output.
 mod answer;
@@ -13,7 +14,7 @@ use libc::STDOUT_FILENO;
 use std::num::wrapping_add_u64;
 
 // What one record came to.
-#[derive(Drop)]
+#[derive(Clone, Copy)]
 pub struct Compared {
     pub held: bool,
     pub agree: bool,
@@ -22,7 +23,7 @@ pub struct Compared {
 }
 
 // What the records came to.
-#[derive(Drop)]
+#[derive(Clone, Copy)]
 pub struct Tally {
     pub records: u64,
     pub held: u64,

@@ -6,7 +6,7 @@ ghost use Rattle.std.specs.Prelude.{◌<◌, ◌≤◌, length};
 use plan_file::fields::{byte_at, word_at};
 
 // What a record says, where its parts start, and where the next record does.
-#[derive(Drop)]
+#[derive(Clone, Copy)]
 pub struct Record {
     pub when: u8,
     pub refusal: u8,

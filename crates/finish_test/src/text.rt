@@ -48,7 +48,7 @@ fn put_word(out: &mut [u8], verdict: u8) -> usize {
 }
 
 // How long a text is, and where its last line starts.
-#[derive(Drop)]
+#[derive(Clone, Copy)]
 pub struct Text {
     pub length: usize,
     pub last: usize,

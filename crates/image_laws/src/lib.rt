@@ -1,1 +1,2 @@
 // Laws of images: nothing here is code.
+#![tactic(auto)]

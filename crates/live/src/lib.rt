@@ -1,4 +1,5 @@
 // The calls of a live rig beside step and dispatch: its start, and what is asked of it.
+#![tactic(auto)]
 
 // The panel of a live rig.
 pub mod rig_panel;

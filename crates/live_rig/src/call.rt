@@ -15,7 +15,7 @@ use rules::step::Step;
 use task_rules::ready::next_ready;
 
 // A step that a call makes, or none, and how many letters there are then.
-#[derive(Drop)]
+#[derive(Clone, Copy)]
 pub struct Called {
     pub turn: Turn,
     pub used: usize,
@@ -147,7 +147,7 @@ fn run_turn<'a>(
 }
 
 // What a call makes: a delivery and a run, and how many letters there are then.
-#[derive(Drop)]
+#[derive(Clone, Copy)]
 pub struct BothTurns {
     pub delivery: Turn,
     pub run: Turn,

@@ -11,7 +11,7 @@ use plan_index::ends::numbers::put_numbers;
 use plan_index::user_table::users::build;
 
 // Whether 9 does not refuse the rig, and its counts then.
-#[derive(Drop)]
+#[derive(Clone, Copy)]
 pub struct Counted {
     pub ok: bool,
     pub counts: [u16; 27],

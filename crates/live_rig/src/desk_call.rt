@@ -17,7 +17,7 @@ use rules::dispatch::Turn;
 use rules::step::StepAnswer;
 
 // What a call says: its answer, the delivery and the run that it made.
-#[derive(Drop)]
+#[derive(Clone, Copy)]
 pub struct Call {
     pub answer: StepAnswer,
     pub delivery: Turn,

@@ -12,7 +12,7 @@ use rules::task::Task;
 use views::has_task;
 
 // 0 and a task's record, or the number of the refusal.
-#[derive(Drop)]
+#[derive(Clone, Copy)]
 pub struct Found {
     pub number: u32,
     pub task: Task,

@@ -1,4 +1,5 @@
 // A rig in lent bytes: a step, a call of a dispatcher, and what is asked of it.
+#![tactic(auto)]
 
 // The bytes of a rig opened.
 pub mod open;

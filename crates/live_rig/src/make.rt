@@ -13,7 +13,7 @@ use rules::message::Message;
 use rules::step::{Report, Step};
 
 // What a step says, and how many letters there are then.
-#[derive(Drop)]
+#[derive(Clone, Copy)]
 pub struct Made {
     pub report: Report,
     pub used: usize,

@@ -14,7 +14,7 @@ use rig_read::numbers::number4;
 use rig_read::parts::{read_chosen, read_parts};
 
 // Whether 9 does not refuse the bytes, and how large their rig is.
-#[derive(Drop)]
+#[derive(Clone, Copy)]
 pub struct Opening {
     pub ok: bool,
     pub size: Size,

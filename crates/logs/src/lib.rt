@@ -1,5 +1,6 @@
 // Two logs held against each other: a pass over the sent log links the records of each channel, and a pass over the
 // received log follows these links.
+#![tactic(auto)]
 
 // The received log along the links.
 mod follow;

@@ -7,7 +7,7 @@ use crate::records::channel;
 
 // Whether 25 refuses no record; then the place of the first record of each channel, and of the next one behind each
 // record on the same channel.
-#[derive(Drop)]
+#[derive(Clone, Copy)]
 pub struct Links {
     pub ok: bool,
     pub first: [u16; 129],

@@ -1,5 +1,6 @@
 // Holds the file `sent.log` against the file `received.log`: prints `yes`, or `no` and the channel, or
 // `refused` and the number.
+#![tactic(auto)]
 ghost use Rattle.io.specs.Counts.{IsPrefixLen};
 
 use libc::STDOUT_FILENO;

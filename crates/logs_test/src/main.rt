@@ -1,6 +1,7 @@
 // Compares the check of two logs with records of an independent model. A record: the bytes of a log record, 10,
 // in 1 byte, the lengths of the sent log and of the received log in 2 bytes each, that of the printed line in 1
 // byte, and then the two logs and the line: `yes`, `no` and a channel, or `refused` and a number.
+#![tactic(auto)]
 ghost use Rattle.std.specs.Prelude.{◌<◌, ◌≤◌, length};
 
 use libc::STDOUT_FILENO;
@@ -8,7 +9,7 @@ use plan_file::fields::{byte_at, word_at};
 use std::num::wrapping_add_u64;
 
 // Where the parts of a record start, and where the next record does.
-#[derive(Drop)]
+#[derive(Clone, Copy)]
 struct Parts {
     sent: usize,
     received: usize,
@@ -71,7 +72,7 @@ fn expected(line: &[u8]) -> u64 {
 }
 
 // What the records of a file came to.
-#[derive(Drop)]
+#[derive(Clone, Copy)]
 struct Tally {
     records: u64,
     agree: u64,

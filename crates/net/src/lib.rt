@@ -1,1 +1,2 @@
 // Machines whose labels commute, and a plan with no desks as such a machine: see specs/ and proofs/.
+#![tactic(auto)]

@@ -22,7 +22,7 @@ use steps::instruction::run::run_decided;
 use steps::moves::move_refusal;
 
 // How many steps got each answer. A loop has these in registers, where a count in memory would wait for the one before it.
-#[derive(Drop)]
+#[derive(Clone, Copy)]
 struct Tally {
     accepted: u16,
     system: u16,

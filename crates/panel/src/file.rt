@@ -18,7 +18,7 @@ use rules::step::RunAnswer;
 use run::all_steps::run_steps;
 
 // The answer, and the counts where it is accepted.
-#[derive(Drop)]
+#[derive(Clone, Copy)]
 pub struct Shown {
     pub answer: RunAnswer,
     pub counts: [u16; 27],

@@ -1,4 +1,5 @@
 // What can be pressed now: how many steps of a rig get each number.
+#![tactic(auto)]
 
 // The counts of runs, of deliveries and of moves, on what is lent.
 pub mod counts;

@@ -1,6 +1,7 @@
 // Compares panels with those of an independent model: the plan of each record is started, its steps are made one by one,
 // and the counts of the rig then are those of the record. Two rigs are changed by hand: one that 9 refuses, and one of seven desks.
 // With a digit on standard input each panel is made 10,000 times that digit more, for a clock outside.
+#![tactic(auto)]
 
 // A record of a file, and where the next one is.
 mod record;
@@ -42,7 +43,7 @@ fn is_recorded(counts: [u16; 27], expected: &[u8]) -> bool {
 }
 
 // What the records of a file came to.
-#[derive(Drop)]
+#[derive(Clone, Copy)]
 pub struct Tally {
     pub records: u64,
     pub panels: u64,

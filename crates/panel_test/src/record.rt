@@ -4,7 +4,7 @@ ghost use Rattle.std.specs.Prelude.{◌<◌, ◌≤◌, length};
 use plan_file::fields::word_at;
 
 // Where the parts of a record start, and where the next record does.
-#[derive(Drop)]
+#[derive(Clone, Copy)]
 pub struct Parts {
     pub plan: usize,
     pub steps: usize,

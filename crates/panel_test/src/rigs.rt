@@ -33,7 +33,7 @@ fn after(r: System, steps: &[u8]) -> System {
 }
 
 // A change by hand: a last choice of task 2 at desk 1, or seven desks.
-#[derive(Drop)]
+#[derive(Clone, Copy)]
 pub enum Change {
     Nothing,
     Choice,

@@ -1,4 +1,5 @@
 // The types of a plan: numbers, instructions, the plan value, and the answers about it.
+#![tactic(auto)]
 ghost use Rattle.std.specs.Prelude.{◌≡◌};
 ghost use Rattle.plan.specs.Answers.{answer_number, refusal_number};
 ghost use Rattle.plan.specs.Programs.{code_of, instruction_of};
@@ -8,21 +9,21 @@ ghost use Rattle.plan.specs.Words.{level_of, with_level, set_word, add_word};
 // serves as another. 0 means none."
 
 // A task's number, 1 to 64 (document 001's THREAD).
-#[derive(Drop)]
+#[derive(Clone, Copy)]
 pub struct TaskId(pub u8);
 
 // A processor's number, 1 to 6: the paper's "desk" (document 001's PE).
-#[derive(Drop)]
+#[derive(Clone, Copy)]
 pub struct ProcessorId(pub u8);
 
 // A channel's number, 1 to 128 (document 001's CHANNEL).
-#[derive(Drop)]
+#[derive(Clone, Copy)]
 pub struct ChannelId(pub u8);
 
 // "instructions of 4 bytes: kind, a zero byte, a 16-bit argument": the paper's kind is the opcode,
 // its argument the operand. "The second byte of set and add, 0 to 3, says which one is meant": the
 // level. A plan value can hold an unknown opcode, so the opcodes are numbers.
-#[derive(Drop)]
+#[derive(Clone, Copy)]
 pub struct Instruction {
     pub opcode: u8,
     pub level: u8,
@@ -31,11 +32,11 @@ pub struct Instruction {
 
 // "A task's word .. hold four numbers, level 0 first", of 16 bits each: what a task stores and channels
 // pass on. Its operations are in specs/Words.
-#[derive(Drop)]
+#[derive(Clone, Copy)]
 pub struct Word(pub u16, pub u16, pub u16, pub u16);
 
 // What an add gives: the wrapped word, and whether the sum passed 65,535.
-#[derive(Drop)]
+#[derive(Clone, Copy)]
 pub struct Sum {
     pub word: Word,
     pub overflow: bool,
@@ -62,7 +63,7 @@ pub const REPEAT: u8 = 8;
 pub const REPEAT_END: u8 = 9;
 
 // A whole plan by value: 64 tasks of 64 instructions. What it means is `programs` of specs/Programs.
-#[derive(Drop)]
+#[derive(Clone, Copy)]
 pub struct Plan {
     // how many tasks
     pub tasks: u8,
@@ -74,7 +75,7 @@ pub struct Plan {
 
 // The refusals of "Start", of "Writing a plan" and of converting a plan with repeats; specs/Answers gives
 // each its number.
-#[derive(Drop)]
+#[derive(Clone, Copy)]
 pub enum Refusal {
     BadProcessors,
     BadLayout,
@@ -89,21 +90,21 @@ pub enum Refusal {
 }
 
 // What is answered about a plan.
-#[derive(Drop)]
+#[derive(Clone, Copy)]
 pub enum PlanAnswer {
     Accepted,
     Refused(Refusal),
 }
 
 // What is answered where a plan is written: how many bytes it took, or why none was written.
-#[derive(Drop)]
+#[derive(Clone, Copy)]
 pub enum WriteAnswer {
     Written(usize),
     Unwritten(Refusal),
 }
 
 // What reading a file gives: the plan, which is empty where the file is refused.
-#[derive(Drop)]
+#[derive(Clone, Copy)]
 pub struct PlanRead {
     pub answer: PlanAnswer,
     pub plan: Plan,

@@ -1,5 +1,6 @@
 // Says whether the plan in the file `rig.plan` can be started on the number of desks that stands as
 // one digit on standard input: `accepted`, or `refused` and the number.
+#![tactic(auto)]
 use libc::{STDIN_FILENO, STDOUT_FILENO};
 
 // A first byte that is no digit counts as 0 desks.

@@ -6,7 +6,7 @@ use crate::fields::{rest_at, word_at};
 
 // What a header says: whether the file's layout is in order, and then how many bytes the header takes,
 // how many tasks there are and how many instructions each has.
-#[derive(Drop)]
+#[derive(Clone, Copy)]
 pub struct Header {
     pub ok: bool,
     pub size: usize,
@@ -15,7 +15,7 @@ pub struct Header {
 }
 
 // The entries of the tasks: whether they are in order, and then where the last task ends.
-#[derive(Drop)]
+#[derive(Clone, Copy)]
 pub struct Entries {
     pub ok: bool,
     pub end: usize,

@@ -1,5 +1,6 @@
 // Plan files checked and read. A reader is put at the file's front; the header is read where it stands, and
 // then the instructions behind it.
+#![tactic(auto)]
 
 // The instructions of a file, at a place.
 pub mod code;
@@ -27,7 +28,7 @@ use plan::{Plan, PlanAnswer, PlanRead};
 
 // What loading a file gives: what reading it gives, and, by argument, each task's parent and each channel's
 // sender and receiver, if it is accepted.
-#[derive(Drop)]
+#[derive(Clone, Copy)]
 pub struct Loaded {
     pub answer: PlanAnswer,
     pub plan: Plan,

@@ -10,7 +10,7 @@ use crate::scan::check_code;
 use plan::{PlanAnswer, Refusal};
 
 // The answer about a plan file; if it is accepted, how many tasks there are and how many instructions each has.
-#[derive(Drop)]
+#[derive(Clone, Copy)]
 pub struct Opened {
     pub answer: PlanAnswer,
     pub tasks: u8,

@@ -11,7 +11,7 @@ use crate::fields::left_at;
 use crate::header::{Header, header_at};
 use plan::PlanAnswer;
 
-#[derive(Drop)]
+#[derive(Clone, Copy)]
 pub struct PlanReader<'a> {
     pub bytes: &'a [u8],
     pub at: usize,

@@ -11,7 +11,7 @@ ghost use Rattle.plan_index.specs.ends.Derived.{ends_of};
 use plan::Plan;
 use plan_value::slots::pass_slots;
 
-#[derive(Drop)]
+#[derive(Clone, Copy)]
 pub struct Ends {
     // the task that sends on channel c, and the one that receives on it, at c; 0 for none
     pub senders: [u8; 129],

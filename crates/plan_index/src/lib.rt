@@ -1,4 +1,5 @@
 // What is derived of a plan once: who sends, who receives, who is parent, each send's number.
+#![tactic(auto)]
 
 // The four derived of a plan value.
 pub mod ends;

@@ -7,7 +7,7 @@ ghost use Rattle.plan_value.specs.Editions.{present_edition, new_edition, allowe
 use plan::{ADD, CREATE, Instruction, REPEAT, REPEAT_END, SEND, SET, SYNC};
 
 // What an edition allows: the highest kind.
-#[derive(Drop)]
+#[derive(Clone, Copy)]
 pub struct Edition {
     pub kinds: u8,
 }

@@ -1,4 +1,5 @@
 // Whether a plan is refused, 3 to 6, in one pass over its instructions; of a plan value, 2 to 6.
+#![tactic(auto)]
 
 // 3: the test of one instruction, by the edition of the plan file.
 pub mod instruction;

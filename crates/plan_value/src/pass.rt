@@ -10,7 +10,7 @@ use crate::marks::{create_fits, end_fits, kept, same, unpaired_then};
 use plan::{CREATE, FINISH, Instruction, PlanAnswer, RECEIVE, Refusal, SEND, SET};
 
 // An instruction where it stands: its task, and whether it is the last one there.
-#[derive(Drop)]
+#[derive(Clone, Copy)]
 pub struct Entry {
     pub task: u8,
     pub last: bool,
@@ -19,7 +19,7 @@ pub struct Entry {
 
 // The pass over a plan of `tasks` tasks: whether no instruction is refused by 3; and then whether every
 // finish is in order, every create so far, and every channel; and how many channels have one end so far.
-#[derive(Drop)]
+#[derive(Clone, Copy)]
 pub struct Pass {
     pub instructions: bool,
     // it stands between the flags: four in a row would be kept as one word, which is slower
@@ -32,7 +32,7 @@ pub struct Pass {
 }
 
 // A task at an end of a channel: whether it may be there, and how many channels have one end then.
-#[derive(Drop)]
+#[derive(Clone, Copy)]
 struct End {
     fits: bool,
     unpaired: usize,

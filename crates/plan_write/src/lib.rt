@@ -1,4 +1,5 @@
 // Plan files written.
+#![tactic(auto)]
 
 // The header of a plan's file.
 mod header;

@@ -1,4 +1,5 @@
 // Compares the converter with records of an independent model: the answer and every byte of the output.
+#![tactic(auto)]
 
 // A conversion: its answer and every byte of the output.
 mod conversion;
@@ -9,7 +10,7 @@ use libc::STDOUT_FILENO;
 use std::num::wrapping_add_u64;
 
 // What one record came to.
-#[derive(Drop)]
+#[derive(Clone, Copy)]
 pub struct Compared {
     pub held: bool,
     pub agree: bool,
@@ -17,7 +18,7 @@ pub struct Compared {
 }
 
 // What the records came to.
-#[derive(Drop)]
+#[derive(Clone, Copy)]
 pub struct Tally {
     pub records: u64,
     pub held: u64,

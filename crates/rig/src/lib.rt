@@ -1,4 +1,5 @@
 // The start of a rig, and its rest.
+#![tactic(auto)]
 
 // Whether the rig is at rest, by the tests that a run has.
 pub mod rest;

@@ -1,4 +1,5 @@
 // Refusal 9: a number in a rig outside the limits, or a plan in it that would be refused.
+#![tactic(auto)]
 
 // Numbers, pointers and offers.
 pub mod limits;

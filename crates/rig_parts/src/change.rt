@@ -6,7 +6,7 @@ use rules::step::StepAnswer;
 
 // What a step may touch: up to two tasks, and one channel at one desk; 0 is none. Where a step is about
 // a channel, the tasks are its ends.
-#[derive(Drop)]
+#[derive(Clone, Copy)]
 pub struct Scope {
     pub sender: TaskId,
     pub receiver: TaskId,
@@ -15,14 +15,14 @@ pub struct Scope {
 }
 
 // What an accepted step leaves there, and what it does for each channel of a task.
-#[derive(Drop)]
+#[derive(Clone, Copy)]
 pub struct Change {
     pub scope: Scope,
     pub outcome: Outcome,
     pub sweep: Sweep,
 }
 
-#[derive(Drop)]
+#[derive(Clone, Copy)]
 pub enum Verdict {
     Refused(StepAnswer),
     Accepted(Change),

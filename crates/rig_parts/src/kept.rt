@@ -2,7 +2,7 @@
 use rules::system::{Parents, Store};
 
 // What is kept for channels, and for parents.
-#[derive(Drop)]
+#[derive(Clone, Copy)]
 pub struct Kept {
     pub store: Store,
     pub parents: Parents,

@@ -1,5 +1,6 @@
 // One step said of the parts of a rig that the code holds, and the theorem that it is the step of the rules: see
 // specs/ and proofs/. The types that these speak of:
+#![tactic(auto)]
 
 // What a step may touch, what it changes, and the verdict on it.
 pub mod change;

@@ -4,7 +4,7 @@ use rules::channel::Hint;
 use rules::system::ParentEntry;
 
 // A rule for one channel.
-#[derive(Drop)]
+#[derive(Clone, Copy)]
 pub enum CellRule {
     // the desk's pointer becomes this desk and count
     Locate(ProcessorId, u16),
@@ -17,7 +17,7 @@ pub enum CellRule {
 }
 
 // The tasks' channels that a step sweeps over, at a desk; what the desk keeps for the task as a parent changes beside them.
-#[derive(Drop)]
+#[derive(Clone, Copy)]
 pub enum Sweep {
     Nothing,
     // birth of a task

@@ -5,7 +5,7 @@ use rules::step::Report;
 use rules::system::TaskTable;
 
 // What a step leaves: its report, and the parts of the rig then.
-#[derive(Drop)]
+#[derive(Clone, Copy)]
 pub struct Turn {
     pub report: Report,
     pub tasks: TaskTable,

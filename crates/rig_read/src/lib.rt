@@ -1,4 +1,5 @@
 // A rig in lent bytes: its parts read, and whether it is refused by 9.
+#![tactic(auto)]
 
 // Whether a rig is refused by 9, and its bytes are an image.
 pub mod check;

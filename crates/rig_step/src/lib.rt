@@ -1,4 +1,5 @@
 // One step of any rig: 9 is tested, the rig is packed, the step is decided and carried out as a run of one step.
+#![tactic(auto)]
 
 // A step without its mail.
 pub mod act;

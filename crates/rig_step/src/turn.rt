@@ -87,7 +87,7 @@ fn decided<'a>(
 }
 
 // What a step leaves beside what is lent: its report, and the mail then.
-#[derive(Drop)]
+#[derive(Clone, Copy)]
 pub struct Reported {
     pub report: Report,
     pub network: Network,

@@ -1,4 +1,5 @@
 // A rig written into lent bytes.
+#![tactic(auto)]
 
 // Version, desks and plan file.
 pub mod head;

@@ -1,4 +1,5 @@
 // The types of the rig: what the definitions in specs/ speak of and the code computes with.
+#![tactic(auto)]
 
 // What is kept for a channel: pointers, offers, what the channel keeps itself.
 pub mod channel;

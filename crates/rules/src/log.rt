@@ -3,7 +3,7 @@ use plan::ChannelId;
 
 // What a sent log and a received log are answered when they are held against each other; specs/LogFiles gives
 // the number of each.
-#[derive(Drop)]
+#[derive(Clone, Copy)]
 pub enum LogsAnswer {
     // for every channel the received list is a beginning of the sent list
     Yes,

@@ -3,7 +3,7 @@ use crate::channel::{Hint, Offer};
 use plan::{ChannelId, ProcessorId, TaskId, Word};
 
 // A letter. Each names the desk that it goes to; that of an offer and of an ended letter is its hint's.
-#[derive(Drop)]
+#[derive(Clone, Copy)]
 pub enum Message {
     // no letter: what an unused slot holds
     Empty,
@@ -22,13 +22,13 @@ pub enum Message {
 }
 
 // One place of the mail.
-#[derive(Drop)]
+#[derive(Clone, Copy)]
 pub struct Slot {
     pub message: Message,
 }
 
 // The mail: "256 letters". The first `used` slots hold them in order.
-#[derive(Drop)]
+#[derive(Clone, Copy)]
 pub struct Network {
     pub slots: [Slot; 256],
     pub used: usize,

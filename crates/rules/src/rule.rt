@@ -6,7 +6,7 @@ use crate::task::Task;
 use plan::{ChannelId, ProcessorId, Word};
 
 // What the rules about one channel at one desk see.
-#[derive(Drop)]
+#[derive(Clone, Copy)]
 pub struct Site {
     // the channel's sending and receiving task; where there is none, a task that is nowhere
     pub sender: Task,
@@ -18,7 +18,7 @@ pub struct Site {
 }
 
 // The letters that a rule posts.
-#[derive(Drop)]
+#[derive(Clone, Copy)]
 pub enum Posting {
     Nothing,
     Single(Message),
@@ -27,14 +27,14 @@ pub enum Posting {
 }
 
 // The word that was received, if one was, and its channel.
-#[derive(Drop)]
+#[derive(Clone, Copy)]
 pub enum Received {
     Nothing,
     Word(ChannelId, Word),
 }
 
 // What such a rule leaves behind.
-#[derive(Drop)]
+#[derive(Clone, Copy)]
 pub struct Outcome {
     pub sender: Task,
     pub receiver: Task,
@@ -44,7 +44,7 @@ pub struct Outcome {
 }
 
 // What a finish leaves behind: the task, its parent, what the task's desk keeps for the parent, the letter.
-#[derive(Drop)]
+#[derive(Clone, Copy)]
 pub struct Finished {
     pub task: Task,
     pub parent: Task,
@@ -53,7 +53,7 @@ pub struct Finished {
 }
 
 // What an ended letter leaves behind: the parent, what the letter's desk keeps for it, the letter where it is forwarded.
-#[derive(Drop)]
+#[derive(Clone, Copy)]
 pub struct Ended {
     pub parent: Task,
     pub entry: ParentEntry,

@@ -4,7 +4,7 @@ use crate::system::System;
 use plan::Refusal;
 
 // "A step is 4 bytes: kind (1 run, 2 deliver, 3 move), task, 16-bit number."
-#[derive(Drop)]
+#[derive(Clone, Copy)]
 pub struct Step {
     pub kind: u8,
     pub task: u8,
@@ -12,7 +12,7 @@ pub struct Step {
 }
 
 // What a step is answered; specs/Answers gives the number of each.
-#[derive(Drop)]
+#[derive(Clone, Copy)]
 pub enum StepAnswer {
     Accepted,
     BadSystem,
@@ -29,21 +29,21 @@ pub enum StepAnswer {
 }
 
 // What a trace line reports of a step.
-#[derive(Drop)]
+#[derive(Clone, Copy)]
 pub struct Report {
     pub answer: StepAnswer,
     pub received: Received,
 }
 
 // What a step gives: its report, and the rig then.
-#[derive(Drop)]
+#[derive(Clone, Copy)]
 pub struct Stepped {
     pub report: Report,
     pub system: System,
 }
 
 // What a step file is answered; specs/Answers gives the number of each.
-#[derive(Drop)]
+#[derive(Clone, Copy)]
 pub enum RunAnswer {
     Traced,
     Unstarted(Refusal),

@@ -6,7 +6,7 @@ use plan::Plan;
 
 // What each desk keeps for each channel: "six desks by 128 channels, 768 entries each". The entry of desk d and channel c is at
 // 128 (d - 1) + (c - 1).
-#[derive(Drop)]
+#[derive(Clone, Copy)]
 pub struct Tables {
     // pointers: desk and count
     pub hintprocessors: [u8; 768],
@@ -19,7 +19,7 @@ pub struct Tables {
 }
 
 // What each channel keeps itself, of channel c at c - 1.
-#[derive(Drop)]
+#[derive(Clone, Copy)]
 pub struct Channels {
     // the number called
     pub granted: [u8; 128],
@@ -34,7 +34,7 @@ pub struct Channels {
 }
 
 // What a rig keeps for channels: both.
-#[derive(Drop)]
+#[derive(Clone, Copy)]
 pub struct Store {
     pub tables: Tables,
     pub channels: Channels,
@@ -42,7 +42,7 @@ pub struct Store {
 
 // What each desk keeps for each parent: six desks by 64 tasks, 384 entries each. The entry of desk d and task t is at
 // 64 (d - 1) + (t - 1).
-#[derive(Drop)]
+#[derive(Clone, Copy)]
 pub struct Parents {
     // pointers: desk and count
     pub hintprocessors: [u8; 384],
@@ -52,7 +52,7 @@ pub struct Parents {
 }
 
 // One such entry.
-#[derive(Drop)]
+#[derive(Clone, Copy)]
 pub struct ParentEntry {
     pub hint: Hint,
     pub held: u64,
@@ -60,7 +60,7 @@ pub struct ParentEntry {
 
 // The tasks: the record of task t at t - 1; and for each of six desks "the ready tasks of a desk as a 64-bit set", desk d's at d - 1,
 // bit t - 1 for task t.
-#[derive(Drop)]
+#[derive(Clone, Copy)]
 pub struct TaskTable {
     pub records: [Task; 64],
     pub ready: [u64; 6],
@@ -68,7 +68,7 @@ pub struct TaskTable {
 
 // The rig: how many desks, the plan, the tasks, the tables, the channels, the parents, the mail; and for each of six desks "the last
 // one chosen" by its dispatcher, a task's number or 0, desk d's at d - 1.
-#[derive(Drop)]
+#[derive(Clone, Copy)]
 pub struct System {
     pub processors: u8,
     pub plan: Plan,

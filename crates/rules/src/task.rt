@@ -6,7 +6,7 @@ use crate::channel::Hint;
 use plan::{ProcessorId, Word};
 
 // "a state (unborn, ready, waiting, sending, receiving, moving, done)"
-#[derive(Drop)]
+#[derive(Clone, Copy)]
 pub enum TaskState {
     Unborn,
     Ready,
@@ -20,7 +20,7 @@ pub enum TaskState {
 // "A task has a state .., a desk, a place, a word (0 at birth), .. a move count (1 at birth) and a 64-bit set of living children,
 // bit t−1 for task t."; "the child's own" pointer, "which it keeps unchanged from its birth in place of the desk of birth";
 // "A task that met this .. carries a mark": it met a sum over the top.
-#[derive(Drop)]
+#[derive(Clone, Copy)]
 pub struct Task {
     pub state: TaskState,
     // its desk, 0 where it has none

@@ -4,7 +4,7 @@ use crate::task::TaskState;
 use plan::{ProcessorId, TaskId, Word};
 
 // A tablet's record: "number, state, desk and place". It has no field for a word or a mark.
-#[derive(Drop)]
+#[derive(Clone, Copy)]
 pub struct TabletView {
     pub task: TaskId,
     pub state: TaskState,
@@ -13,7 +13,7 @@ pub struct TabletView {
 }
 
 // The driver's record: "the same record with word and children", and how many they are.
-#[derive(Drop)]
+#[derive(Clone, Copy)]
 pub struct DriverView {
     pub tablet: TabletView,
     pub word: Word,
@@ -22,14 +22,14 @@ pub struct DriverView {
 }
 
 // What a tablet is given: a record, or the answer of a refusal.
-#[derive(Drop)]
+#[derive(Clone, Copy)]
 pub enum TabletAnswer {
     Shown(TabletView),
     Refused(StepAnswer),
 }
 
 // What the driver is given.
-#[derive(Drop)]
+#[derive(Clone, Copy)]
 pub enum DriverAnswer {
     Shown(DriverView),
     Refused(StepAnswer),

@@ -1,1 +1,2 @@
 // The laws of the rules, as definitions and theorems: see specs/ and proofs/.
+#![tactic(auto)]

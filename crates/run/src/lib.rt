@@ -1,4 +1,5 @@
 // A run: the steps of a file, and a step file from the start of a plan.
+#![tactic(auto)]
 
 // The loop: it decodes a step, takes a letter out, carries the step out, posts, and writes the line.
 pub mod all_steps;

@@ -1,4 +1,5 @@
 // A step on what a run lends: decided, or decided and carried out. Any step that delivers no letter is answered here.
+#![tactic(auto)]
 
 // A run: an instruction of each kind; refusals 10 to 13.
 pub mod instruction;

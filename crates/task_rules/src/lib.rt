@@ -1,4 +1,5 @@
 // One task's record, and the rules that use no channel.
+#![tactic(auto)]
 
 // A record with its place gone on, a word taken, its state changed, or a mark.
 pub mod change;

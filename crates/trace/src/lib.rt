@@ -1,4 +1,5 @@
 // The lines of the trace, those of steps, of marked tasks and the last one; how long a trace can be.
+#![tactic(auto)]
 
 // Lines put into the lent rest of the output.
 pub mod direct;

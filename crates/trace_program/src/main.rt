@@ -1,6 +1,7 @@
 // The trace program: runs the steps of the file `rig.steps` on the plan in the file `rig.plan` and
 // the number of desks that stands as one digit on standard input, and prints the trace, or `refused`
 // and the number.
+#![tactic(auto)]
 ghost use Rattle.io.specs.Counts.{IsPrefixLen};
 
 use libc::{STDIN_FILENO, STDOUT_FILENO};

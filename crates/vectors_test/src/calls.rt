@@ -35,7 +35,7 @@ fn steps_of_both(a: Turn, b: Turn) -> u8 {
 }
 
 // What was seen so far, and the rig then.
-#[derive(Drop)]
+#[derive(Clone, Copy)]
 pub struct Played {
     pub seen: Seen,
     pub system: System,

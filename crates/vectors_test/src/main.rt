@@ -1,5 +1,6 @@
 // Compares the library with records of an independent model: the plan check, every byte of the run's
 // output, and that each accepted plan is written back and read again.
+#![tactic(auto)]
 
 // Steps and calls: what each gives, and the rig at the end.
 mod calls;
@@ -19,7 +20,7 @@ use plan_file::fields::byte_at;
 use std::num::wrapping_add_u64;
 
 // What one record came to.
-#[derive(Drop)]
+#[derive(Clone, Copy)]
 pub struct Compared {
     pub plan: bool,
     pub run: bool,
@@ -28,7 +29,7 @@ pub struct Compared {
 }
 
 // What the records of a file came to.
-#[derive(Drop)]
+#[derive(Clone, Copy)]
 pub struct Tally {
     pub records: u64,
     pub plans: u64,
@@ -103,7 +104,7 @@ fn compare_all(file: &[u8]) -> Tally {
 }
 
 // How many records of a file of steps and calls there are, and how many agree.
-#[derive(Drop)]
+#[derive(Clone, Copy)]
 pub struct Agreed {
     pub records: u64,
     pub agree: u64,

@@ -5,7 +5,7 @@ use rules::step::{Report, Step};
 use std::num::wrapping_add_usize;
 
 // Where the next expected byte is, and whether all before it agree.
-#[derive(Drop)]
+#[derive(Clone, Copy)]
 pub struct Seen {
     pub at: usize,
     pub ok: bool,

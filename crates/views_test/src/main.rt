@@ -1,5 +1,6 @@
 // Compares what tablets and the driver show with records of an independent model: of every task, after a step
 // file that is taken step by step. Tasks 0 and T + 1 are refused by 10.
+#![tactic(auto)]
 
 // The rig after steps.
 mod after;
@@ -15,7 +16,7 @@ use rules::system::System;
 use std::num::wrapping_add_u64;
 
 // What one record came to.
-#[derive(Drop)]
+#[derive(Clone, Copy)]
 pub struct Compared {
     pub tablets: bool,
     pub drivers: bool,
@@ -23,7 +24,7 @@ pub struct Compared {
 }
 
 // What the records of a file came to.
-#[derive(Drop)]
+#[derive(Clone, Copy)]
 pub struct Tally {
     pub records: u64,
     pub tablets: u64,

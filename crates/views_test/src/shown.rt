@@ -92,7 +92,7 @@ fn driver_shows(r: System, t: TaskId, bytes: &[u8]) -> bool {
 }
 
 // Whether either view shows what is expected.
-#[derive(Drop)]
+#[derive(Clone, Copy)]
 pub struct Shown {
     pub tablet: bool,
     pub driver: bool,

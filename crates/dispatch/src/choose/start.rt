@@ -12,7 +12,7 @@ use rig::start::{no_messages, no_tables, start_board};
 use rules::channel::Hint;
 
 // How much of the output is filled, whether every step fitted, and whether the rig came to rest.
-#[derive(Drop)]
+#[derive(Clone, Copy)]
 pub struct Chosen {
     pub filled: usize,
     pub whole: bool,

@@ -15,7 +15,7 @@ use rig::start::{no_messages, no_tables, start_board};
 use rules::channel::Hint;
 
 // How much of the output is filled, and whether every line fitted.
-#[derive(Drop)]
+#[derive(Clone, Copy)]
 pub struct Driven {
     pub filled: usize,
     pub whole: bool,

@@ -10,7 +10,7 @@ use plan_index::ends::numbers::put_numbers;
 use rules::step::RunAnswer;
 
 // The answer, and how much of the output is filled.
-#[derive(Drop)]
+#[derive(Clone, Copy)]
 pub struct Outcome {
     pub answer: RunAnswer,
     pub filled: usize,

@@ -10,7 +10,7 @@ use rules::step::StepAnswer;
 use rules::task::{Task, TaskState};
 
 // Why the run is refused, or else the task's record and its next instruction.
-#[derive(Drop)]
+#[derive(Clone, Copy)]
 pub enum Next {
     Refused(StepAnswer),
     Runs(Task, Instruction),
