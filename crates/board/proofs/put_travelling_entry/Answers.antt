@@ -1,0 +1,26 @@
+-- `put_travelling_entry`: the travelling pointer of the channel whose own entry is at k becomes h.
+use native.Mathlib.Omega.{arith}
+use Rattle.board.proofs.Stores.{travelling_put}
+use borrow.Author.Rules.{rules}
+use Rattle.board.proofs.put_travelling_entry.Goals as goal
+
+pub offset_bounds-board-k : goal.offset_bounds-board-k
+offset_bounds-board-k c = search rules
+
+pub bounds-board-k : goal.bounds-board-k
+bounds-board-k c = search rules
+
+pub with_travelling-requires : goal.with_travelling-requires
+with_travelling-requires c = search rules
+
+pub offset_bounds-board-k-2 : goal.offset_bounds-board-k-2
+offset_bounds-board-k-2 c = search rules
+
+pub bounds-board-k-2 : goal.bounds-board-k-2
+bounds-board-k-2 c = search rules
+
+pub returns : goal.returns
+returns c =
+    let s = c.before.before in
+    let g = s.well-formed.1.1 in
+    travelling_put s.args.board.now s.args.k s.args.h s.requires.0 s.requires.1 c.with_travelling.ensures (omega (arith, g)) (omega (arith, g))

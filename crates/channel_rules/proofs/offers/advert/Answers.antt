@@ -1,0 +1,24 @@
+-- An advert is opened, and its rule followed; another letter changes nothing.
+use mathlib.Core.Path.{refl, ◌∙◌}
+use Rattle.channel_rules.proofs.outcomes.Others.{other}
+use Rattle.channel_rules.specs.offers.Offers.{on_advert}
+use Rattle.channel_rules.specs.outcomes.Outcomes.{untouched}
+use borrow.Author.Rules.{rules}
+use Rattle.channel_rules.proofs.offers.advert.Goals as goal
+
+pub enum_known-m : goal.enum_known-m
+enum_known-m c = search rules
+
+pub untouched-requires : goal.untouched-requires
+untouched-requires c = search rules
+
+pub returns-in_default : goal.returns-in_default
+returns-in_default c =
+    let a = c.args in
+    c.untouched.ensures ∙ other 2 (on_advert a.x) (untouched a.x) a.m-1 tt c.in_default.in_default-own.keys2 (search rules)
+
+pub advert_rule-requires : goal.advert_rule-requires
+advert_rule-requires c = search rules
+
+pub returns : goal.returns
+returns c = c.advert_rule.ensures ∙ rw c.in-Advert.is refl

@@ -1,0 +1,32 @@
+-- `mortarsedge_choose`.
+use mathlib.Core.Path.{◌∙◌, ap, ap₂}
+use native.Mathlib.Omega.{arith}
+use borrow.Author.Rules.{rules}
+use Rattle.rules.specs.Answers.{run_number}
+use Rattle.dispatch.proofs.Outcomes.{choose_few}
+use Rattle.driver.specs.Runs.{packed}
+use Rattle.chooser.proofs.choice.mortarsedge_choose.Goals as goal
+
+pub choose_file-o-requires : goal.choose_file-o-requires
+choose_file-o-requires c = search rules
+
+pub run_number-number-requires : goal.run_number-number-requires
+run_number-number-requires c = search rules
+
+pub packed-requires : goal.packed-requires
+packed-requires c =
+    let f = c.before.before.before in
+    let a = f.args in
+    (c.run_number-number.ensures.1, omega (arith, f.choose_file-o.ensures.count, choose_few a.processors a.plan.now a.out-1.now))
+
+pub shape_of-out : goal.shape_of-out
+shape_of-out c = search rules
+
+pub returns : goal.returns
+returns c =
+    let f = c.before.before.before.before in
+    let r = f.choose_file-o.ensures in
+    record {
+      outcome = c.packed.ensures ∙ ap₂ packed (c.run_number-number.ensures.0 ∙ ap run_number r.answered) r.count;
+      bytes = r.bytes;
+    }

@@ -1,0 +1,55 @@
+use mathlib.Core.Path.{◌≡◌}
+use Prim.Native.Nat.{◌+◌, ◌-◌, ◌*◌, ◌≤◌}
+use native.Mathlib.Omega.{arith}
+use borrow.Author.Rules.{rules}
+use Rattle.convert.specs.Tasks.{task_in}
+use Rattle.convert.proofs.Finding.{marks_start, marks_more, marks_bound, marks_end}
+use Rattle.convert.proofs.find.find_task.Goals as goal
+
+pub new-m-requires : goal.new-m-requires
+new-m-requires c = search rules
+
+pub loop-i-init : goal.loop-i-init
+loop-i-init c =
+    let a = c.args in
+    let e = c.new-m.ensures in
+    rw e (omega arith, omega arith, omega arith, marks_start (task_in a.file.now a.at a.count))
+
+pub overflow_mul-i : goal.overflow_mul-i
+overflow_mul-i c = omega arith
+
+pub overflow_add-at : goal.overflow_add-at
+overflow_add-at c = omega arith
+
+pub fetch-x-requires : goal.fetch-x-requires
+fetch-x-requires c = omega arith
+
+pub next-m-requires : goal.next-m-requires
+next-m-requires c = (omega arith, omega arith)
+
+pub overflow_add-i : goal.overflow_add-i
+overflow_add-i c = omega arith
+
+pub loop-i-smaller : goal.loop-i-smaller
+loop-i-smaller c = omega arith
+
+pub loop-i-preserved : goal.loop-i-preserved
+loop-i-preserved c =
+    let f = c.before in
+    let l = f.before.before in
+    let known = l.before.before in
+    let a = known.args in
+    let i = l.loop-i.i in
+    let e = f.fetch-x.ensures in
+    let operand : f.fetch-x.result.operand ≤ 65535 =
+    rw e (omega (arith, known.shared_slice_known-1.given (a.at + 4 * i + 2), known.shared_slice_known-1.given (a.at + 4 * i + 2 + 1))) in
+    let (rounds, size) = marks_bound l.loop-i.m f.fetch-x.result i l.loop-i.invariant.1 operand l.loop-i.invariant.2 in
+    rw c.next-m.ensures
+    (omega arith, rounds, size, marks_more a.file.now a.at a.count i l.loop-i.m f.fetch-x.result (omega arith) l.loop-i.invariant.3 e)
+
+pub returns : goal.returns
+returns c =
+    let l = c.before in
+    let a = l.args in
+    let e : l.loop-i.i ≡ a.count = omega arith in
+    marks_end a.file.now a.at a.count l.loop-i.m (rw e at l.loop-i.invariant.3)

@@ -1,0 +1,43 @@
+-- The exported plan check answers the paper's number for every number of desks and every file.
+use mathlib.Core.Path.{◌≡◌, sym, ◌∙◌, ap}
+use mathlib.Core.Bool.{Bool}
+use mathlib.Core.List.{List}
+use Prim.Native.Nat.{ℕ}
+use borrow.Author.Rules.{rules}
+use borrow.Author.Tests.{not-true, not-false}
+use Rattle.base.specs.Choice.{unless, within}
+use Rattle.plan.specs.declared.PlanAnswer.TheVariants.{Refused}
+use Rattle.plan.specs.declared.Refusal.TheVariants.{BadProcessors}
+use Rattle.plan.specs.Answers.{answer_number}
+use Rattle.plan.specs.Files.{file_answer, start_answer}
+use Rattle.plan.specs.Outcomes.{start_number}
+use Rattle.driver.proofs.mortarsedge_plan_check.Goals as goal
+
+-- what the test of the desks leaves of the answer
+started_if : (n : ℕ) (p : List ℕ) {b : Bool} → within 1 6 n ≡ b → start_number n p ≡ answer_number (unless b (Refused BadProcessors) (file_answer p))
+unfolding start_number start_answer
+started_if n p e = ap (λ (b : Bool). answer_number (unless b (Refused BadProcessors) (file_answer p))) e
+
+pub is_within-requires : goal.is_within-requires
+is_within-requires c = search rules
+
+pub number-requires : goal.number-requires
+number-requires c = search rules
+
+pub returns-then-not-is_within : goal.returns-then-not-is_within
+returns-then-not-is_within c =
+    let l = c.before.before in
+    let e = sym l.is_Within.ensures ∙ not-true l.is_Within.result c.if-not-is_within.true-raw in
+    c.number.ensures ∙ sym (started_if _ _ e)
+
+pub check_plan-answer-requires : goal.check_plan-answer-requires
+check_plan-answer-requires c = search rules
+
+pub number-requires-2 : goal.number-requires-2
+number-requires-2 c = search rules
+
+pub returns : goal.returns
+returns c =
+    let l = c.before.before.before in
+    let e = sym l.is_Within.ensures ∙ not-false l.is_Within.result c.if-not-is_within.false-raw in
+    c.number-2.ensures ∙ ap answer_number c.check_plan-answer.ensures ∙ sym (started_if _ _ e)

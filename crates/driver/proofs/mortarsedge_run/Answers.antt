@@ -1,0 +1,45 @@
+-- `mortarsedge_run`.
+use mathlib.Core.Path.{◌∙◌, ap, ap₂}
+use Rattle.rules.specs.Answers.{run_number}
+use Rattle.claim.proofs.Files.{demand_3_file}
+use Rattle.driver.specs.Runs.{packed, run_outcome}
+use native.Mathlib.Omega.{arith}
+use Rattle.trace.proofs.Bound.{run_text_short}
+use Rattle.driver.proofs.Room.{room_enough}
+use Rattle.driver.proofs.Traced.{output_lines}
+use borrow.Author.Rules.{rules}
+use Rattle.driver.proofs.mortarsedge_run.Reads as reads
+use Rattle.driver.proofs.mortarsedge_run.Lts as lts
+use Rattle.driver.proofs.packed.Reads as packed-reads
+use Rattle.driver.proofs.run_number.Reads as run-number-reads
+use Rattle.run.proofs.file.run.run_file.Reads as run-file-reads
+use Rattle.driver.proofs.mortarsedge_run.Goals as goal
+
+pub run_file-o-requires : goal.run_file-o-requires
+run_file-o-requires c = search rules
+
+pub run_number-number-requires : goal.run_number-number-requires
+run_number-number-requires c = search rules
+
+pub packed-requires : goal.packed-requires
+packed-requires c =
+    let f = c.before.before.before in
+    let a = f.args in
+    (c.run_number-number.ensures.1, omega (arith, f.run_file-o.ensures.count, run_text_short a.processors a.plan.now a.steps.now a.out-1.now))
+
+pub shape_of-out : goal.shape_of-out
+shape_of-out c = search rules
+
+pub returns : goal.returns
+unfolding run_outcome
+returns c =
+    let f = c.before.before.before.before in
+    let a = f.args in
+    let r = f.run_file-o.ensures in
+    record {
+      outcome = c.packed.ensures ∙ ap₂ packed (c.run_number-number.ensures.0 ∙ ap run_number r.answered) r.count;
+      bytes = r.bytes;
+      room = room_enough a.processors a.plan.now a.steps.now a.out-1.now;
+      demand_3 = λ h. demand_3_file a.processors a.plan.now h a.steps.now;
+      lines = λ h. r.bytes ∙ output_lines a.processors a.plan.now a.steps.now a.out-1.now h;
+    }

@@ -1,0 +1,30 @@
+-- `runnable`: a task after the last one, or one up to it.
+use mathlib.Core.Logic.{by_cases}
+use native.Mathlib.Decide.{dec_lt}
+use native.Mathlib.Omega.{arith}
+use borrow.Author.Rules.{rules}
+use Rattle.finish.proofs.search.runnable.Goals as goal
+
+pub search-t-requires : goal.search-t-requires
+search-t-requires c = search rules
+
+pub returns-then-t-ne0 : goal.returns-then-t-ne0
+returns-then-t-ne0 c =
+    let (low, high, can) = c.search-t.ensures.some c.if-t-ne0.true in
+    record { some = λ ne. (omega arith, high, can); none = λ e. absurd (c.if-t-ne0.true e) }
+
+pub search-requires : goal.search-requires
+search-requires c = search rules
+
+pub returns : goal.returns
+returns c =
+    let else1 = c.before in
+    let last = else1.args.last in
+    record {
+      some = λ ne. let (low, high, can) = c.search.ensures.some ne in (low, omega (arith, else1.requires.1), can);
+      none =
+          λ e t low high.
+          by_cases (dec_lt last t)
+          (λ l. else1.search-t.ensures.none else1.if-t-ne0.false t l high)
+          (λ l. c.search.ensures.none e t low (omega arith));
+    }

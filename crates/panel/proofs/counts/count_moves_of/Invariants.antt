@@ -1,0 +1,15 @@
+-- `count_moves_of`: after k of them, the moves of the task to desks 1 .. k are counted.
+use Prim.Native.Nat.{ℕ, ◌+◌, ◌-◌, ◌≤◌}
+use Rattle.rules.specs.declared.system.System.{System}
+use Rattle.board.specs.Lent.{tasks_on}
+use Rattle.panel_laws.specs.Tallies.{moves_of}
+use Rattle.panel.specs.Counted.{Few, CountsMore, MovesAs}
+use Rattle.panel.specs.Tally.{counts_of}
+use Rattle.panel.proofs.counts.count_moves_of.Given as goal
+
+abbrev pub invariant-loop-k : goal.invariant-loop-k
+invariant-loop-k l =
+    (l.k ≤ l.n.processors) × ((l : ℕ) → Few l (counts_of l.initial.q) → Few (l + l.k) (counts_of l.q)) × ((r : System) → MovesAs (tasks_on l.board) l.n r → CountsMore r (moves_of l.t l.k) (counts_of l.initial.q) (counts_of l.q))
+
+abbrev pub decreases-loop-k : goal.decreases-loop-k
+decreases-loop-k l = l.n.processors - l.k

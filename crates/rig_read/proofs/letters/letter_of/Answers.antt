@@ -1,0 +1,70 @@
+use borrow.Author.Tests.{ne_eqb}
+use Rattle.image.specs.Letters.{letter_of}
+use native.Mathlib.Omega.{arith}
+use mathlib.Core.Path.{◌≡◌, refl}
+use Prim.Native.Nat.{◌%◌}
+use borrow.Author.Rules.{rules}
+use Rattle.rig_read.proofs.letters.letter_of.Goals as goal
+
+pub low8-kind-requires : goal.low8-kind-requires
+low8-kind-requires c = search rules
+
+pub low8-number-requires : goal.low8-number-requires
+low8-number-requires c = search rules
+
+pub low8-requires : goal.low8-requires
+low8-requires c = search rules
+
+pub low8-requires-2 : goal.low8-requires-2
+low8-requires-2 c = search rules
+
+pub low16-moves-requires : goal.low16-moves-requires
+low16-moves-requires c = search rules
+
+pub low8-requires-in-1 : goal.low8-requires-in-1
+low8-requires-in-1 c = search rules
+
+pub word_of-word-requires : goal.word_of-word-requires
+word_of-word-requires c = search rules
+
+pub returns-in-1 : goal.returns-in-1
+unfolding letter_of
+returns-in-1 c =
+    let e : c.args.v % 256 ≡ 1 = omega arith in
+    rw e (cc)
+
+pub returns-in-2 : goal.returns-in-2
+unfolding letter_of
+returns-in-2 c =
+    let e : c.args.v % 256 ≡ 2 = omega arith in
+    rw e (cc)
+
+pub returns-in-3 : goal.returns-in-3
+unfolding letter_of
+returns-in-3 c =
+    let e : c.args.v % 256 ≡ 3 = omega arith in
+    rw e (cc)
+
+pub returns-in-4 : goal.returns-in-4
+unfolding letter_of
+returns-in-4 c =
+    let e : c.args.v % 256 ≡ 4 = omega arith in
+    rw e (cc)
+
+pub returns-in-5 : goal.returns-in-5
+unfolding letter_of
+returns-in-5 c =
+    let e : c.args.v % 256 ≡ 5 = omega arith in
+    rw e (cc)
+
+pub returns-in-6 : goal.returns-in-6
+unfolding letter_of
+returns-in-6 c =
+    let e : c.args.v % 256 ≡ 6 = omega arith in
+    rw e (cc)
+
+pub returns-in_default : goal.returns-in_default
+unfolding letter_of
+returns-in_default c =
+    let n = c.args.v % 256 in
+    rw (ne_eqb n 1 (λ q. omega arith), ne_eqb n 2 (λ q. omega arith), ne_eqb n 3 (λ q. omega arith), ne_eqb n 4 (λ q. omega arith), ne_eqb n 5 (λ q. omega arith), ne_eqb n 6 (λ q. omega arith)) refl

@@ -1,0 +1,35 @@
+use Prim.Native.Nat.{◌-◌}
+use native.Mathlib.Omega.{arith}
+use borrow.Author.Rules.{rules}
+use Rattle.image.specs.Numbers.{numbers_at}
+use Rattle.rig_read.proofs.Places.{byte_in}
+use Rattle.rig_read.proofs.Filling.{filled_none, filled_more, filled_all}
+use Rattle.rig_read.proofs.parts.read_bytes.Goals as goal
+
+pub loop-k-init : goal.loop-k-init
+loop-k-init c = (omega arith, filled_none c.requires.1)
+
+pub overflow_add-table : goal.overflow_add-table
+overflow_add-table c = search rules
+
+pub bounds-rig-at : goal.bounds-rig-at
+bounds-rig-at c = search rules
+
+pub bounds-table-k : goal.bounds-table-k
+bounds-table-k c = search rules
+
+pub overflow_add-k : goal.overflow_add-k
+overflow_add-k c = search rules
+
+pub loop-k-smaller : goal.loop-k-smaller
+loop-k-smaller c = search rules
+
+pub loop-k-preserved : goal.loop-k-preserved
+loop-k-preserved c =
+    let l = c.loop-k in
+    let a = c.args in
+    (omega arith, filled_more l.invariant.1 (omega arith) _ (byte_in a.rig.now a.at l.k))
+
+pub returns : goal.returns
+unfolding numbers_at
+returns c = filled_all (omega arith) c.loop-k.invariant.1

@@ -1,0 +1,40 @@
+use mathlib.Core.Path.{◌≡◌, ◌∙◌}
+use Prim.Native.Nat.{◌-◌}
+use native.Mathlib.Omega.{arith}
+use native.Mathlib.Numerals.{add-one}
+use Rattle.base.specs.Range.{fold}
+use Rattle.run.specs.file.Writes.{mark_lines}
+use Rattle.run.proofs.all_steps.Progress.{next_none, next_then}
+use Rattle.run.proofs.file.last.emit_marks.Goals as goal
+
+pub loop-t-init : goal.loop-t-init
+unfolding mark_lines fold
+loop-t-init c = (omega arith, next_none _ _)
+
+pub overflow_add-t : goal.overflow_add-t
+overflow_add-t c = omega arith
+
+pub emit_mark-requires : goal.emit_mark-requires
+emit_mark-requires c =
+    let l = c.before.before.before in
+    let start = l.before.before in
+    let lines = l.loop-t.invariant.1 in
+    (omega arith, lines.long ∙ start.requires.1, lines.room start.requires.2)
+
+pub loop-t-smaller : goal.loop-t-smaller
+loop-t-smaller c = omega arith
+
+pub loop-t-preserved : goal.loop-t-preserved
+unfolding mark_lines fold
+loop-t-preserved c =
+    let m = c.before.before in
+    let l = m.before.before.before.before in
+    (omega arith, rw add-one (next_then l.loop-t.invariant.1 (rw add-one at m.emit_mark.ensures)))
+
+pub shape_of-out : goal.shape_of-out
+shape_of-out c = c.loop-t.invariant.1.kept
+
+pub returns : goal.returns
+returns c =
+    let e : c.loop-t.t ≡ c.args.tasks = omega arith in
+    rw e at c.loop-t.invariant.1

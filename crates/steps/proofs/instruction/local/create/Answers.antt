@@ -1,0 +1,60 @@
+-- `create`: a create of task t, with record x: task u is born at its desk.
+use mathlib.Core.Path.{refl, ◌∙◌}
+use borrow.Author.Rules.{rules}
+use Rattle.rules.specs.declared.rule.Posting.TheVariants.{Nothing as NoPosting}
+use Rattle.rules.specs.Hints.{hint}
+use Rattle.rules.specs.Tasks.{born}
+use Rattle.rules.specs.Local.{create_rule}
+use Rattle.rig_parts.specs.declared.sweep.Sweep.TheVariants.{Birth}
+use Rattle.plan_index.specs.user_table.Users.{receivers_of}
+use Rattle.board.specs.Lent.{lent}
+use Rattle.steps.proofs.instruction.Locals.{two_acted}
+use Rattle.steps.proofs.instruction.local.create.Goals as goal
+
+pub create_rule-y-requires : goal.create_rule-y-requires
+create_rule-y-requires c = search rules
+
+pub birth-child-requires : goal.birth-child-requires
+birth-child-requires c = search rules
+
+pub put_task-requires : goal.put_task-requires
+put_task-requires c = search rules
+
+pub put_task-requires-2 : goal.put_task-requires-2
+put_task-requires-2 c = search rules
+
+pub point_parent-requires : goal.point_parent-requires
+point_parent-requires c =
+    let s = c.before.before.before.before.before.before.before.before in
+    let can = s.requires.2 in
+    (record { processor_low = can.processor_low; processor = can.processor; task = can.child }, c.put_task-2.ensures.0)
+
+pub locate-requires : goal.locate-requires
+locate-requires c = search rules
+
+pub posted-requires : goal.posted-requires
+posted-requires c = search rules
+
+pub returns : goal.returns
+returns c ss op on notes =
+    let found = c.before in
+    let point = found.before.before.before in
+    let second = point.before.before in
+    let first = second.before.before in
+    let child = first.before.before in
+    let made = child.before in
+    let a = made.args in
+    let x = a.x in
+    let d = x.processor in
+    let one = first.put_task in
+    let two = second.put_task-2 in
+    let put = point.point_parent in
+    let at = found.locate in
+    let now = put.new.0 in
+    two_acted ss (receivers_of a.users.now) a.t a.u d (create_rule x a.u) (born d (hint d x.moves)) NoPosting (Birth a.u d)
+    (lent a.hintprocessors.now a.hintmoves.now op on notes a.board.now) (lent at.new.1.0 at.new.1.1.0 op on notes now)
+    put.ensures.0
+    c.posted.ensures
+    (put.ensures.2 ∙ two.ensures.1 ∙ rw (one.ensures.1, made.create_rule-y.ensures, child.birth-child.ensures) refl)
+    ((at.ensures op on notes now put.ensures.0).store ∙ rw (put.ensures.3, two.ensures.2, one.ensures.2) refl)
+    (put.ensures.1 ∙ rw (two.ensures.3, one.ensures.3) refl)

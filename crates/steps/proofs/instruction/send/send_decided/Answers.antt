@@ -1,0 +1,26 @@
+-- `send_decided`: what a send of task t on channel c would say and post.
+use Rattle.rig_parts.specs.declared.sweep.Sweep.TheVariants.{Nothing}
+use Rattle.plan_index.specs.user_table.Users.{receivers_of}
+use Rattle.board.specs.Lent.{tasks_on}
+use Rattle.steps.specs.instruction.Sends.{send_scope}
+use Rattle.steps.proofs.instruction.Decided.{decided}
+use Rattle.steps.proofs.instruction.Sending.{send_noted}
+use borrow.Author.Rules.{rules}
+use Rattle.steps.proofs.instruction.send.send_decided.Goals as goal
+
+pub send_outcome-o-requires : goal.send_outcome-o-requires
+send_outcome-o-requires c = search rules
+
+pub fitted-requires : goal.fitted-requires
+fitted-requires c = search rules
+
+pub returns : goal.returns
+returns c =
+    let x = c.before in
+    let s = x.args in
+    let some = x.requires.sendable.at.channel_low in
+    let k = send_scope (receivers_of s.users.now) (tasks_on s.board.now) s.t s.c in
+    λ notes.
+    decided s.n.processors s.n.used k x.send_outcome-o.result
+    (send_noted s.codes.now s.numbers.now (receivers_of s.users.now) s.hintprocessors.now s.hintmoves.now s.heldprocessors.now s.heldnumbers.now s.board.now s.t s.c some notes x.send_outcome-o.ensures)
+    (c.fitted.ensures k Nothing)

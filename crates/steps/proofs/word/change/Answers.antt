@@ -1,0 +1,18 @@
+-- `change`: the task's new record is stored.
+use mathlib.Core.Path.{◌∙◌, ap}
+use borrow.Author.Rules.{rules}
+use Rattle.rules.specs.Systems.{task_stored}
+use Rattle.board.specs.Lent.{tasks_on}
+use Rattle.steps.proofs.word.change.Goals as goal
+
+pub word_changed-y-requires : goal.word_changed-y-requires
+word_changed-y-requires c = search rules
+
+pub put_task-requires : goal.put_task-requires
+put_task-requires c = search rules
+
+pub returns : goal.returns
+returns c =
+    let e = c.put_task.ensures in
+    let w = c.before.before in
+    (e.0, e.1 ∙ ap (task_stored (tasks_on _) _) w.word_changed-y.ensures, e.2, e.3)

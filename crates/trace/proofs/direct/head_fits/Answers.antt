@@ -1,0 +1,35 @@
+-- `head_fits` tests whether a line of two numbers fits.
+use mathlib.Core.Path.{◌≡◌, refl, sym}
+use mathlib.Core.List.{[], ◌∷◌, ◌++◌}
+use Prim.Native.Nat.{◌+◌}
+use native.Mathlib.Omega.{arith}
+use lib.ListN.{length}
+use borrow.Author.Tests.{le-leb}
+use Rattle.rules.specs.Trace.{decimal, fields}
+use Rattle.trace.proofs.Decimals.{five_digits}
+use Rattle.trace.proofs.Putting.{two_length}
+use borrow.Author.Rules.{rules}
+use Rattle.trace.proofs.direct.head_fits.Goals as goal
+
+pub returns-then-left-ge42 : goal.returns-then-left-ge42
+returns-then-left-ge42 c =
+    let a = c.args in
+    sym (le-leb (length (decimal a.k ++ fields (a.a ∷ []))) a.left (omega (arith, two_length a.k a.a, five_digits a.k c.requires.0, five_digits a.a c.requires.1)))
+
+pub digits-requires : goal.digits-requires
+digits-requires c = search rules
+
+pub digits-requires-2 : goal.digits-requires-2
+digits-requires-2 c = search rules
+
+pub overflow_add-result : goal.overflow_add-result
+overflow_add-result c = search rules
+
+pub overflow_add-result-2 : goal.overflow_add-result-2
+overflow_add-result-2 c = search rules
+
+pub returns : goal.returns
+returns c =
+    let a = c.args in
+    let long : c.digits.result + c.digits-2.result + 2 ≡ length (decimal a.k ++ fields (a.a ∷ [])) = omega (arith, two_length a.k a.a) in
+    rw long refl
