@@ -60,9 +60,9 @@ use Rattle.run.proofs.all_steps.run_steps.Statement.{statement}
 
 use Rattle.run.proofs.all_steps.run_steps.Tie as tie
 
-use Rattle.run.proofs.all_steps.run_steps.Proof.Stages.{Inv-loop2, μ-loop2, Inv-loop3, μ-loop3, Inv-loop, μ-loop, opened, tried, chosen, entered, begun, given, here, size-at, parts, rig_on, few, line_asks, with-board, message_there}
+use Rattle.run.proofs.all_steps.run_steps.Answers.Stages.{Inv-loop2, μ-loop2, Inv-loop3, μ-loop3, Inv-loop, μ-loop, opened, tried, chosen, entered, begun, given, here, size-at, parts, rig_on, few, line_asks, with-board, message_there}
 
-use Rattle.run.proofs.all_steps.run_steps.Proof.Networks.{other-left, word_kept, other_acted, free_one, free, network_is, network_then}
+use Rattle.run.proofs.all_steps.run_steps.Answers.Networks.{other-left, word_kept, other_acted, free_one, free, network_is, network_then}
 
 pub loop-k-init : goal.loop-k-init Inv-loop2 μ-loop2 Inv-loop3 μ-loop3 Inv-loop μ-loop
 loop-k-init c =

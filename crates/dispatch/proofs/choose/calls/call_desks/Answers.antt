@@ -54,11 +54,11 @@ use Rattle.dispatch.proofs.choose.calls.call_desks.Statement.{statement}
 
 use Rattle.dispatch.proofs.choose.calls.call_desks.Tie as tie
 
-use Rattle.dispatch.proofs.choose.calls.call_desks.Proof.Stages.{Inv-loop2, μ-loop2, Inv-loop3, μ-loop3, Inv-loop4, μ-loop4, Inv-loop, μ-loop, At-loop2, start, call, head, known, desk, called_desk, desk_ok, found_none, letter_there}
+use Rattle.dispatch.proofs.choose.calls.call_desks.Answers.Stages.{Inv-loop2, μ-loop2, Inv-loop3, μ-loop3, Inv-loop4, μ-loop4, Inv-loop, μ-loop, At-loop2, start, call, head, known, desk, called_desk, desk_ok, found_none, letter_there}
 
-use Rattle.dispatch.proofs.choose.calls.call_desks.Proof.Deliveries.{found, delivered, known_delivered}
+use Rattle.dispatch.proofs.choose.calls.call_desks.Answers.Deliveries.{found, delivered, known_delivered}
 
-use Rattle.dispatch.proofs.choose.calls.call_desks.Proof.Runs.{joined, searched, chosen, room, made, found as found-task}
+use Rattle.dispatch.proofs.choose.calls.call_desks.Answers.Runs.{joined, searched, chosen, room, made, found as found-task}
 
 pub loop-k-init : goal.loop-k-init Inv-loop2 μ-loop2 Inv-loop3 μ-loop3 Inv-loop4 μ-loop4 Inv-loop μ-loop
 loop-k-init c = (omega arith, λ r o. going_start 12006 o _ c.requires.1)

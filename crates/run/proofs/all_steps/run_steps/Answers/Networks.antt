@@ -20,7 +20,7 @@ use Rattle.run.proofs.all_steps.Posts.{one_room}
 use Rattle.run.proofs.all_steps.Mail.{joins, opened_posts, delivered_mail}
 use Rattle.run.proofs.all_steps.Acting.{step_room}
 use Rattle.run.proofs.all_steps.run_steps.Tie as tie
-use Rattle.run.proofs.all_steps.run_steps.Proof.Stages.{Inv-loop2, μ-loop2, Inv-loop3, μ-loop3, Inv-loop, μ-loop, opened, tried, chosen, entered, begun, given, here, parts, with-board, message_there}
+use Rattle.run.proofs.all_steps.run_steps.Answers.Stages.{Inv-loop2, μ-loop2, Inv-loop3, μ-loop3, Inv-loop, μ-loop, opened, tried, chosen, entered, begun, given, here, parts, with-board, message_there}
 
 -- what a step that delivers nothing leaves
 abbrev pub other-left : tie.After-other Inv-loop2 μ-loop2 Inv-loop3 μ-loop3 Inv-loop μ-loop → Lent

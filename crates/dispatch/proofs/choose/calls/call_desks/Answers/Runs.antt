@@ -12,8 +12,8 @@ use Rattle.network.proofs.Posted.{after, rounds_all}
 use Rattle.board.specs.Lent.{Lent, lent}
 use Rattle.dispatch.specs.Boards.{TurnMade}
 use Rattle.dispatch.proofs.Boards.{choice_of, on_chosen, on_run, run_room, some_run}
-use Rattle.dispatch.proofs.choose.calls.call_desks.Proof.Stages.{At-loop2, Joined4, After-next-ready, Then5, After-carry-out, After-loop4, start, head, desk, place_is}
-use Rattle.dispatch.proofs.choose.calls.call_desks.Proof.Deliveries.{OnJoined, known_delivered}
+use Rattle.dispatch.proofs.choose.calls.call_desks.Answers.Stages.{At-loop2, Joined4, After-next-ready, Then5, After-carry-out, After-loop4, start, head, desk, place_is}
+use Rattle.dispatch.proofs.choose.calls.call_desks.Answers.Deliveries.{OnJoined, known_delivered}
 
 -- where the ways of the delivery met, where the search for a letter began, and where a task was found
 abbrev pub joined : After-next-ready → Joined4

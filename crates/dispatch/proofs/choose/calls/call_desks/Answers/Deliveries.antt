@@ -12,7 +12,7 @@ use Rattle.network.proofs.Gaps.{holding}
 use Rattle.board.specs.Lent.{Lent, lent}
 use Rattle.dispatch.specs.Boards.{On, TurnMade}
 use Rattle.dispatch.proofs.Boards.{no_delivery, some_delivery, delivered_posts, on_delivery, turn_as}
-use Rattle.dispatch.proofs.choose.calls.call_desks.Proof.Stages.{Then4, After-deliver, After-wide82, Joined4, start, head, OnAt, known, desk, found_none, found_first}
+use Rattle.dispatch.proofs.choose.calls.call_desks.Answers.Stages.{Then4, After-deliver, After-wide82, Joined4, start, head, OnAt, known, desk, found_none, found_first}
 
 -- where the letter was found
 abbrev pub found : After-deliver → Then4
