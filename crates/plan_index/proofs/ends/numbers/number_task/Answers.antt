@@ -80,18 +80,18 @@ loop-i-preserved c =
     let i = c.loop-i.i in
     let inv = c.loop-i.invariant in
     elim c.if-x-eq-SEND.branch [
-      then-x-eq-SEND w ↦
-        let send = sym (kind c.of-x.ensures) ∙ w.if-x-eq-SEND.true in
-        let n = w.wide16-c.result in
-        let channel = on c.of-x.ensures w.wide16-c.ensures in
-        let fits = c.requires.3 i (omega arith) send in
-        let unsent : get_or a.sent.now n 0 ≡ 0 = rw channel (c.requires.5 i (omega arith) send) in
-        let sent = sent_more o a.k i send n channel (omega arith) a.sent.now unsent c.loop-i.sent inv.1 in
-        let numbers = numbers_more o a.k i send n channel (omega arith) a.sent.now unsent c.loop-i.sent inv.1 (omega arith) (omega arith) a.numbers.now c.loop-i.numbers inv.2 in
-        (omega arith, w.sent-is ∙ sent, w.numbers-is ∙ numbers)
-    | else-x-eq-SEND w ↦
-        let other : (slot_in o (64 * a.k + i)).opcode ≢ op_send = λ e. w.if-x-eq-SEND.false (kind c.of-x.ensures ∙ e) in
-        (omega arith, w.sent-is ∙ inv.1 ∙ sent_same o a.k i other a.sent.now, w.numbers-is ∙ inv.2 ∙ numbers_same o a.k i other a.numbers.now)
+      | then-x-eq-SEND w ↦
+          let send = sym (kind c.of-x.ensures) ∙ w.if-x-eq-SEND.true in
+          let n = w.wide16-c.result in
+          let channel = on c.of-x.ensures w.wide16-c.ensures in
+          let fits = c.requires.3 i (omega arith) send in
+          let unsent : get_or a.sent.now n 0 ≡ 0 = rw channel (c.requires.5 i (omega arith) send) in
+          let sent = sent_more o a.k i send n channel (omega arith) a.sent.now unsent c.loop-i.sent inv.1 in
+          let numbers = numbers_more o a.k i send n channel (omega arith) a.sent.now unsent c.loop-i.sent inv.1 (omega arith) (omega arith) a.numbers.now c.loop-i.numbers inv.2 in
+          (omega arith, w.sent-is ∙ sent, w.numbers-is ∙ numbers)
+      | else-x-eq-SEND w ↦
+          let other : (slot_in o (64 * a.k + i)).opcode ≢ op_send = λ e. w.if-x-eq-SEND.false (kind c.of-x.ensures ∙ e) in
+          (omega arith, w.sent-is ∙ inv.1 ∙ sent_same o a.k i other a.sent.now, w.numbers-is ∙ inv.2 ∙ numbers_same o a.k i other a.numbers.now)
     ]
 
 pub returns : goal.returns
