@@ -15,7 +15,7 @@ untouched-requires c = search rules
 pub returns-in_default : goal.returns-in_default
 returns-in_default c =
     let a = c.args in
-    c.untouched.ensures ∙ other 1 (on_offer a.x) (untouched a.x) a.m-1 tt c.in_default.in_default-own.keys2 (search rules)
+    c.untouched.ensures ∙ other 1 (on_offer a.x) (untouched a.x) a.m tt c.in_default.in_default-own.keys2 (search rules)
 
 pub offer_rule-requires : goal.offer_rule-requires
 offer_rule-requires c = search rules
