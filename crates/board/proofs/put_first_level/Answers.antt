@@ -61,7 +61,7 @@ bounds-board-n-2 c = search rules
 
 small : (s : Start) → NarrowTask s.args.x
 small s =
-    let g = s.well-formed.1.1 in
+    let g = s.well_formed.1.1 in
     (omega (arith, g), omega (arith, g), omega (arith, g), omega (arith, g), omega (arith, g), (omega (arith, g), omega (arith, g), omega (arith, g), omega (arith, g)))
 
 pub returns : goal.returns
@@ -74,8 +74,8 @@ returns c =
     let m = z.wide8-n.ensures in
     let long = s.requires.2 in
     let w = c.task_word.ensures in
-    let same = subst (λ (u : Word). SameAbove u x.word-1) (word_read board t m (omega arith) (omega arith)) s.requires.3 in
-    let v = c.with_first_level.ensures ∙ first_number_lem _ x.word-1 same in
+    let same = subst (λ (u : Word). SameAbove u x.word) (word_read board t m (omega arith) (omega arith)) s.requires.3 in
+    let v = c.with_first_level.ensures ∙ first_number_lem _ x.word same in
     let y = task_in (tasks_on board) t in
     let records = task_written board t.0 x m (omega arith) (omega arith) long w v (small s) in
     let sets = ready_kept board t.0 x m (omega arith) (omega arith) long w v (small s) ∙ sym (standing 1 t y x (ready_on board) s.requires.4) in

@@ -27,7 +27,7 @@ offset_bounds-board-n c = search rules
 there : (c : Then-is_within) → let n = c.wide8-n.result in (1 ≤ n) × (n ≤ 6)
 there c =
     let n = c.wide8-n.result in
-    let e : within 1 6 n ≡ true = sym c.before.is_Within.ensures ∙ c.if-is_within.true in
+    let e : within 1 6 n ≡ true = sym c.before.is_within.ensures ∙ c.if-is_within.true in
     (within_low 1 6 n e, within_high 1 6 n e)
 
 pub bounds-board-n : goal.bounds-board-n
@@ -61,6 +61,6 @@ pub returns-else-is_within : goal.returns-else-is_within
 returns-else-is_within c =
     let w = c.before.before in
     let a = w.args in
-    let e : within 1 6 w.wide8-n.result ≡ false = sym c.before.is_Within.ensures ∙ c.if-is_within.false in
+    let e : within 1 6 w.wide8-n.result ≡ false = sym c.before.is_within.ensures ∙ c.if-is_within.false in
     set_stays a.board.now a.d (λ s. pick a.joins (inserted a.t.0 s) (removed a.t.0 s)) w.requires.2
     (λ some few. tests_differ (within_both 1 6 w.wide8-n.result (omega arith) (omega arith)) e)
