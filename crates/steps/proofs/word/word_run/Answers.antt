@@ -60,7 +60,7 @@ next s = next_at (given s) (tasks_on s.args.board.now) (named s)
 
 -- what a test that is passed says
 counted : (c : Else-not-is_within) → within 1 (from3 c).args.n.tasks (from3 c).args.s.task ≡ true
-counted c = sym (tested c.before.is_Within.ensures c.wide8.ensures c.wide8-2.ensures) ∙ not-false c.before.is_Within.result c.if-not-is_within.false-raw
+counted c = sym (tested c.before.is_within.ensures c.wide8.ensures c.wide8-2.ensures) ∙ not-false c.before.is_within.result c.if-not-is_within.false-raw
 
 few : (c : Else-not-is_within) → (from3 c).args.s.task ≤ 64
 few c =

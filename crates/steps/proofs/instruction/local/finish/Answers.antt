@@ -60,7 +60,7 @@ pub put_parent-requires : goal.put_parent-requires
 put_parent-requires c =
     let parent = c.before.before.before.before.before.before.before.before in
     let can = parent.requires.2 in
-    (record { processor_low = can.processor_low; processor = can.processor; task = rw parent.parent-u.ensures can.parent-u }, c.put_task-2.ensures.0)
+    (record { processor_low = can.processor_low; processor = can.processor; task = rw parent.parent-u.ensures can.parent }, c.put_task-2.ensures.0)
 
 pub posted-requires : goal.posted-requires
 posted-requires c = search rules

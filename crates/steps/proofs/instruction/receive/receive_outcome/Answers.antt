@@ -13,13 +13,13 @@ receiver c = c.before.before
 
 -- what the sender's record is asked for
 abbrev Behind : After-task_at-a → Type 0
-Behind b = (b.sender-u.result.0 ≤ 64) × (b.task_at-a.result.pc ≤ 65)
+Behind b = (b.sender.result.0 ≤ 64) × (b.task_at-a.result.pc ≤ 65)
 
 -- that holds
 behind : (b : After-task_at-a) → Behind b
 behind b =
     let g = (receiver b).requires in
-    (rw b.sender-u.ensures g.sender-u, rw (b.task_at-a.ensures, b.sender-u.ensures) g.sender_place)
+    (rw b.sender.ensures g.sender-u, rw (b.task_at-a.ensures, b.sender.ensures) g.sender_place)
 
 pub task_at-b-requires : goal.task_at-b-requires
 task_at-b-requires c = search rules

@@ -41,7 +41,7 @@ pub is_on-receiving-requires : goal.is_on-receiving-requires
 is_on-receiving-requires c =
     let b = c.before.before.before in
     let g = (sender b).requires in
-    (rw b.receiver-u.ensures g.receiver-u, rw (b.task_at-b.ensures, b.receiver-u.ensures) g.receiver_place)
+    (rw b.receiver.ensures g.receiver-u, rw (b.task_at-b.ensures, b.receiver.ensures) g.receiver_place)
 
 pub cell_of-cell-requires : goal.cell_of-cell-requires
 cell_of-cell-requires c = search rules
@@ -84,6 +84,6 @@ returns c =
     let a = sender b in
     let s = a.args in
     send_fetched s.codes.now s.numbers.now (receivers_of s.users.now) s.hintprocessors.now s.hintmoves.now s.heldprocessors.now s.heldnumbers.now s.board.now s.t s.c a.requires.at.channel_low
-    a.task_at-a.ensures b.receiver-u.ensures b.task_at-b.ensures hint.hint_at-hint.ensures channel.held_at-held.ensures
+    a.task_at-a.ensures b.receiver.ensures b.task_at-b.ensures hint.hint_at-hint.ensures channel.held_at-held.ensures
     channel.channel_at-channel.ensures x.is_on-receiving.ensures x.cell_of-cell.ensures second.wide8.ensures second.wide8-2.ensures
     c.send_rule.ensures
