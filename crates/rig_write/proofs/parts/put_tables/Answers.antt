@@ -14,11 +14,11 @@ pub returns : goal.returns
 unfolding table_bytes
 returns c =
     let a = c.args in
-    let l1 : length a.hintprocessors.now ≡ 768 = c.put_bytes-arg-2-1.given.0 in
-    let l2 : length a.hintmoves.now ≡ 768 = c.put_moves-arg-2-1.given.0 in
-    let l3 : length a.heldprocessors.now ≡ 768 = c.put_bytes-arg-4-1.given.0 in
-    let l4 : length a.heldnumbers.now ≡ 768 = c.put_bytes-arg-6-1.given.0 in
-    let l5 : length a.notes.now ≡ 768 = c.put_bytes-arg-8-1.given.0 in
+    let l1 : length a.hintprocessors.now ≡ 768 = omega arith in
+    let l2 : length a.hintmoves.now ≡ 768 = omega arith in
+    let l3 : length a.heldprocessors.now ≡ 768 = omega arith in
+    let l4 : length a.heldnumbers.now ≡ 768 = omega arith in
+    let l5 : length a.notes.now ≡ 768 = omega arith in
     let long = length_numbers 2 a.hintmoves.now in
     record {
       bytes =
