@@ -2,7 +2,7 @@
 // with every repeat written out, and prints the number of instructions before and after; or `refused` and
 // the number, and then `rig.plan` is not touched.
 #![tactic(auto)]
-use anyhow::{Context, Result};
+
 use plan_file::fields::word_at;
 use std::fs::File;
 use std::io;
@@ -28,21 +28,27 @@ fn save(rt: &impl Files, name: &str, out: &[u8], filled: usize) -> io::Result<()
 }
 
 // The answer is the number of the refusal, 0 for none, and 256 times how much of the output is filled.
-fn say(rt: &(impl Files + Print), answer: u64, repeats: &[u8], out: &[u8]) -> Result<()> {
+fn say(
+    rt: &(impl Files + Print + Eprint),
+    answer: u64,
+    repeats: &[u8],
+    out: &[u8],
+) -> io::Result<()> {
     let number = answer % 256;
     if number != 0 {
-        print_refusal(rt, number)?;
-        return Ok(());
+        return print_refusal(rt, number);
     }
     let name = "rig.plan";
-    save(rt, name, out, (answer / 256) as usize).context(name)?;
-    print_counts(rt, word_at(repeats, 2), word_at(out, 2))?;
-    Ok(())
+    if let Err(e) = save(rt, name, out, (answer / 256) as usize) {
+        show_files::fail(rt, name, e);
+        return Ok(());
+    }
+    print_counts(rt, word_at(repeats, 2), word_at(out, 2))
 }
 
 // The buffers are longer than any accepted file, of 16,644 bytes, so that a longer one is refused and not
 // cut, and a written one fits.
-fn main(rt: HostRuntime) -> Result<()> {
+fn main(rt: HostRuntime) -> io::Result<()> {
     let mut repeats = [0u8; 65536];
     let mut out = [0u8; 65536];
     let size = show_files::load(&rt, "rig.repeats", &mut repeats);

@@ -45,3 +45,8 @@ pub fn load_present(rt: &impl Files, name: &str, file: &mut [u8]) -> io::Result<
     let mut input = File::open(rt, name)?;
     Ok(read_full(&mut input, file))
 }
+
+// Says on standard error what failed and why.
+pub fn fail(rt: &impl Eprint, what: &str, why: io::Error) {
+    let _ = eprintln!(rt; "{what}: {why}");
+}
