@@ -3,10 +3,10 @@ pub mod Filling
 mod Entries
 mod Headers
 pub mod Instructions
--- What the stages of reading give together is the paper's reading of a file; what a reader owns.
+-- What the stages of reading give together is the paper's reading of a file.
 mod Empty
 mod Answers
 mod Rest
 pub mod Meaning
+mod Fronts
 pub mod Opens
-mod Held

@@ -3,9 +3,6 @@ use Rattle.rules.specs.LogFiles.{log_length_ok}
 use borrow.Author.Rules.{rules}
 use Rattle.logs.proofs.records.length_ok.Goals as goal
 
-pub both-requires : goal.both-requires
-both-requires c = search rules
-
 pub returns : goal.returns
 unfolding log_length_ok
 returns c = c.both.ensures

@@ -1,7 +1,6 @@
 use Prim.Native.Nat.{◌+◌, ◌≤◌, ◌*◌, ◌-◌}
 use mathlib.Core.Path.{◌≡◌, sym, ◌∙◌, ap}
 use native.Mathlib.Omega.{arith}
-use borrow.Author.Rules.{rules}
 use lib.ListN.{length, get_or}
 use Rattle.plan.specs.Programs.{code_of}
 use Rattle.plan.specs.Files.{file_instruction}
@@ -9,9 +8,6 @@ use Rattle.plan_value.proofs.Sized.{few_tasks, count_few}
 use Rattle.plan_file.specs.Code.{programs_in}
 use Rattle.plan_file.proofs.Instructions.{code_tasks, code_count, code_instruction, place_first, place_row, place_inside, no_codes, next_code, rest_codes, all_codes}
 use Rattle.plan_file.proofs.code.read_code.Goals as goal
-
-pub wide8-n-requires : goal.wide8-n-requires
-wide8-n-requires c = search rules
 
 pub loop-k-init : goal.loop-k-init
 loop-k-init c =
@@ -28,9 +24,6 @@ loop-k-init c =
 
 pub bounds-lengths-k : goal.bounds-lengths-k
 bounds-lengths-k c = omega arith
-
-pub wide8-count-requires : goal.wide8-count-requires
-wide8-count-requires c = search rules
 
 pub loop-i-init : goal.loop-i-init
 loop-i-init c =
@@ -54,9 +47,6 @@ fetch-x-requires c =
     let s = o.before.before.before in
     let inside = place_inside s.args.lengths.now s.args.tasks o.loop-k.k l.loop-i.i (omega arith) (omega arith) in
     omega (arith, inside, l.loop-i.invariant.7, s.requires.0.bytes)
-
-pub code-requires : goal.code-requires
-code-requires c = search rules
 
 pub offset_bounds-codes-s : goal.offset_bounds-codes-s
 offset_bounds-codes-s c = omega arith

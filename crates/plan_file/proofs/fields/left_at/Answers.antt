@@ -2,12 +2,8 @@
 use mathlib.Core.Path.{ap}
 use mathlib.Core.List.{List}
 use Prim.Native.Nat.{ℕ}
-use borrow.Author.Rules.{rules}
 use lib.ListN.{length}
 use Rattle.plan_file.proofs.fields.left_at.Goals as goal
-
-pub rest_at-rest-requires : goal.rest_at-rest-requires
-rest_at-rest-requires c = search rules
 
 pub returns : goal.returns
 returns c = ap (λ (l : List ℕ). length l) c.rest_at-rest.ensures

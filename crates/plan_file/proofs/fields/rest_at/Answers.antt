@@ -1,34 +1,15 @@
 -- `rest_at` is what is left from a place on.
 use Prim.Native.Nat.{◌≤◌, ◌-◌}
 use native.Mathlib.Omega.{arith}
-use borrow.Author.Rules.{rules}
 use lib.ListN.{length, drop, length-drop, drop_of_length-le}
 use lib.Seq.{take_all, take-nil, drop-length}
 use Rattle.plan_file.proofs.fields.rest_at.Goals as goal
-
-pub slice_bounds-result-count : goal.slice_bounds-result-count
-slice_bounds-result-count c = search rules
-
-pub slice_bounds-result-start : goal.slice_bounds-result-start
-slice_bounds-result-start c = search rules
-
-pub slice_bounds-result-end : goal.slice_bounds-result-end
-slice_bounds-result-end c = search rules
 
 pub returns-then-end-at : goal.returns-then-end-at
 returns-then-end-at c =
     let b = c.args.file.now in
     let past : length b ≤ c.args.at = omega arith in
     rw (drop_of_length-le b past, drop-length b) (take-nil (length b - length b))
-
-pub slice_bounds-result-count-2 : goal.slice_bounds-result-count-2
-slice_bounds-result-count-2 c = search rules
-
-pub slice_bounds-result-start-2 : goal.slice_bounds-result-start-2
-slice_bounds-result-start-2 c = search rules
-
-pub slice_bounds-result-end-2 : goal.slice_bounds-result-end-2
-slice_bounds-result-end-2 c = search rules
 
 pub returns : goal.returns
 returns c =

@@ -2,13 +2,9 @@
 use mathlib.Core.Path.{◌∙◌, ap, sym}
 use mathlib.Core.List.{List}
 use Prim.Native.Nat.{ℕ}
-use borrow.Author.Rules.{rules}
 use lib.ListN.{length}
 use Rattle.plan_file.specs.Header.{header_of}
 use Rattle.plan_file.proofs.header.header_at.Goals as goal
-
-pub rest_at-requires : goal.rest_at-requires
-rest_at-requires c = search rules
 
 pub read_header-requires : goal.read_header-requires
 read_header-requires c = c.requires ∙ ap (λ (l : List ℕ). length l) (sym c.rest_at.ensures)

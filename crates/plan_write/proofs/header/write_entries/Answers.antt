@@ -8,14 +8,6 @@ use Rattle.plan_write.specs.output.Output.{overlay}
 use Rattle.plan_write.specs.Header.{entry_bytes}
 use Rattle.plan_write.proofs.Entries.{total_part, due_none, due_more, entries_none, entries_length, entries_step}
 use Rattle.plan_write.proofs.header.write_entries.Goals as goal
-use Rattle.plan_write.proofs.header.write_entries.Goals.{After-wide8-count}
-
--- where the next task's instructions end
-small : (w : After-wide8-count) → w.loop-k.end + 4 * w.wide8-count.result ≤ 16644
-small w =
-    let l = w.before.before.before in
-    let a = l.args in
-    omega (arith, total_part a.lengths.now a.n l.loop-k.k w.loop-k-test.true)
 
 pub overflow_mul-end : goal.overflow_mul-end
 overflow_mul-end c = omega arith
@@ -26,13 +18,10 @@ overflow_add-end c = omega arith
 pub loop-k-init : goal.loop-k-init
 loop-k-init c =
     let a = c.args in
-    (search rules, refl, sym (due_none a.lengths.now a.n), sym (entries_none a.lengths.now a.n a.out-1.now))
+    (search rules, refl, sym (due_none a.lengths.now a.n), sym (entries_none a.lengths.now a.n a.out.now))
 
 pub bounds-lengths-k : goal.bounds-lengths-k
 bounds-lengths-k c = omega arith
-
-pub wide8-count-requires : goal.wide8-count-requires
-wide8-count-requires c = search rules
 
 pub overflow_mul-k : goal.overflow_mul-k
 overflow_mul-k c = omega arith
@@ -41,7 +30,7 @@ pub overflow_add-k : goal.overflow_add-k
 overflow_add-k c = omega arith
 
 pub overflow_cast-end : goal.overflow_cast-end
-overflow_cast-end c = omega (arith, small c.before)
+overflow_cast-end c = omega (arith, total_part c.args.lengths.now c.args.n c.loop-k.k c.loop-k-test.true)
 
 pub put_word-requires : goal.put_word-requires
 put_word-requires c = omega arith
@@ -53,16 +42,16 @@ pub overflow_add-k-in-loop-k : goal.overflow_add-k-in-loop-k
 overflow_add-k-in-loop-k c = omega arith
 
 pub overflow_cast-count : goal.overflow_cast-count
-overflow_cast-count c = omega (arith, small c.before.before.before.before.before)
+overflow_cast-count c = omega (arith, total_part c.args.lengths.now c.args.n c.loop-k.k c.loop-k-test.true)
 
 pub put_word-requires-in-loop-k : goal.put_word-requires-in-loop-k
 put_word-requires-in-loop-k c = omega arith
 
 pub overflow_mul-end-in-loop-k : goal.overflow_mul-end-in-loop-k
-overflow_mul-end-in-loop-k c = omega (arith, small c.before.before.before.before.before.before.before.before)
+overflow_mul-end-in-loop-k c = omega (arith, total_part c.args.lengths.now c.args.n c.loop-k.k c.loop-k-test.true)
 
 pub overflow_add-end-in-loop-k : goal.overflow_add-end-in-loop-k
-overflow_add-end-in-loop-k c = omega (arith, small c.before.before.before.before.before.before.before.before)
+overflow_add-end-in-loop-k c = omega (arith, total_part c.args.lengths.now c.args.n c.loop-k.k c.loop-k-test.true)
 
 pub overflow_add-k-in-loop-k-2 : goal.overflow_add-k-in-loop-k-2
 overflow_add-k-in-loop-k-2 c = omega arith
@@ -72,17 +61,14 @@ loop-k-smaller c = omega arith
 
 pub loop-k-preserved : goal.loop-k-preserved
 loop-k-preserved c =
-    let w = c.before.before.before.before.before.before.before.before in
-    let l = w.before.before.before in
-    let b = l.before.before in
-    let a = b.args in
-    let e = w.wide8-count.ensures in
-    let out : _ ≡ overlay a.out-1.now 4 (joined (l.loop-k.k + 1) (entry_bytes a.lengths.now a.n)) =
-    entries_step a.lengths.now a.n a.out-1.now l.loop-k.k l.loop-k.end _ l.loop-k.out _ _ (omega (arith, b.requires))
-    l.loop-k.invariant.3 l.loop-k.invariant.2 e c.put_word.ensures c.put_word-in-loop-k.ensures in (
+    let a = c.args in
+    let k = c.loop-k.k in
+    let out : _ ≡ overlay a.out.now 4 (joined (k + 1) (entry_bytes a.lengths.now a.n)) =
+    entries_step a.lengths.now a.n a.out.now k c.loop-k.end _ c.loop-k.out _ _ (omega (arith, c.requires))
+    c.loop-k.invariant.3 c.loop-k.invariant.2 c.wide8-count.ensures c.put_word.ensures c.put_word-in-loop-k.ensures in (
       omega arith,
-      ap length out ∙ entries_length a.lengths.now a.n a.out-1.now (l.loop-k.k + 1) (omega arith),
-      omega (arith, due_more a.lengths.now a.n l.loop-k.k),
+      ap length out ∙ entries_length a.lengths.now a.n a.out.now (k + 1) (omega arith),
+      omega (arith, due_more a.lengths.now a.n k),
       out,
     )
 
@@ -91,7 +77,6 @@ shape_of-out c = c.loop-k.invariant.1
 
 pub returns : goal.returns
 returns c =
-    let l = c.before in
-    let a = l.args in
-    let e : l.loop-k.k ≡ a.n = omega arith in
-    l.loop-k.invariant.3 ∙ ap (λ (k : ℕ). overlay a.out-1.now 4 (joined k (entry_bytes a.lengths.now a.n))) e
+    let a = c.args in
+    let e : c.loop-k.k ≡ a.n = omega arith in
+    c.loop-k.invariant.3 ∙ ap (λ (k : ℕ). overlay a.out.now 4 (joined k (entry_bytes a.lengths.now a.n))) e
