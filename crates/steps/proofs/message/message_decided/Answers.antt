@@ -4,7 +4,6 @@ use Rattle.steps.proofs.message.Lending.{but_notes, by_notes, by_hints, by_board
 use Rattle.steps.proofs.message.Unsaid.{unsaid}
 use Rattle.steps.proofs.message.TaskActs.{can_end}
 use borrow.Author.Rules.{rules}
-use borrow.Enum.Refused.{opened}
 use Rattle.steps.proofs.message.message_decided.Goals as goal
 
 pub enum_told-1 : goal.enum_told-1
@@ -68,4 +67,4 @@ returns-in_default c =
     let a = c.args in
     unsaid a.codes.now a.users.now
     (lent a.hintprocessors.now a.hintmoves.now a.heldprocessors.now a.heldnumbers.now a.notes.now a.board.now)
-    a.m (opened c.in_default.in_default-own.keys6) c.posted.ensures
+    a.m c.in_default.in_default-own.keys6 c.posted.ensures

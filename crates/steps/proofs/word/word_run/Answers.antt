@@ -130,8 +130,8 @@ changed o board' e =
     ap (λ (z : Task). word_changed z i.instruction_in-i.result) (fetch r).task_at-x.ensures ∙ ap (λ (z : Instruction). word_changed (found s) z) (next_is i) in
     let high : 6 ≤ (next s).opcode = subst (λ (z : Instruction). 6 ≤ z.opcode) (next_is i) (omega (arith, o.if-i-lt-SET.false)) in
     let z = second (third r) in
-    let kind : a.s.kind ≡ 1 = omega (arith, z.if-s-ne1.left) in
-    let none : a.s.number ≡ 0 = omega (arith, z.if-s-ne0.left) in (
+    let kind : a.s.kind ≡ 1 = omega (arith, z.if-s-ne1.false) in
+    let none : a.s.number ≡ 0 = omega (arith, z.if-s-ne0.false) in (
       (λ q. never (sym q)),
       (λ q numbers users hp hm op on notes.
           let f = facts_in a.n.tasks a.codes.now numbers users in
