@@ -1,7 +1,6 @@
 -- An advert. What it leaves is stored.
-use mathlib.Core.Path.{refl, sym, ◌∙◌}
+use mathlib.Core.Path.{sym, ◌∙◌}
 use Rattle.board.specs.Lent.{lent, tasks_on}
-use Rattle.steps.proofs.message.Others.{no_other}
 use Rattle.steps.proofs.message.Bounds.{advert_bounded, sender_in, receiver_in}
 use Rattle.steps.proofs.message.Rules.{advert_kind}
 use Rattle.steps.proofs.message.Tasks.{both_own}
@@ -15,9 +14,6 @@ enum_known-m c = search rules
 
 pub posted-requires : goal.posted-requires
 posted-requires c = search rules
-
-pub returns-in_default : goal.returns-in_default
-returns-in_default c = absurd (no_other 2 c.requires.0.is refl tt c.in_default.in_default-own.keys2)
 
 pub advert_outcome-o-requires : goal.advert_outcome-o-requires
 advert_outcome-o-requires c = rw c.in-Advert.is at c.requires

@@ -1,8 +1,7 @@
 -- A call. What it leaves is stored.
-use mathlib.Core.Path.{refl, sym, ap, ◌∙◌}
+use mathlib.Core.Path.{sym, ap, ◌∙◌}
 use Rattle.plan.specs.declared.TaskId.{TaskId}
 use Rattle.board.specs.Lent.{lent, tasks_on}
-use Rattle.steps.proofs.message.Others.{no_other}
 use Rattle.steps.proofs.message.Bounds.{call_bounded, sender_in, receiver_in}
 use Rattle.steps.proofs.message.Rules.{call_kind}
 use Rattle.steps.proofs.message.Tasks.{receiver_own}
@@ -17,9 +16,6 @@ enum_known-m c = search rules
 
 pub posted-requires : goal.posted-requires
 posted-requires c = search rules
-
-pub returns-in_default : goal.returns-in_default
-returns-in_default c = absurd (no_other 3 c.requires.0.is refl tt c.in_default.in_default-own.keys2)
 
 pub call_outcome-o-requires : goal.call_outcome-o-requires
 call_outcome-o-requires c = rw c.in-ReadyToReceive.is at c.requires

@@ -1,7 +1,6 @@
 -- A call. The rule is asked at what it sees of the site.
 use mathlib.Core.Path.{refl}
 use Rattle.board.specs.Lent.{lent}
-use Rattle.steps.proofs.message.Others.{no_other}
 use Rattle.steps.proofs.message.Bounds.{call_bounded}
 use Rattle.steps.proofs.message.Rules.{call_kind}
 use Rattle.steps.proofs.message.Sites.{found}
@@ -14,14 +13,11 @@ enum_known-m c = search rules
 pub unopened-requires : goal.unopened-requires
 unopened-requires c = search rules
 
-pub returns-in_default : goal.returns-in_default
-returns-in_default c = absurd (no_other 3 c.requires.0.is refl tt c.in_default.in_default-own.keys2)
-
 pub sender-u-requires : goal.sender-u-requires
 sender-u-requires c = (call_bounded c.requires.1.holds.holds.holds c.in-ReadyToReceive.is).cell.channel
 
 pub task_at-a-requires : goal.task_at-a-requires
-task_at-a-requires c = rw c.sender-u.ensures (call_bounded c.requires.1.holds.holds.holds c.in-ReadyToReceive.is).sender-u
+task_at-a-requires c = rw c.sender-u.ensures (call_bounded c.requires.1.holds.holds.holds c.in-ReadyToReceive.is).sender
 
 pub is_on-sending-requires : goal.is_on-sending-requires
 is_on-sending-requires c = let b = call_bounded c.requires.1.holds.holds.holds c.in-ReadyToReceive.is in (rw c.sender-u.ensures b.sender, rw (c.task_at-a.ensures, c.sender-u.ensures) b.sender_place)

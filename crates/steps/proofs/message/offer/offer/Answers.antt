@@ -3,7 +3,6 @@ use mathlib.Core.Path.{refl, sym, ◌∙◌}
 use Rattle.rules.specs.Cells.{with_hint}
 use Rattle.board.specs.Lent.{lent, tasks_on, hint_in}
 use Rattle.board.proofs.Stores.{held_stored}
-use Rattle.steps.proofs.message.Others.{no_other}
 use Rattle.steps.proofs.message.Bounds.{offer_bounded, sender_in, receiver_in}
 use Rattle.steps.proofs.message.Rules.{offer_kind}
 use Rattle.steps.proofs.message.Tasks.{both_own}
@@ -16,9 +15,6 @@ enum_known-m c = search rules
 
 pub posted-requires : goal.posted-requires
 posted-requires c = search rules
-
-pub returns-in_default : goal.returns-in_default
-returns-in_default c = absurd (no_other 1 c.requires.0.is refl tt c.in_default.in_default-own.keys2)
 
 pub offer_outcome-o-requires : goal.offer_outcome-o-requires
 offer_outcome-o-requires c = rw c.in-Offered.is at c.requires

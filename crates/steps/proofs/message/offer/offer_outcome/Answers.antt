@@ -1,7 +1,6 @@
 -- An offer. The rule is asked at what it sees of the site.
 use mathlib.Core.Path.{refl}
 use Rattle.board.specs.Lent.{lent}
-use Rattle.steps.proofs.message.Others.{no_other}
 use Rattle.steps.proofs.message.Bounds.{offer_bounded}
 use Rattle.steps.proofs.message.Rules.{offer_kind}
 use Rattle.steps.proofs.message.Sites.{found}
@@ -13,9 +12,6 @@ enum_known-m c = search rules
 
 pub unopened-requires : goal.unopened-requires
 unopened-requires c = search rules
-
-pub returns-in_default : goal.returns-in_default
-returns-in_default c = absurd (no_other 1 c.requires.0.is refl tt c.in_default.in_default-own.keys2)
 
 pub hint_at-hint-requires : goal.hint_at-hint-requires
 hint_at-hint-requires c = (offer_bounded c.requires.1.holds c.in-Offered.is).cell

@@ -1,11 +1,10 @@
 -- A word letter. What it leaves is stored.
-use mathlib.Core.Path.{refl, sym, ap, ◌∙◌}
+use mathlib.Core.Path.{sym, ap, ◌∙◌}
 use Prim.Native.Nat.{◌-◌}
 use Rattle.plan.specs.declared.TaskId.{TaskId}
 use Rattle.rules.specs.declared.system.Channels.{Channels}
 use Rattle.rules.specs.Systems.{write_channel, task_stored}
 use Rattle.board.specs.Lent.{lent, tasks_on}
-use Rattle.steps.proofs.message.Others.{no_other}
 use Rattle.steps.proofs.message.Bounds.{word_bounded, sender_in, receiver_in}
 use Rattle.steps.proofs.message.Rules.{word_kind}
 use Rattle.steps.proofs.message.Tasks.{sender_own}
@@ -19,9 +18,6 @@ enum_known-m c = search rules
 
 pub posted-requires : goal.posted-requires
 posted-requires c = search rules
-
-pub returns-in_default : goal.returns-in_default
-returns-in_default c = absurd (no_other 4 c.requires.0.is refl tt c.in_default.in_default-own.keys2)
 
 pub word_outcome-o-requires : goal.word_outcome-o-requires
 word_outcome-o-requires c = rw c.in-Data.is at c.requires
