@@ -1,10 +1,8 @@
-use Prim.Native.Nat.{◌-◌}
 use mathlib.Core.Path.{◌≡◌, refl, sym, ap, ◌∙◌}
 use mathlib.Core.Bool.{true, false}
 use native.Mathlib.Omega.{arith}
 use borrow.Author.Rules.{rules}
 use borrow.Author.Tests.{not-true, not-false}
-use Rattle.base.specs.Range.{below}
 use Rattle.base.proofs.Tests.{within_high, below_none, below_more, below_fails}
 use Rattle.plan.specs.Refusals.{size_ok}
 use Rattle.plan_value.specs.Sizes.{count_fits}

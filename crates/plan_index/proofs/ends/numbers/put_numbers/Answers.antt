@@ -1,11 +1,8 @@
-use Prim.Native.Nat.{◌-◌}
 use mathlib.Core.Path.{◌≡◌, ◌∙◌}
 use native.Mathlib.Omega.{arith}
 use borrow.Author.Rules.{rules}
-use Rattle.base.specs.Lists.{table}
 use Rattle.base.proofs.Tables.{length_table}
 use Rattle.plan_value.specs.Slots.{plan_in}
-use Rattle.plan_index.specs.ends.Numbers.{send_numbers}
 use Rattle.plan_index.proofs.ends.Meaning.{tasks_few, sends_fit, unsent, send_numbers_of}
 use Rattle.plan_index.proofs.ends.Numbering.{counted_none, counted_more, tasks_none, tasks_more}
 use Rattle.plan_index.proofs.ends.numbers.put_numbers.Goals as goal

@@ -1,5 +1,4 @@
 use mathlib.Core.Path.{◌≡◌, ◌∙◌, ap}
-use Prim.Native.Nat.{◌-◌}
 use native.Mathlib.Omega.{arith}
 use Rattle.plan_index.specs.user_table.Built.{with_parents}
 use Rattle.plan_index.proofs.user_table.Parents.{parents_none, parents_more}
