@@ -20,6 +20,6 @@ returns c =
       bytes = r.bytes;
       room = room_for_all a.plan.now a.out.now;
       accepted = λ n e. r.accepted n (r.answer ∙ e);
-      as_it_is = λ h l. r.bytes ∙ present_output a.plan.now a.out.now (λ i. omega (arith, c.shared_slice_known-1.given i)) h l;
+      as_it_is = λ h l. r.bytes ∙ present_output a.plan.now a.out.now (λ i. omega (arith, c.type_inv.plan i)) h l;
       same = λ h. repeats_written _ h;
     }

@@ -13,8 +13,7 @@ tables_ok-tables-requires c = tables_opened c.requires
 pub returns : goal.returns
 unfolding chosen_ok
 returns c =
-    let known = c.shared_slice_known-1.given in
-    rw (together c.requires (λ i. omega (arith, known i)))
+    rw (together c.requires (λ i. omega (arith, c.type_inv.rig i)))
     (c.both-3.ensures
     ∙ rw (
       c.both-2.ensures,

@@ -1,7 +1,6 @@
 use mathlib.Core.Path.{◌≡◌, sym, ◌∙◌}
 use Prim.Native.Nat.{◌-◌}
 use native.Mathlib.Omega.{arith}
-use borrow.Author.Tests.{not-true, not-false}
 use Rattle.base.proofs.Tests.{below_none, below_more, below_fails}
 use Rattle.rig_read.proofs.Blocks.{in_block, zeros_pass}
 use Rattle.rig_read.proofs.check.entries.block_ok.Goals as goal
@@ -16,13 +15,13 @@ pub returns-then-not-parent_ok : goal.returns-then-not-parent_ok
 returns-then-not-parent_ok c =
     let a = c.args in
     let p = in_block a.n a.m a.board.now a.b in
-    sym (below_fails p 16 c.loop-i.i (omega arith) (sym c.parent_ok.ensures ∙ not-true c.parent_ok.result c.if-not-parent_ok.true-raw))
+    sym (below_fails p 16 c.loop-i.i (omega arith) (sym c.parent_ok.ensures ∙ c.if-not-parent_ok.true))
 
 pub loop-i-preserved : goal.loop-i-preserved
 loop-i-preserved c =
     let a = c.args in
     let p = in_block a.n a.m a.board.now a.b in
-    (omega arith, below_more p c.loop-i.i c.loop-i.invariant.1 (sym c.parent_ok.ensures ∙ not-false c.parent_ok.result c.if-not-parent_ok.false-raw))
+    (omega arith, below_more p c.loop-i.i c.loop-i.invariant.1 (sym c.parent_ok.ensures ∙ c.if-not-parent_ok.false))
 
 pub returns : goal.returns
 returns c =

@@ -12,7 +12,7 @@ pub loop-k-preserved : goal.loop-k-preserved
 loop-k-preserved c =
     let l = c.loop-k in
     let a = c.args in
-    (omega arith, zeros_more (λ i. get_or a.board.now (320 + 32 * a.b + i) 0) l.k l.any-1 l.invariant.1)
+    (omega arith, zeros_more (λ i. get_or a.board.now (320 + 32 * a.b + i) 0) l.k l.any l.invariant.1)
 
 pub returns : goal.returns
 returns c =

@@ -2,7 +2,6 @@ use mathlib.Core.Path.{◌≡◌, sym, ◌∙◌}
 use Prim.Native.Nat.{◌-◌}
 use native.Mathlib.Omega.{arith}
 use lib.ListN.{get_or}
-use borrow.Author.Tests.{not-true, not-false}
 use Rattle.base.proofs.Tests.{below_none, below_more, below_fails}
 use Rattle.rig_read.specs.Passing.{channel_passes, channels_pass}
 use Rattle.rig_read.proofs.check.entries.channels_ok.Goals as goal
@@ -15,12 +14,12 @@ unfolding channels_pass
 returns-then-not-channel_ok c =
     let l = c.loop-k in
     let a = c.args in
-    sym (below_fails (λ i. channel_passes a.n (get_or a.board.now i 0)) 128 l.k (omega arith) (sym c.channel_ok.ensures ∙ not-true c.channel_ok.result c.if-not-channel_ok.true-raw))
+    sym (below_fails (λ i. channel_passes a.n (get_or a.board.now i 0)) 128 l.k (omega arith) (sym c.channel_ok.ensures ∙ c.if-not-channel_ok.true))
 
 pub loop-k-preserved : goal.loop-k-preserved
 loop-k-preserved c =
     let l = c.loop-k in
-    (omega arith, below_more _ l.k l.invariant.1 (sym c.channel_ok.ensures ∙ not-false c.channel_ok.result c.if-not-channel_ok.false-raw))
+    (omega arith, below_more _ l.k l.invariant.1 (sym c.channel_ok.ensures ∙ c.if-not-channel_ok.false))
 
 pub returns : goal.returns
 unfolding channels_pass

@@ -1,7 +1,6 @@
 use mathlib.Core.Path.{◌≡◌, sym, ◌∙◌}
 use Prim.Native.Nat.{◌-◌}
 use native.Mathlib.Omega.{arith}
-use borrow.Author.Tests.{not-true, not-false}
 use Rattle.base.proofs.Tests.{below_none, below_more, below_fails}
 use Rattle.rig_read.specs.Passing.{block_passes}
 use Rattle.rig_read.proofs.Blocks.{blocks}
@@ -16,13 +15,13 @@ returns-then-not-block_ok c =
     let p = block_passes a.n a.m a.board.now in
     sym
     (blocks a.n a.m a.board.now
-    ∙ below_fails p 24 c.loop-b.b (omega arith) (sym c.block_ok.ensures ∙ not-true c.block_ok.result c.if-not-block_ok.true-raw))
+    ∙ below_fails p 24 c.loop-b.b (omega arith) (sym c.block_ok.ensures ∙ c.if-not-block_ok.true))
 
 pub loop-b-preserved : goal.loop-b-preserved
 loop-b-preserved c =
     let a = c.args in
     let p = block_passes a.n a.m a.board.now in
-    (omega arith, below_more p c.loop-b.b c.loop-b.invariant.1 (sym c.block_ok.ensures ∙ not-false c.block_ok.result c.if-not-block_ok.false-raw))
+    (omega arith, below_more p c.loop-b.b c.loop-b.invariant.1 (sym c.block_ok.ensures ∙ c.if-not-block_ok.false))
 
 pub returns : goal.returns
 returns c =

@@ -1,7 +1,6 @@
 use mathlib.Core.Path.{◌≡◌, sym, ◌∙◌}
 use Prim.Native.Nat.{◌-◌}
 use native.Mathlib.Omega.{arith}
-use borrow.Author.Tests.{not-true, not-false}
 use Rattle.base.proofs.Tests.{below_none, below_more}
 use Rattle.rig_read.proofs.Mail.{mail_over, mail_stops, mail_ends}
 use Rattle.rig_read.proofs.check.mail.mail_ok.Goals as goal
@@ -15,14 +14,14 @@ loop-k-init c = (omega arith, below_none _)
 pub returns-then-not-slot_ok : goal.returns-then-not-slot_ok
 returns-then-not-slot_ok c =
     let a = c.args in
-    let e = rw (c.number8-v.ensures, c.number8-w.ensures) at c.Slot-ok.ensures in
-    mail_stops a.n a.m a.rig.now (omega arith) c.loop-k.k (omega arith) (sym e ∙ not-true c.Slot-ok.result c.if-not-slot_ok.true-raw)
+    let e = rw (c.number8-v.ensures, c.number8-w.ensures) at c.slot_ok.ensures in
+    mail_stops a.n a.m a.rig.now (omega arith) c.loop-k.k (omega arith) (sym e ∙ c.if-not-slot_ok.true)
 
 pub loop-k-preserved : goal.loop-k-preserved
 loop-k-preserved c =
     let a = c.args in
-    let e = rw (c.number8-v.ensures, c.number8-w.ensures) at c.Slot-ok.ensures in
-    (omega arith, below_more _ c.loop-k.k c.loop-k.invariant.1 (sym e ∙ not-false c.Slot-ok.result c.if-not-slot_ok.false-raw))
+    let e = rw (c.number8-v.ensures, c.number8-w.ensures) at c.slot_ok.ensures in
+    (omega arith, below_more _ c.loop-k.k c.loop-k.invariant.1 (sym e ∙ c.if-not-slot_ok.false))
 
 pub returns : goal.returns
 returns c =

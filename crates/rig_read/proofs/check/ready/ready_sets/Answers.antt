@@ -1,10 +1,10 @@
 use mathlib.Core.Path.{◌≡◌, sym, ◌∙◌}
-use mathlib.Core.Logic.{⊎_elim}
 use Prim.Native.Nat.{◌-◌}
 use native.Mathlib.Omega.{arith}
 use Rattle.base.proofs.Tests.{within_high}
 use Rattle.rig_read.proofs.Readies.{desk_on, sets_none, sets_joined, sets_left}
 use Rattle.rig_read.proofs.check.ready.ready_sets.Goals as goal
+use Rattle.rig_read.proofs.check.ready.ready_sets.Goals.{then-both, else-both}
 
 pub loop-t-init : goal.loop-t-init
 loop-t-init c = (omega arith, sets_none c.args.board.now)
@@ -22,10 +22,10 @@ loop-t-preserved c =
     let e : d.result ≡ desk_on x c.loop-t.t =
     d.ensures ∙ rw (← c.wide8-k.ensures) c.ready_desk.ensures in (
       omega arith,
-      ⊎_elim
-          (λ w. rw w.2 (sets_joined x (omega arith) c.loop-t.invariant.1 e (sym c.both.ensures ∙ w.0.taken) w.1.ensures))
-          (λ w. rw w.1 (sets_left x (omega arith) c.loop-t.invariant.1 e (sym c.both.ensures ∙ w.0.left)))
-          c.if-both.branch,
+      elim c.if-both.branch [
+        then-both w ↦ rw w.sets-is (sets_joined x (omega arith) c.loop-t.invariant.1 e (sym c.both.ensures ∙ w.if-both.true) w.insert-more.ensures)
+      | else-both w ↦ rw w.sets-is (sets_left x (omega arith) c.loop-t.invariant.1 e (sym c.both.ensures ∙ w.if-both.false))
+      ],
     )
 
 pub returns : goal.returns

@@ -21,7 +21,7 @@ loop-k-preserved c =
     let a = c.args in
     let p : ℕ → Bool = λ i. offer_ok a.n (offer (processor_id (get_or a.processors.now i 0)) (get_or a.numbers.now i 0)) in
     let e : c.entry_ok-ok.result ≡ p l.k = c.entry_ok-ok.ensures ∙ rw c.wide8.ensures refl in
-    (omega arith, tests_more p l.k l.entry_ok-arg-1 l.invariant.1 e c.fault-any.ensures)
+    (omega arith, tests_more p l.k l.any l.invariant.1 e c.fault-any.ensures)
 
 pub returns : goal.returns
 returns c =

@@ -1,7 +1,6 @@
 use mathlib.Core.Path.{◌≡◌, refl, sym, ◌∙◌}
 use Prim.Native.Nat.{◌-◌, ◌<◌}
 use native.Mathlib.Omega.{arith}
-use borrow.Author.Tests.{not-true, not-false}
 use Rattle.base.proofs.Tests.{below_none, below_more, below_fails}
 use Rattle.rig_read.specs.Passing.{task_passes, tasks_pass}
 use Rattle.rig_read.proofs.check.tasks.tasks_ok.Goals as goal
@@ -24,7 +23,7 @@ returns-then-not-both c =
     let a = c.args in
     let e : c.both.result ≡ task_passes a.lengths.now a.codes.now a.n a.m a.board.now l.k =
     c.both.ensures ∙ rw (c.origin_ok.ensures, c.task_ok-passes.ensures, c.last_kind-kind.ensures, c.task_of-x.ensures) refl in
-    sym (below_fails (task_passes a.lengths.now a.codes.now a.n a.m a.board.now) a.m l.k q (sym e ∙ not-true c.both.result c.if-not-both.true-raw))
+    sym (below_fails (task_passes a.lengths.now a.codes.now a.n a.m a.board.now) a.m l.k q (sym e ∙ c.if-not-both.true))
 
 pub loop-k-preserved : goal.loop-k-preserved
 loop-k-preserved c =
@@ -32,7 +31,7 @@ loop-k-preserved c =
     let a = c.args in
     let e : c.both.result ≡ task_passes a.lengths.now a.codes.now a.n a.m a.board.now l.k =
     c.both.ensures ∙ rw (c.origin_ok.ensures, c.task_ok-passes.ensures, c.last_kind-kind.ensures, c.task_of-x.ensures) refl in
-    (omega (arith, c.loop-k-test.true), below_more _ l.k l.invariant.1 (sym e ∙ not-false c.both.result c.if-not-both.false-raw))
+    (omega (arith, c.loop-k-test.true), below_more _ l.k l.invariant.1 (sym e ∙ c.if-not-both.false))
 
 pub returns : goal.returns
 unfolding tasks_pass
