@@ -1,11 +1,9 @@
 use Prim.Native.Nat.{◌-◌}
 use mathlib.Core.Path.{◌≡◌, sym, ◌∙◌}
-use mathlib.Core.Bool.{true}
 use native.Mathlib.Omega.{arith}
 use lib.ListN.{length}
 use borrow.Author.Rules.{rules}
 use borrow.Author.Tests.{not-true, not-false}
-use Rattle.base.specs.Range.{below}
 use Rattle.base.proofs.Tests.{below_none, below_more}
 use Rattle.rig_check.proofs.network.Network.{network_over, network_stops, network_ends}
 use Rattle.rig_check.proofs.network.network_ok.Goals as goal

@@ -8,7 +8,7 @@ use Rattle.plan.specs.declared.ProcessorId.{ProcessorId}
 use Rattle.rules.specs.declared.system.TaskTable.{TaskTable}
 use Rattle.rules.specs.Numbers.{task_id}
 use Rattle.rules.specs.Tasks.{no_task}
-use Rattle.rules.specs.Systems.{task_in, is_ready_at}
+use Rattle.rules.specs.Systems.{is_ready_at}
 use Rattle.rules_laws.proofs.TaskAt.{task_in_some}
 use borrow.Author.Rules.{rules}
 use Rattle.rig_check.proofs.ready.ready_set.Invariants.{ready_in}

@@ -4,7 +4,6 @@ use mathlib.Core.Bool.{Bool, true, false}
 use native.Mathlib.Omega.{arith}
 use borrow.Author.Rules.{rules}
 use borrow.Author.Tests.{not-true, not-false}
-use Rattle.base.specs.Range.{below}
 use Rattle.base.proofs.Tests.{below_none, below_more, below_fails}
 use Rattle.rig_check.proofs.system.EachTask.{record_ok, tasks_places, record_with, few_tasks, short_program}
 use Rattle.rig_check.proofs.system.tasks_ok.Goals as goal
