@@ -62,7 +62,7 @@ module _ (p : Plan) (a : plan_answer (programs p) ≡ PlanAccepted) (c : Channel
       let rest = ap (λ (q : System). forwards_of c w q us) (left r s e) in
       let same = ap (λ (q : System). (task_at (steps q us).system (receiver_of (programs p) c)).moves) (left r s e) in
       omega (arith, chase h us k x, none, rest, same))
-      (λ e. omega (arith, chase (kept_step p a h s) us (pick (forwards c w r s) 1 0 + k) (step_keeps p a c w number h s e x)))
+      (λ e. omega (arith, chase {r = (step r s).system} (kept_step p a h s) us (pick (forwards c w r s) 1 0 + k) (step_keeps p a c w number h s e x)))
 
 -- a send that posts an offer along the pointer `hint`
 module _ (p : Plan) (a : plan_answer (programs p) ≡ PlanAccepted) {r : System} {got : ChannelId → List Word} (k : Kept p r got) (s : Step)

@@ -30,7 +30,7 @@ use Rattle.rules.specs.Tasks.{is_childless}
 use Rattle.rules.specs.Places.{next_in}
 use Rattle.rules.specs.Systems.{task_at}
 use Rattle.rules.specs.Starts.{started}
-use Rattle.rules.specs.Steps.{is_run, is_deliver, is_move, step_answer, steps_by, steps, quiescent, received_on}
+use Rattle.rules.specs.Steps.{is_run, is_deliver, is_move, step_answer, step, steps_by, steps, quiescent, received_on}
 use Rattle.rules_laws.proofs.Messages.{length_messages}
 use Rattle.rules_laws.proofs.Steps.{accepted_is, step_answer_lem, step_passed}
 use Rattle.rules_laws.proofs.StepKinds.{answer_deliver, deliver_passed}
@@ -62,7 +62,7 @@ module _ (p : Plan) (a : plan_answer (programs p) ≡ PlanAccepted) where
   unfolding steps_by every
   no_nine {r} k [] = refl
   no_nine {r} k (s ∷ ss) =
-      rw (step_answer_lem r s, number_not_9 r s k.ok) (no_nine (kept_step p a k s) ss)
+      rw (step_answer_lem r s, number_not_9 r s k.ok) (no_nine {r = (step r s).system} (kept_step p a k s) ss)
 
   -- a delivery that is accepted finds what its letter supposes
   found : {r : System} {w : ChannelId → List Word} → Kept p r w → (s : Step) → wastes r s ≡ false
@@ -80,7 +80,7 @@ module _ (p : Plan) (a : plan_answer (programs p) ≡ PlanAccepted) where
   none_wasted_lem : {r : System} {w : ChannelId → List Word} → Kept p r w → (ss : List Step) → none_wasted r ss ≡ true
   unfolding none_wasted
   none_wasted_lem {r} k [] = refl
-  none_wasted_lem {r} k (s ∷ ss) = rw (found k s) (none_wasted_lem (kept_step p a k s) ss)
+  none_wasted_lem {r} k (s ∷ ss) = rw (found k s) (none_wasted_lem {r = (step r s).system} (kept_step p a k s) ss)
 
   -- at rest nothing is under way, and the net is in its normal form
   module _ {r : System} {w : ChannelId → List Word} (k : Kept p r w) (quiet : quiescent r ≡ true) where

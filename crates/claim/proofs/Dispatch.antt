@@ -17,7 +17,7 @@ use Rattle.rules.specs.Numbers.{processor_ok}
 use Rattle.rules.specs.Answers.{step_number}
 use Rattle.rules.specs.Systems.{task_at}
 use Rattle.rules.specs.Sound.{system_ok}
-use Rattle.rules.specs.Steps.{is_move}
+use Rattle.rules.specs.Steps.{is_move, step}
 use Rattle.rules.specs.Dispatch.{ruled_dispatch, dispatched}
 use Rattle.rules_laws.proofs.ButChosen.{ButChosen, but_system, but_answer, but_step, but_quiescent}
 use Rattle.claim.specs.Statement.{accepted_of, any_step, from}
@@ -32,7 +32,7 @@ use Rattle.claim.proofs.Events.{events_run}
 pub but_accepted : {r q : System} → ButChosen r q → (test : Step → Bool) (ss : List Step) → accepted_of test r ss ≡ accepted_of test q ss
 unfolding accepted_of
 but_accepted b test [] = refl
-but_accepted b test (s ∷ ss) = rw (but_answer b s, but_accepted (but_step b s) test ss) refl
+but_accepted {r = r} {q = q} b test (s ∷ ss) = rw (but_answer b s, but_accepted {r = (step r s).system} {q = (step q s).system} (but_step b s) test ss) refl
 
 -- a rig that 9 does not refuse answers no call by it
 pub call_not_nine : (r : System) (d : ProcessorId) → system_ok r ≡ true → (dispatched r d).answer ≢ BadSystem

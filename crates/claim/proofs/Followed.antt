@@ -51,7 +51,7 @@ followed_append r (x ∷ xs) ys k = followed_append (step r x).system xs ys _
 pub followed_but : {r q : System} → ButChosen r q → (ss : List Step) (k : ℕ) → followed r ss k ≡ followed q ss k
 unfolding followed
 followed_but b [] k = refl
-followed_but b (s ∷ ss) k = rw (but_answer b s) (followed_but (but_step b s) ss _)
+followed_but {r = r} {q = q} b (s ∷ ss) k = rw (but_answer b s) (followed_but {r = (step r s).system} {q = (step q s).system} (but_step b s) ss _)
 
 pub followed_delivery : (r : System) (i : ℕ) (ss : List Step) (k : ℕ) → step_answer r (deliver_step i) ≡ Accepted
     → followed r (deliver_step i ∷ ss) k ≡ followed (step r (deliver_step i)).system ss (position_without i k)

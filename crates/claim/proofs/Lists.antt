@@ -65,7 +65,7 @@ module _ (p : Plan) (a : plan_answer (programs p) ≡ PlanAccepted) where
   kept_steps {r} {w} k (s ∷ ss) =
       subst (Kept p (steps (step r s).system ss).system)
       (fun_ext (λ c. append_assoc (w c) (word_on c (step r s).report.received) (received_on c (steps (step r s).system ss).reports)))
-      (kept_steps (kept_step k s) ss)
+      (kept_steps {r = (step r s).system} (kept_step k s) ss)
 
   -- each accepted run executes one instruction
   pub runs_counted : {r : System} {w : ChannelId → List Word} → Kept p r w → (ss : List Step)
@@ -73,7 +73,7 @@ module _ (p : Plan) (a : plan_answer (programs p) ≡ PlanAccepted) where
   unfolding steps_by accepted_of
   runs_counted {r} k [] = omega arith
   runs_counted {r} k (s ∷ ss) =
-      let later = runs_counted (kept_step k s) ss in
+      let later = runs_counted {r = (step r s).system} (kept_step k s) ss in
       step_either r s
       (λ e. let same = ap (λ (q : System). unexecuted (programs p) (reading q).tasks) (left r s e) in
       let none = uncounted r s is_run ss e in
@@ -94,6 +94,6 @@ module _ (p : Plan) (a : plan_answer (programs p) ≡ PlanAccepted) where
       let moves = counted r s is_move ss e in
       let still : is_move s ≡ false = is_false (is_move s) (λ m. let one : flag (is_move s) ≡ 1 = rw m refl in omega (arith, moves, none, one)) in
       let less = then.falls still in
-      let rest = few_accepted then.kept ss (omega (arith, moves, none)) in
+      let rest = few_accepted {r = (step r s).system} then.kept ss (omega (arith, moves, none)) in
       let all = counted r s any_step ss e in
       omega (arith, less, rest, all))

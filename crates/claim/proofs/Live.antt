@@ -73,7 +73,7 @@ module _ {n : ℕ} {p : Plan} where
   pub live_events : {r : System} → Live n p r → (es : List Event) → Live n p (happened r es).system
   unfolding happened
   live_events l [] = l
-  live_events l (e ∷ es) = live_events (live_event l e) es
+  live_events {r = r} l (e ∷ es) = live_events {r = (happens r e).system} (live_event l e) es
 
 module _ {n : ℕ} {p : Plan} {r : System} (l : Live n p r) where
   -- a call at a desk of the rig is not refused

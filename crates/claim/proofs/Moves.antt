@@ -104,7 +104,7 @@ module _ (p : Plan) (a : plan_answer (programs p) ≡ PlanAccepted) where
   steps_counts {r} h [] k low all t = omega (arith, all t)
   steps_counts {r} h (s ∷ ss) k low all t =
       let one = flag (is_move s && is_accepted (step_answer r s)) in
-      let later = steps_counts (kept_step p a h s) ss (one + k) (omega arith) (step_counts h s k low all) t in
+      let later = steps_counts {r = (step r s).system} (kept_step p a h s) ss (one + k) (omega arith) (step_counts h s k low all) t in
       omega (arith, later)
 
   -- no step is answered 18 while the counts cannot be 9,999
@@ -116,7 +116,7 @@ module _ (p : Plan) (a : plan_answer (programs p) ≡ PlanAccepted) where
       let other = number_not_18 r s h.ok (λ e. omega (arith, all (task_id s.task), e)) in
       let at_most : flag (is_move s && is_accepted (step_answer r s)) ≤ 1 =
       pick_either (λ (n : ℕ). n ≤ 1) (is_move s && is_accepted (step_answer r s)) 1 0 (omega arith) (omega arith) in
-      let later = none_spent (kept_step p a h s) ss (k + 1) (omega arith) (λ t. omega (arith, step_counts h s k low all t, at_most)) (omega arith) in
+      let later = none_spent {r = (step r s).system} (kept_step p a h s) ss (k + 1) (omega arith) (λ t. omega (arith, step_counts h s k low all t, at_most)) (omega arith) in
       rw (step_answer_lem r s, other) later
 
 -- at the start no count is above one

@@ -65,7 +65,7 @@ module _ (p : Plan) (a : plan_answer (programs p) ≡ PlanAccepted) (c : Channel
   unfolding steps_by
   alone_steps k [] x = x
   alone_steps {r} k (s ∷ ss) x =
-      alone_steps (kept_step p a k s) ss (step_either r s (λ e. rw (left r s e) x) (λ e. accepted_alone k s e x))
+      alone_steps {r = (step r s).system} (kept_step p a k s) ss (step_either r s (λ e. rw (left r s e) x) (λ e. accepted_alone k s e x))
 
 -- the mail is empty at the start
 start_empty : (n : ℕ) (p : Plan) → messages (started n p).network ≡ []

@@ -60,7 +60,7 @@ steps_network : (p : Plan) → plan_answer (programs p) ≡ PlanAccepted → {r 
 unfolding steps_by
 steps_network p a k one none [] = none
 steps_network p a {r} k one none (s ∷ ss) =
-    steps_network p a (kept_step p a k s) (step_processors r s ∙ one) (step_network k one none s) ss
+    steps_network p a {r = (step r s).system} (kept_step p a k s) (step_processors r s ∙ one) (step_network k one none s) ss
 
 -- at the start there is none
 start_network : (n : ℕ) (p : Plan) → (started n p).network.used ≡ 0

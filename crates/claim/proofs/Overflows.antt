@@ -40,7 +40,7 @@ module _ (p : Plan) (a : plan_answer (programs p) ≡ PlanAccepted) where
   steps_marks {r} h [] t = sym (or-false (task_at r t).overflow)
   steps_marks {r} h (s ∷ ss) t =
       let later = has_overflowed t (step r s).system ss in
-      steps_marks (kept_step p a h s) ss t ∙ ap (◌|| later) (step_marks h s t) ∙ or_assoc (task_at r t).overflow (overflows t r s) later
+      steps_marks {r = (step r s).system} (kept_step p a h s) ss t ∙ ap (◌|| later) (step_marks h s t) ∙ or_assoc (task_at r t).overflow (overflows t r s) later
 
 -- at the start nobody is
 start_read : (n : ℕ) (p : Plan) (t : TaskId) → ((reading (started n p)).tasks t).overflow ≡ false

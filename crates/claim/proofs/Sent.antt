@@ -137,5 +137,5 @@ module _ (p : Plan) (a : plan_answer (programs p) ≡ PlanAccepted) (c : Channel
       sym (append_assoc (under_way_on c (messages r.network)) (word_on c (sent_by r s)) (sent_on c q ss))
       ∙ ap (◌++ sent_on c q ss) (step_moves p a k s c)
       ∙ append_assoc got (under_way_on c (messages q.network)) (sent_on c q ss)
-      ∙ ap (got ++◌) (sent_steps (kept_step p a k s) ss)
+      ∙ ap (got ++◌) (sent_steps {r = (step r s).system} (kept_step p a k s) ss)
       ∙ sym (append_assoc got (received_on c (steps q ss).reports) (under_way_on c (messages (steps q ss).system.network)))

@@ -98,7 +98,7 @@ module _ (p : Plan) (a : plan_answer (programs p) ≡ PlanAccepted) where
   unfolding steps_by accepted_of
   steps_places {r} k [] u here = omega arith
   steps_places {r} k (s ∷ ss) u here =
-      let later = steps_places (kept_step p a k s) ss u here in
+      let later = steps_places {r = (step r s).system} (kept_step p a k s) ss u here in
       step_either r s
       (λ e.
       let none = uncounted r s (is_run_of u) ss e in
@@ -113,7 +113,7 @@ module _ (p : Plan) (a : plan_answer (programs p) ≡ PlanAccepted) where
   unfolding accepted_of
   nobody_runs {r} k [] u none = refl
   nobody_runs {r} k (s ∷ ss) u none =
-      let later = nobody_runs (kept_step p a k s) ss u none in
+      let later = nobody_runs {r = (step r s).system} (kept_step p a k s) ss u none in
       step_either r s
       (λ e. uncounted r s (is_run_of u) ss e ∙ nobody_runs k ss u none)
       (λ e.
