@@ -3,7 +3,7 @@ use mathlib.Core.Path.{◌≡◌, refl, sym, ◌∙◌, ap}
 use mathlib.Core.Bool.{Bool, true, false, ◌&&◌}
 use mathlib.Core.List.{List, [], ◌∷◌}
 use mathlib.Core.Logic.{by_cases}
-use Prim.Native.Nat.{ℕ, zero, suc, ◌+◌, ◌-◌, ◌*◌, ◌/◌, ◌%◌, ◌<◌, ◌≤◌}
+use Prim.Native.Nat.{ℕ, suc, ◌+◌, ◌-◌, ◌*◌, ◌/◌, ◌%◌, ◌<◌, ◌≤◌}
 use native.Mathlib.Omega.{arith}
 use native.Mathlib.Decide.{ℕ_discrete}
 use lib.Dec.{eqb}
@@ -25,7 +25,7 @@ use Rattle.rules.specs.Systems.{is_ready_at, ready_then, ready_sets, task_in, ta
 use Rattle.rules_laws.proofs.TaskAt.{length_ready_sets, ready_sets_at, task_in_some, task_stored_some}
 use Rattle.board.specs.packing.Packed.{state_of, task_of, task_word, word_number, ready_desk}
 use Rattle.board.specs.Lent.{set_on, ready_on, records_on, tasks_on, ready_moved, TaskPut, SetPut, SameStanding}
-use Rattle.board.proofs.Laws.{get_d_task, keep_records, keep_ready, keep_parents_above}
+use Rattle.board.proofs.Laws.{get_d_task, keep_records, keep_parents_above}
 use Rattle.board.proofs.Stores.{NarrowTask, same_task_lem, task_written, ready_kept, channels_kept, parents_kept, channels_above}
 
 -- the set of desk d, one of six, becomes v

@@ -1,6 +1,5 @@
 -- A mover letter is opened; a moving task's record is stored, and what the desk keeps for it, and its channels are swept over.
 use mathlib.Core.Path.{refl, sym, ◌∙◌}
-use Prim.Native.Nat.{◌≤◌}
 use borrow.Author.Tests.{not-true, not-false}
 use Rattle.steps.proofs.message.TaskActs.{mover_within, moved_opened, stayed_opened}
 use borrow.Author.Rules.{rules}
