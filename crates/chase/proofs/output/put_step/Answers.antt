@@ -10,9 +10,6 @@ bounds-out-at-2 c = simp length-set (omega arith)
 pub put_word-requires : goal.put_word-requires
 put_word-requires c = simp length-set (omega arith)
 
-pub shape_of-out : goal.shape_of-out
-shape_of-out c = simp length-set at c.out-1.given
-
 pub returns : goal.returns
 returns c =
     let a = c.args in
