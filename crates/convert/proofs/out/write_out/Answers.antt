@@ -58,8 +58,7 @@ write_task-w-requires c =
     let k = c.loop-k.k in
     let task : k < a.tasks = omega arith in
     let size : length c.loop-k.codes ≡ 4096 = rw c.loop-k.invariant.5 (length_table 4096 _) in
-    let few : c.wide8-count.result ≤ 64 = rw c.wide8-count.ensures (count_few a.tasks a.lengths.now c.requires.0.sizes k task) in
-    (
+    let few : c.wide8-count.result ≤ 64 = rw c.wide8-count.ensures (count_few a.tasks a.lengths.now c.requires.0.sizes k task) in (
       few,
       omega (arith, c.wide8-count.ensures, c.loop-k.invariant.3, c.requires.0.bytes, place_below a.lengths.now a.tasks k task),
       omega arith,
@@ -107,8 +106,7 @@ loop-k-preserved c =
     let inv = c.loop-k.invariant in
     let all = written_out_plan (programs_in a.file.now a.tasks a.lengths.now) in
     let q = written a.file.now a.tasks a.lengths.now k task inv.3 c.wide8-count.ensures c.write_task-w.ensures in
-    let few = short a.file.now a.tasks a.lengths.now k task inv.3 c.wide8-count.ensures c.requires.1 in
-    (
+    let few = short a.file.now a.tasks a.lengths.now k task inv.3 c.wide8-count.ensures c.requires.1 in (
       omega arith,
       inv.1,
       inv.2,

@@ -70,20 +70,18 @@ loop-k-preserved c =
     let l = c.loop-k in
     let e = c.wide16-place.ensures in
     elim c.if-matches.branch [
-      then-matches w ↦
-      let yes = rw e at (sym w.if-matches.ensures) in
-      (
-        omega arith,
-        rw (w.places-is, w.lowest-is, e)
-            (stage_agrees a.sent.now a.received.now l.k l.places l.lowest l.invariant.1 c.channel-c.result c.channel-c.ensures (sym c.if-not-is_within.ensures) yes a.links.next (c.requires.2.next c.requires.3) (records_few a.sent.now c.requires.0)),
-      )
-    | else-matches w ↦
-      let differs = rw e at (sym w.if-matches.ensures) in
-      (
-        omega arith,
-        rw (w.places-is, w.lowest-is, w.lower-lowest.ensures)
-            (stage_differs a.sent.now a.received.now l.k l.places l.lowest l.invariant.1 c.channel-c.result c.channel-c.ensures (sym c.if-not-is_within.ensures) differs),
-      )
+      | then-matches w ↦
+          let yes = rw e at (sym w.if-matches.ensures) in (
+            omega arith,
+            rw (w.places-is, w.lowest-is, e)
+                (stage_agrees a.sent.now a.received.now l.k l.places l.lowest l.invariant.1 c.channel-c.result c.channel-c.ensures (sym c.if-not-is_within.ensures) yes a.links.next (c.requires.2.next c.requires.3) (records_few a.sent.now c.requires.0)),
+          )
+      | else-matches w ↦
+          let differs = rw e at (sym w.if-matches.ensures) in (
+            omega arith,
+            rw (w.places-is, w.lowest-is, w.lower-lowest.ensures)
+                (stage_differs a.sent.now a.received.now l.k l.places l.lowest l.invariant.1 c.channel-c.result c.channel-c.ensures (sym c.if-not-is_within.ensures) differs),
+          )
     ]
 
 pub verdict-requires : goal.verdict-requires
