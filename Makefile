@@ -21,11 +21,11 @@ SANITIZE = -O1 -g -fsanitize=address,undefined -fno-sanitize-recover=all
 # LIVE=standin takes the live rig of the simulator instead of the proved one.
 LIVE ?= proved
 LIVE_standin = build/liblive_standin.a
-LIVE_proved = target/staticlib/liblive.a target/staticlib/liblive_step.a target/staticlib/liblive_dispatch.a
-PARTS = target/staticlib/libdriver.a target/staticlib/libplanner.a target/staticlib/libchooser.a \
-    target/staticlib/libstep_panel.a $(LIVE_$(LIVE))
+LIVE_proved = crates/live/out/liblive.a crates/live_step/out/liblive_step.a crates/live_dispatch/out/liblive_dispatch.a
+PARTS = crates/driver_c/out/libdriver_c.a crates/planner_c/out/libplanner_c.a crates/chooser_c/out/libchooser_c.a \
+    crates/step_panel/out/libstep_panel.a $(LIVE_$(LIVE))
 ARCHIVE = build/libmortarsedge.a
-PROVED = crates.txt $(shell find crates -type f)
+PROVED = crates.txt $(shell find crates -name out -prune -o -type f -print)
 HEADER = include/mortarsedge.h
 DRIVER = driver/driver.c driver/file.c driver/live.c driver/logs.c driver/say.c
 SIMULATOR = bench/simulator.c bench/sim_plan.c bench/sim_start.c bench/sim_step.c bench/sim_call.c \
@@ -50,17 +50,20 @@ COUNT = 20000
 
 driver: build/driver
 
-target/staticlib/lib%.a: $(PROVED)
-	rt staticlib $*
-	touch $@
+define part
+crates/$(1)/out/lib$(1).a: $$(PROVED)
+	cd crates/$(1) && rt lib
+	touch $$@
+endef
+$(foreach it,driver_c planner_c chooser_c step_panel live live_step live_dispatch,$(eval $(call part,$(it))))
 
-# `rt` writes one part at a time.
-target/staticlib/libplanner.a: target/staticlib/libdriver.a
-target/staticlib/libchooser.a: target/staticlib/libplanner.a
-target/staticlib/libstep_panel.a: target/staticlib/libchooser.a
-target/staticlib/liblive.a: target/staticlib/libstep_panel.a
-target/staticlib/liblive_step.a: target/staticlib/liblive.a
-target/staticlib/liblive_dispatch.a: target/staticlib/liblive_step.a
+# One part at a time: they stand on the same libraries.
+crates/planner_c/out/libplanner_c.a: crates/driver_c/out/libdriver_c.a
+crates/chooser_c/out/libchooser_c.a: crates/planner_c/out/libplanner_c.a
+crates/step_panel/out/libstep_panel.a: crates/chooser_c/out/libchooser_c.a
+crates/live/out/liblive.a: crates/step_panel/out/libstep_panel.a
+crates/live_step/out/liblive_step.a: crates/live/out/liblive.a
+crates/live_dispatch/out/liblive_dispatch.a: crates/live_step/out/liblive_step.a
 
 $(ARCHIVE): $(PARTS) | build
 	rm -f $@
@@ -146,14 +149,14 @@ ctest: build/driver $(HEADER_TESTS) build/vectors build/old_plans build/differen
 	build/vectors crates/vectors_test/data/s103.bin crates/vectors_test/data/edges.bin
 	build/calls crates/vectors_test/data/calls.bin
 	build/panels crates/panel_test/data/panel.bin
-	scripts/replay_test.sh target/bin/dispatch_program target/bin/trace_program crates/trace_program/data/rig.plan crates/edges_test/data/over.plan
-	scripts/chase_test.sh target/bin/chase_program target/bin/trace_program
+	scripts/replay_test.sh crates/dispatch_program/out/dispatch_program crates/trace_program/out/trace_program crates/trace_program/data/rig.plan crates/edges_test/data/over.plan
+	scripts/chase_test.sh crates/chase_program/out/chase_program crates/trace_program/out/trace_program
 	build/old_plans bench/data/one_level.bin
 	build/differential $(SEED) $(COUNT)
 	build/logs crates/logs_test/data/logs.bin $(SEED) 2000
 	build/repeats_vectors crates/repeats_test/data/repeats.bin
 	build/repeats $(SEED) $(COUNT)
-	scripts/finish_test.sh target/bin/finish_program crates/finish_program/data
+	scripts/finish_test.sh crates/finish_program/out/finish_program crates/finish_program/data
 	build/finish_vectors crates/finish_test/data/finish.bin
 	build/finish $(SEED) $(COUNT)
 	build/live $(SEED) 400 10000

@@ -1,8 +1,8 @@
 #!/usr/bin/env bash
 # The gate. First docs/REVIEW.md is compared with the contracts and the wrong programs, and the pages with what they name, which
 # takes a second (it needs python3, and says so where there is none). Then `rt ci` proves everything from nothing and tries the
-# wrong programs of must-fail/. The C side is then tested over the archive of that very proof: `rt` does not prove a crate again
-# that has not changed since. The last line is the last line of `rt ci`, 'N passed, 0 failed', if all of it passed. Otherwise it
+# wrong programs of must-fail/, each of which has to be refused and none bad. The C side is then tested over the archive of that very proof:
+# `rt` does not prove a library again that has not changed since. The last line is the last line of `rt ci`, 'N passed, 0 failed', if all of it passed. Otherwise it
 # is another line, and the status is not 0.
 set -u
 cd "$(dirname "$0")/.." || exit 2
@@ -18,15 +18,18 @@ fi
 log=$(mktemp)
 trap 'rm -f "$log"' EXIT
 
-# `rt` waits for all checks that it has started before it starts more: with six at a time two cores are idle less often.
-RT_JOBS=${RT_JOBS:-6} rt ci 2>&1 | tee "$log"
+rt ci 2>&1 | tee "$log"
 status=${PIPESTATUS[0]}
 verdict=$(tail -n 1 "$log")
 if [ "$status" -ne 0 ] || ! [[ $verdict =~ ^[0-9]+\ passed,\ 0\ failed$ ]]; then
     echo "gate: rt ci does not pass"
     exit 1
 fi
-if ! make -s -j2 ctest; then
+if ! grep -q '^rt: ok' "$log" || grep -qE '^rt: ok.*, [0-9]+ bad' "$log"; then
+    echo "gate: rt ci passes, but a wrong program of must-fail/ is bad"
+    exit 1
+fi
+if ! make -s ctest; then
     echo "gate: rt ci passes, the C tests do not"
     exit 1
 fi

@@ -46,7 +46,7 @@ class Function:
         self.file, self.name, self.public = file, name, public
         self.path = '::'.join([crate] + module + [name])
         self.start, self.end = start, start + len(text)
-        m = re.search(r'^ *\{$|(?<![⌝ ]) \{$', text, re.M)
+        m = re.search(r'^ *\{$|\) \{$|\w \{$|[>\])] \{$', text, re.M)
         self.body = start + (m.start() if m else 0)
         self.outcome = outcome(text)
         self.edits = []
@@ -185,17 +185,24 @@ def said(part, result):
     return words + (', for all ' + ', '.join(f'`{g}`' for g in given) if given else '')
 
 
+def clauses(text):
+    """What stands in the braces of each `ensures`."""
+    found = []
+    for m in re.finditer(r'^ +ensures(?: \w+)? \{', text, re.M):
+        depth, at = 1, m.end()
+        while depth and at < len(text):
+            depth += (text[at] == '{') - (text[at] == '}')
+            at += 1
+        found.append(text[m.end():at - 1])
+    return found
+
+
 def outcome(text):
-    m = re.search(r'ensures \{ λ (\S+)\. ⌜(.*?)⌝ \}', text, re.S)
-    if not m:
-        return None
-    result = m[1]
-    body = ' '.join(m[2].split())
-    body = re.sub(r"\(now \(([\w']+) \.(?:entry|exit)\)\)", r'\1', body)
-    body = re.sub(r"now \(([\w']+) \.(?:entry|exit)\)", r'\1', body)
-    body = re.sub(r"\(([\w']+) \.(?:entry|exit)\)", r'\1', body)
-    body = re.sub(r"\bnow (\w+)", r'\1', body)
-    return '; '.join(said(part, result) for part in split(bare(body), ' × '))
+    parts = []
+    for clause in clauses(text):
+        body = re.sub(r"\b([\w']+)\.(?:now|old|new)\b", r'\1', ' '.join(clause.split()))
+        parts += [said(part, 'result') for part in split(bare(body), ' × ')]
+    return '; '.join(parts) or None
 
 
 # ---- wrong programs

@@ -3,13 +3,18 @@
 #
 #   scripts/wrong_programs.sh [CRATE..]      all crates, or those that are named
 #
-# Each edit is made in a copy of the repository, and `rt dev` has to refuse the crate. For each one a line says at which
+# Each edit is made in a copy of the repository, and `rt check` has to refuse the crate. For each one a line says at which
 # place it was refused, and why. An edit that is not refused, or whose text is not found just once, is a failure: the
 # last line counts both, and the status is 1 if there is one.
 set -u
 top=$(cd "$(dirname "$0")/.." && pwd)
 work=$(mktemp -d)
 trap 'rm -rf "$work"' EXIT
+
+# A check of one crate of the tree.
+rt_check() {
+    (cd "crates/$1" && rt check)
+}
 
 # The first place that the prover refuses, and its words there. What only follows from another refusal comes last.
 refusal() {
@@ -54,7 +59,7 @@ apply() {
 try_crate() {
     local tree=$1 name=$2 crate=$1/crates/$2 log=$1/$2.log edit label part
     cd "$tree" || return
-    if ! rt dev "$name" > "$log" 2>&1; then
+    if ! rt_check "$name" > "$log" 2>&1; then
         echo "FAILED $name: it is not proved as it stands"
         return
     fi
@@ -62,7 +67,7 @@ try_crate() {
         label=$name/$(basename "$edit" .edit)
         if ! apply "$edit" "$crate"; then
             echo "FAILED $label: its text is not found just once"
-        elif rt dev "$name" > "$log" 2>&1; then
+        elif rt_check "$name" > "$log" 2>&1; then
             echo "FAILED $label: NOT REFUSED"
         elif grep -q '^logic=not-proved' "$log"; then
             echo "refused $label: $(refusal "$log" "$crate")"
@@ -91,7 +96,6 @@ for ((j = 0; j < jobs && j < ${#crates[@]}; j++)); do
     tree=$work/$j
     mkdir "$tree"
     cp -R "$top/crates" "$top/crates.txt" "$tree"
-    [ ! -d "$top/target" ] || cp -R "$top/target" "$tree"
     (
         for ((k = j; k < ${#crates[@]}; k += jobs)); do
             RT_JOBS=1 try_crate "$tree" "${crates[k]}" | tee -a "$tree/results"

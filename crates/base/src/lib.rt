@@ -1,5 +1,6 @@
 // Numbers made wider, and tests as functions.
 #![tactic(auto)]
+
 ghost use Rattle.std.specs.Prelude.{◌&&◌, ◌≡◌};
 ghost use Rattle.base.specs.Choice.{within};
 

@@ -1,37 +1,32 @@
 -- The run: the opening, the rounds, the end; and what is said of it.
-use mathlib.Core.Path.{◌≡◌, refl, sym, ap, subst, ◌∙◌}
-use mathlib.Core.Bool.{Bool, true, false, ◌&&◌}
-use mathlib.Core.List.{List, [], ◌∷◌, ◌++◌}
+use mathlib.Core.Path.{◌≡◌, refl, subst, ◌∙◌}
+use mathlib.Core.Bool.{true, false}
+use mathlib.Core.List.{[], ◌∷◌, ◌++◌}
 use mathlib.Core.Logic.{by_cases}
 use Prim.Native.Nat.{ℕ, zero, suc, ◌+◌, ◌*◌, ◌/◌, ◌%◌, ◌≤◌}
 use native.Mathlib.Omega.{arith}
 use native.Mathlib.Decide.{ℕ_discrete}
 use lib.Dec.{eqb, leb}
-use lib.ListN.{length}
 use borrow.Author.Tests.{lt-ltb, ne_eqb, eq-eqb, le-leb}
-use Rattle.base.specs.Choice.{pick}
 use Rattle.base.specs.Range.{fold, joined}
 use Rattle.base.proofs.Tests.{and_both}
-use Rattle.plan.specs.declared.ChannelId.{ChannelId}
 use Rattle.plan.specs.declared.PlanAnswer.TheVariants.{Accepted}
 use Rattle.plan.specs.Files.{file_programs, start_answer}
 use Rattle.plan.specs.Programs.{programs, canonical}
 use Rattle.plan.specs.Refusals.{plan_answer}
-use Rattle.rules.specs.declared.step.Step.{Step}
 use Rattle.rules.specs.declared.system.System.{System}
-use Rattle.rules.specs.Starts.{started}
-use Rattle.rules.specs.Steps.{run_step, move_step, steps, quiescent}
-use Rattle.rules.specs.StepFiles.{file_steps, start_of, steps_ok}
+use Rattle.rules.specs.Steps.{run_step, move_step, quiescent}
+use Rattle.rules.specs.StepFiles.{start_of, steps_ok}
 use Rattle.rules.proofs.Evaluated.{evaluated}
 use Rattle.rules_laws.proofs.Shapes.{started_shaped}
 use Rattle.rules_sound.proofs.Starts.{started_ok}
-use Rattle.claim.specs.Chase.{is_offer, posts_offer, forwards_of}
-use Rattle.chase.specs.Construction.{chase_plan, opening, desk_after, round, ending, chase_steps, step_file, chase_file}
+use Rattle.claim.specs.Chase.{is_offer, posts_offer}
+use Rattle.chase.specs.Construction.{chase_plan, opening, desk_after, round, ending, chase_steps, chase_file}
 use Rattle.chase.specs.Chase.{chased, Chase}
-use Rattle.chase.proofs.Walks.{Fine, Leads, Walks, stays, leads, walks_on, after, is_chased, once}
+use Rattle.chase.proofs.Walks.{Fine, Leads, Walks, stays, leads, walks_on, after}
 use Rattle.chase.proofs.Rig.{Pointers, no_pointers, chase_rig}
 use Rattle.chase.proofs.Rounds.{left_two, left_three, walks_round, turns_two, turns_three}
-use Rattle.chase.proofs.Ending.{Still, still_rests, Ends, ended, walks_ending, ends_at_2, ends_at_3}
+use Rattle.chase.proofs.Ending.{still_rests, Ends, ended, walks_ending, ends_at_2, ends_at_3}
 use Rattle.chase.proofs.Files.{length_chase_file, steps_back}
 
 abbrev start : System

@@ -1,14 +1,13 @@
 -- Step files: their lengths, one behind another, and read back.
-use mathlib.Core.Path.{◌≡◌, refl, sym, ap, ◌∙◌}
-use mathlib.Core.List.{List, [], ◌∷◌, ◌++◌, append_assoc}
+use mathlib.Core.Path.{◌≡◌, refl, ap, ◌∙◌}
+use mathlib.Core.List.{List, [], ◌∷◌, ◌++◌}
 use Prim.Native.Nat.{ℕ, zero, suc, ◌+◌, ◌*◌, ◌/◌, ◌%◌, ◌<◌}
 use native.Mathlib.Nat.{div-add-mod'}
 use native.Mathlib.Omega.{arith}
 use lib.ListN.{length, get_or, length-append}
-use Rattle.base.specs.Lists.{table}
 use Rattle.base.specs.Range.{fold, joined}
 use Rattle.base.proofs.Tables.{table_same, as_table}
-use Rattle.plan.specs.Files.{byte_at, word16}
+use Rattle.plan.specs.Files.{byte_at}
 use Rattle.rules.specs.declared.step.Step.{Step}
 use Rattle.rules.specs.StepFiles.{step_at, file_steps}
 use Rattle.rules.specs.Steps.{run_step}

@@ -1,6 +1,6 @@
 -- A number that is read in parts is the number that the whole text says, or 501 where that is more.
 use mathlib.Core.Path.{◌≡◌, refl, sym, ap, ◌∙◌}
-use mathlib.Core.Bool.{Bool, true, false, ◌&&◌}
+use mathlib.Core.Bool.{Bool, true, false}
 use mathlib.Core.List.{List, [], ◌∷◌, ◌++◌}
 use Prim.Native.Nat.{ℕ, ◌+◌, ◌*◌, ◌-◌, ◌≤◌, ◌<◌}
 use native.Mathlib.Numerals.{add-one}
@@ -8,8 +8,7 @@ use native.Mathlib.Omega.{arith}
 use lib.Dec.{leb}
 use lib.ListN.{length, get_or, drop, drop_of_length-le}
 use lib.Seq.{drop-cons}
-use borrow.Author.Tests.{leb-true, leb-false, le-leb, lt-leb}
-use Rattle.base.specs.Choice.{pick}
+use borrow.Author.Tests.{leb-false, le-leb, lt-leb}
 use Rattle.base.proofs.Tests.{and_false}
 use Rattle.chase.specs.declared.number.Number.{Number}
 use Rattle.chase.specs.Numbers.{is_digit, decimal_from, decimal, at_most501, read_byte, read_on, unread}

@@ -1,7 +1,6 @@
 -- What a call of the chase meets, refused or written.
-use mathlib.Core.Path.{◌≡◌, refl, sym, ap, ◌∙◌}
-use mathlib.Core.Bool.{true, false, ◌&&◌}
-use mathlib.Core.List.{List, [], ◌∷◌, ◌++◌}
+use mathlib.Core.Path.{◌≡◌, refl, sym, ◌∙◌}
+use mathlib.Core.List.{List, ◌++◌}
 use Prim.Native.Nat.{ℕ, ◌+◌, ◌*◌, ◌≤◌, ◌<◌}
 use native.Mathlib.Omega.{arith}
 use lib.Dec.{leb}
@@ -14,7 +13,6 @@ use Rattle.plan_write.specs.output.Output.{overlay}
 use Rattle.plan_write.proofs.output.Overlay.{overlay_front}
 use Rattle.chase.specs.declared.ChaseAnswer.TheVariants.{Written, TooMany, OutputShort}
 use Rattle.chase.specs.Construction.{chase_plan, chase_file}
-use Rattle.chase.specs.Chase.{Chase}
 use Rattle.chase.specs.Outcomes.{chase_answer, ChaseMeets}
 use Rattle.chase.proofs.Files.{length_chase_file}
 use Rattle.chase.proofs.Chased.{chase_made}

@@ -1,6 +1,6 @@
 -- The rig of the chase while task 2 and its offer are on their way.
 use mathlib.Core.Bool.{false}
-use mathlib.Core.List.{List, [], ◌∷◌, ◌++◌}
+use mathlib.Core.List.{List, ◌∷◌}
 use Prim.Native.Nat.{ℕ}
 use lib.ListN.{replicate, set}
 use Rattle.plan.specs.declared.Plan.{Plan}
@@ -17,7 +17,7 @@ use Rattle.rules.specs.declared.system.TaskTable.{TaskTable}
 use Rattle.rules.specs.declared.system.System.{System}
 use Rattle.rules.specs.declared.task.Task.{Task}
 use Rattle.rules.specs.declared.task.TaskState.{TaskState}
-use Rattle.rules.specs.declared.task.TaskState.TheVariants.{Sending, Ready, Moving}
+use Rattle.rules.specs.declared.task.TaskState.TheVariants.{Sending, Moving}
 use Rattle.rules.specs.Numbers.{task_id, processor_id, channel_id}
 use Rattle.rules.specs.Hints.{hint, unknown}
 use Rattle.rules.specs.Cells.{offer}

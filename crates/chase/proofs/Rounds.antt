@@ -1,13 +1,9 @@
 -- A round: task 2 arrives, leaves for the other desk, and the offer is forwarded there.
-use mathlib.Core.Path.{◌≡◌, refl, sym, ap, ◌∙◌}
+use mathlib.Core.Path.{◌≡◌, refl}
 use mathlib.Core.Bool.{Bool, true, false, ◌&&◌}
-use mathlib.Core.List.{List, [], ◌∷◌, ◌++◌}
-use Prim.Native.Nat.{ℕ, ◌+◌, ◌*◌}
-use native.Mathlib.Omega.{arith}
+use mathlib.Core.List.{[], ◌∷◌}
+use Prim.Native.Nat.{ℕ, ◌+◌}
 use lib.Dec.{eqb, ltb}
-use borrow.Author.Tests.{lt-ltb}
-use Rattle.base.specs.Choice.{pick}
-use Rattle.plan.specs.declared.ChannelId.{ChannelId}
 use Rattle.rules.specs.declared.system.System.{System}
 use Rattle.rules.specs.Numbers.{processor_id}
 use Rattle.rules.specs.Hints.{hint}
@@ -15,7 +11,7 @@ use Rattle.rules.specs.Steps.{deliver_step, move_step}
 use Rattle.rules.proofs.Evaluated.{evaluated}
 use Rattle.claim.specs.Chase.{is_offer, posts_offer}
 use Rattle.chase.specs.Construction.{chase_plan}
-use Rattle.chase.proofs.Walks.{Fine, Leads, Walks, leads, walks_on, after, is_chased, once, hands_on}
+use Rattle.chase.proofs.Walks.{Fine, Leads, Walks, leads, walks_on, after, is_chased}
 use Rattle.chase.proofs.Rig.{Pointers, chase_rig, left_rig}
 
 -- the pointers then, where task 2 has left desk 2 for desk 3 with count n, or desk 3 for desk 2

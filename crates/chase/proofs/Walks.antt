@@ -1,5 +1,5 @@
 -- Accepted steps one by one: where they lead, and which offers they forward.
-use mathlib.Core.Path.{◌≡◌, refl, sym, ap, ◌∙◌}
+use mathlib.Core.Path.{◌≡◌, refl, sym}
 use mathlib.Core.Bool.{Bool, true, false, ◌&&◌}
 use mathlib.Core.List.{List, [], ◌∷◌, ◌++◌}
 use Prim.Native.Nat.{ℕ, ◌+◌, ◌*◌}
@@ -11,10 +11,8 @@ use Rattle.base.specs.Lists.{every}
 use Rattle.base.proofs.Tests.{and_both, every_append}
 use Rattle.plan.specs.declared.ChannelId.{ChannelId}
 use Rattle.rules.specs.declared.step.Step.{Step}
-use Rattle.rules.specs.declared.step.StepAnswer.{StepAnswer}
 use Rattle.rules.specs.declared.step.StepAnswer.TheVariants.{Accepted}
 use Rattle.rules.specs.declared.step.Report.{Report}
-use Rattle.rules.specs.declared.step.Stepped.{Stepped}
 use Rattle.rules.specs.declared.system.System.{System}
 use Rattle.rules.specs.Numbers.{same_channel}
 use Rattle.rules.specs.Answers.{is_accepted}

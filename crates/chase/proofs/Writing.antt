@@ -1,7 +1,7 @@
 -- What is put into the outputs, piece behind piece.
 use mathlib.Core.Path.{◌≡◌, refl, sym, ap, ◌∙◌}
 use mathlib.Core.List.{List, [], ◌∷◌, ◌++◌, append_assoc}
-use Prim.Native.Nat.{ℕ, zero, suc, ◌+◌, ◌*◌, ◌≤◌, ◌<◌}
+use Prim.Native.Nat.{ℕ, ◌+◌, ◌*◌, ◌≤◌, ◌<◌}
 use native.Mathlib.Numerals.{add-one}
 use native.Mathlib.Omega.{arith}
 use lib.ListN.{length, get_or, take, set}
@@ -11,7 +11,7 @@ use Rattle.plan.specs.Layout.{bytes16}
 use Rattle.rules.specs.declared.step.Step.{Step}
 use Rattle.rules.specs.Steps.{run_step, deliver_step}
 use Rattle.plan_write.specs.output.Output.{overlay}
-use Rattle.plan_write.proofs.output.Overlay.{overlay_none, length_overlay, overlay_more, two_stores}
+use Rattle.plan_write.proofs.output.Overlay.{overlay_none, overlay_more, two_stores}
 use Rattle.chase.specs.Construction.{opening, round, ending, chase_steps, step_bytes, step_file, chase_file}
 use Rattle.chase.proofs.Files.{file_append, length_file, length_rounds}
 

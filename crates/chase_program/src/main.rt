@@ -2,15 +2,18 @@
 // steps for three desks in which one offer is forwarded so often, as the files `rig.plan` and `rig.steps`. It prints that offer's
 // count of forwarding deliveries; or `refused` and the number, and then no file is touched.
 #![tactic(auto)]
+
 use chase::ChaseAnswer;
 use chase::number::Number;
-use libc::{STDIN_FILENO, STDOUT_FILENO};
+use std::fs::{File, OpenFile};
+use std::io::{Read, Write};
+use std::rt::Files;
+use std::{fs, io};
 
 // What is read next of the number. The end of the input ends it.
-fn read_some(x: Number) -> Number {
-    let mut text = io::buffer();
-    let got = libc::read(STDIN_FILENO, &mut text);
-    let size = io::count(got, &text);
+fn read_some(input: &mut impl Read, x: Number) -> Number {
+    let mut text = [0u8; 4096];
+    let size = input.read(&mut text).unwrap_or(0);
     if size == 0 {
         return Number {
             value: x.value,
@@ -21,7 +24,7 @@ fn read_some(x: Number) -> Number {
 }
 
 // The number, read to its end: no input has as many parts as there are turns.
-fn read_number() -> u16 {
+fn read_number(input: &mut impl Read) -> u16 {
     let mut x = Number {
         value: 0,
         more: true,
@@ -31,91 +34,96 @@ fn read_number() -> u16 {
         if !x.more {
             return x.value;
         }
-        x = read_some(x);
+        x = read_some(input, x);
         k += 1;
     }
     x.value
 }
 
-// The bytes become a file: whether all of them are written.
-fn save(name: &[u8], bytes: &[u8]) -> bool {
-    let fd = os::open_overwrite(name);
-    if fd < 0 {
-        return false;
-    }
-    let saved = io::write_all(fd, bytes);
-    let closed = libc::close(fd);
-    saved && closed == 0
+// The bytes become a file; an error where not all of them are written.
+fn save(rt: &impl Files, name: &str, bytes: &[u8]) -> io::Result<()> {
+    let mut file = File::create(rt, name)?;
+    file.write_all(bytes)?;
+    file.sync_all()
 }
 
 // It is said which file failed and why, and nothing is left of what was written.
-fn give_up(name: &[u8]) {
-    os::fail(name);
-    os::unlink(b"rig.plan.new");
-    os::unlink(b"rig.steps.new");
+fn give_up(rt: &(impl Files + Eprint), name: &str, why: io::Error) {
+    show_files::fail(rt, name, why);
+    let _ = fs::remove_file(rt, "rig.plan.new");
+    let _ = fs::remove_file(rt, "rig.steps.new");
 }
 
 // Both files are written under other names and renamed when both are whole: whether they are.
-fn keep<'a>(plan: &'a [u8], steps: &'a [u8]) -> bool {
-    if !save(b"rig.plan.new", plan) {
-        give_up(b"rig.plan");
+fn keep(rt: &(impl Files + Eprint), plan: &[u8], steps: &[u8]) -> bool {
+    if let Err(e) = save(rt, "rig.plan.new", plan) {
+        give_up(rt, "rig.plan", e);
         return false;
     }
-    if !save(b"rig.steps.new", steps) {
-        give_up(b"rig.steps");
+    if let Err(e) = save(rt, "rig.steps.new", steps) {
+        give_up(rt, "rig.steps", e);
         return false;
     }
-    if os::rename(b"rig.plan.new", b"rig.plan") != 0 {
-        give_up(b"rig.plan");
+    if let Err(e) = fs::rename(rt, "rig.plan.new", "rig.plan") {
+        give_up(rt, "rig.plan", e);
         return false;
     }
-    if os::rename(b"rig.steps.new", b"rig.steps") != 0 {
-        give_up(b"rig.steps");
+    if let Err(e) = fs::rename(rt, "rig.steps.new", "rig.steps") {
+        give_up(rt, "rig.steps", e);
         return false;
     }
     true
 }
 
-fn print_refusal(number: u64) {
-    io::write_all(STDOUT_FILENO, b"refused ");
-    io::print_decimal(STDOUT_FILENO, number);
-    io::write_all(STDOUT_FILENO, b"\n");
+fn print_refusal(rt: &impl Print, number: u64) -> io::Result<()> {
+    println!(rt; "refused {number}")
 }
 
-fn print_count(m: u64) {
-    io::print_decimal(STDOUT_FILENO, m);
-    io::write_all(STDOUT_FILENO, b"\n");
+fn print_count(rt: &impl Print, m: u64) -> io::Result<()> {
+    println!(rt; "{m}")
 }
 
 // The steps are the first `size` bytes.
-fn keep_first<'a>(plan: &'a [u8], steps: &'a [u8], size: usize) -> bool {
+fn keep_first(rt: &(impl Files + Eprint), plan: &[u8], steps: &[u8], size: usize) -> bool {
     if steps.len() < size {
         return false;
     }
-    keep(plan, &steps[..size])
+    keep(rt, plan, &steps[..size])
 }
 
 // The count of forwards is printed when both files are there.
-fn keep_chase<'a>(m: u64, plan: &'a [u8], steps: &'a [u8], size: usize) {
-    if !keep_first(plan, steps, size) {
-        return;
+fn keep_chase(
+    rt: &(impl Files + Print + Eprint),
+    m: u64,
+    plan: &[u8],
+    steps: &[u8],
+    size: usize,
+) -> io::Result<()> {
+    if !keep_first(rt, plan, steps, size) {
+        return Ok(());
     }
-    print_count(m);
+    print_count(rt, m)
 }
 
-fn say<'a>(m: u64, answer: ChaseAnswer, plan: &'a [u8], steps: &'a [u8]) {
+fn say(
+    rt: &(impl Files + Print + Eprint),
+    m: u64,
+    answer: ChaseAnswer,
+    plan: &[u8],
+    steps: &[u8],
+) -> io::Result<()> {
     match answer {
-        ChaseAnswer::Written(size) => keep_chase(m, plan, steps, size),
-        ChaseAnswer::TooMany => print_refusal(26),
-        ChaseAnswer::OutputShort => print_refusal(20),
+        ChaseAnswer::Written(size) => keep_chase(rt, m, plan, steps, size),
+        ChaseAnswer::TooMany => print_refusal(rt, 26),
+        ChaseAnswer::OutputShort => print_refusal(rt, 20),
     }
 }
 
 // The buffers are as long as the plan, and longer than the steps of any chase, of 6,044 bytes.
-fn main() {
-    let m = read_number() as u64;
+fn main(rt: HostRuntime) -> io::Result<()> {
+    let m = read_number(&mut rt.reader()) as u64;
     let mut plan = [0u8; 32];
-    let mut steps = io::large_buffer();
+    let mut steps = [0u8; 65536];
     let answer = chase::write_chase(m, &mut plan, &mut steps);
-    say(m, answer, &plan, &steps);
+    say(&rt, m, answer, &plan, &steps)
 }

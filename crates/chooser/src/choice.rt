@@ -8,8 +8,7 @@ use run::file::run::Outcome;
 // Choose: the dispatchers of the desks are called in turn from the start of a plan file until the rig is at rest, and the steps that
 // they choose are written into the lent output as a step file. The number of the answer, and 256 times the number of bytes that are
 // filled.
-#[unsafe(no_mangle)]
-pub extern "C" fn mortarsedge_choose<'a>(processors: u32, plan: &'a [u8], out: &'a mut [u8]) -> u64
+pub fn mortarsedge_choose<'a>(processors: u32, plan: &'a [u8], out: &'a mut [u8]) -> u64
     ensures { ChooseMeets processors plan.now out.old result out.new }
 {
     let o: Outcome = choose_file(processors, plan, out);

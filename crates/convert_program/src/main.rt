@@ -2,71 +2,56 @@
 // with every repeat written out, and prints the number of instructions before and after; or `refused` and
 // the number, and then `rig.plan` is not touched.
 #![tactic(auto)]
-ghost use Rattle.io.specs.Counts.{IsPrefixLen};
 
-use libc::STDOUT_FILENO;
 use plan_file::fields::word_at;
+use std::fs::File;
+use std::io;
+use std::io::Write;
+use std::rt::Files;
 
-// Reads a file and answers how many bytes. A missing file counts as empty: nothing is read where
-// opening it failed.
-fn load(name: &[u8], file: &mut [u8]) -> usize
-    ensures { IsPrefixLen result file.new }
-{
-    let fd = os::open_read(name);
-    let size = io::read_full(fd, file);
-    libc::close(fd);
-    size
-}
-
-fn print_refusal(number: u64) {
-    io::write_all(STDOUT_FILENO, b"refused ");
-    io::print_decimal(STDOUT_FILENO, number);
-    io::write_all(STDOUT_FILENO, b"\n");
+fn print_refusal(rt: &impl Print, number: u64) -> io::Result<()> {
+    println!(rt; "refused {number}")
 }
 
 // "N (16 bits, instructions in all)", of the file before and after.
-fn print_counts(before: u16, after: u16) {
-    io::print_decimal(STDOUT_FILENO, before as u64);
-    io::write_all(STDOUT_FILENO, b" ");
-    io::print_decimal(STDOUT_FILENO, after as u64);
-    io::write_all(STDOUT_FILENO, b"\n");
+fn print_counts(rt: &impl Print, before: u16, after: u16) -> io::Result<()> {
+    println!(rt; "{before} {after}")
 }
 
-// The first `filled` bytes become the file: whether all of them are written.
-fn save(name: &[u8], out: &[u8], filled: usize) -> bool {
+// The first `filled` bytes become the file; an error where not all of them are written.
+fn save(rt: &impl Files, name: &str, out: &[u8], filled: usize) -> io::Result<()> {
     if out.len() < filled {
-        return false;
+        return Err(io::Error::other("more is filled than there is"));
     }
-    let fd = os::open_overwrite(name);
-    if fd < 0 {
-        return false;
-    }
-    let saved = io::write_all(fd, &out[..filled]);
-    libc::close(fd);
-    saved
+    let mut file = File::create(rt, name)?;
+    file.write_all(&out[..filled])
 }
 
 // The answer is the number of the refusal, 0 for none, and 256 times how much of the output is filled.
-fn say(answer: u64, repeats: &[u8], out: &[u8]) {
+fn say(
+    rt: &(impl Files + Print + Eprint),
+    answer: u64,
+    repeats: &[u8],
+    out: &[u8],
+) -> io::Result<()> {
     let number = answer % 256;
     if number != 0 {
-        print_refusal(number);
-        return;
+        return print_refusal(rt, number);
     }
-    let name = b"rig.plan";
-    if !save(name, out, (answer / 256) as usize) {
-        os::fail(name);
-        return;
+    let name = "rig.plan";
+    if let Err(e) = save(rt, name, out, (answer / 256) as usize) {
+        show_files::fail(rt, name, e);
+        return Ok(());
     }
-    print_counts(word_at(repeats, 2), word_at(out, 2));
+    print_counts(rt, word_at(repeats, 2), word_at(out, 2))
 }
 
 // The buffers are longer than any accepted file, of 16,644 bytes, so that a longer one is refused and not
 // cut, and a written one fits.
-fn main() {
-    let mut repeats = io::large_buffer();
-    let mut out = io::large_buffer();
-    let size = load(b"rig.repeats", &mut repeats);
+fn main(rt: HostRuntime) -> io::Result<()> {
+    let mut repeats = [0u8; 65536];
+    let mut out = [0u8; 65536];
+    let size = show_files::load(&rt, "rig.repeats", &mut repeats);
     let answer = planner::conversion::mortarsedge_convert(&repeats[..size], &mut out);
-    say(answer, &repeats, &out);
+    say(&rt, answer, &repeats, &out)
 }

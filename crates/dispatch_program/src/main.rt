@@ -3,14 +3,14 @@
 // that they chose as the file `rig.steps` and prints the trace, or `refused` and the number.
 #![tactic(auto)]
 
-ghost use Rattle.io.specs.Counts.{IsPrefixLen};
-
-use libc::{STDIN_FILENO, STDOUT_FILENO};
+use std::io::Read;
+use std::rt::Files;
+use std::{fs, io};
 
 // A first byte that is no digit counts as 0 desks.
-fn processors() -> u8 {
+fn processors(rt: &impl Input) -> u8 {
     let mut first = [0u8; 1];
-    let got = libc::read(STDIN_FILENO, &mut first);
+    let got = rt.reader().read(&mut first).unwrap_or(0);
     if got < 1 {
         return 0;
     }
@@ -24,97 +24,81 @@ fn processors() -> u8 {
     digit - 48
 }
 
-// Reads a file and answers how many bytes. A missing file counts as empty.
-fn load(name: &[u8], file: &mut [u8]) -> usize
-    ensures { IsPrefixLen result file.new }
-{
-    let fd = os::open_read(name);
-    let size = io::read_full(fd, file);
-    libc::close(fd);
-    size
-}
-
-fn print_refusal(number: u64) {
-    io::write_all(STDOUT_FILENO, b"refused ");
-    io::print_decimal(STDOUT_FILENO, number);
-    io::write_all(STDOUT_FILENO, b"\n");
+fn print_refusal(rt: &impl Print, number: u64) -> io::Result<()> {
+    println!(rt; "refused {number}")
 }
 
 // The trace is the first `filled` bytes.
-fn print_trace(out: &[u8], filled: usize) {
+fn print_trace(rt: &impl Print, out: &[u8], filled: usize) -> io::Result<()> {
     if out.len() < filled {
-        return;
+        return Ok(());
     }
-    io::write_all(STDOUT_FILENO, &out[..filled]);
+    rt.write_all(&out[..filled])
 }
 
-// The step file becomes these steps.
-fn save(steps: &[u8]) {
-    let fd = os::open_overwrite(b"rig.steps");
-    if fd < 0 {
-        os::fail(b"rig.steps");
-        return;
+// The step file becomes these steps; where it can't, that is said.
+fn save(rt: &(impl Files + Eprint), steps: &[u8]) {
+    if let Err(e) = fs::write(rt, "rig.steps", steps) {
+        show_files::fail(rt, "rig.steps", e);
     }
-    io::write_all(fd, steps);
-    libc::close(fd);
 }
 
 // The answer is the number of the refusal, 0 for none, and 256 times how much of the output is filled.
-fn say(answer: u64, out: &[u8]) {
+fn say(rt: &impl Print, answer: u64, out: &[u8]) -> io::Result<()> {
     let number = answer % 256;
     if number != 0 {
-        print_refusal(number);
-        return;
+        return print_refusal(rt, number);
     }
-    print_trace(out, (answer / 256) as usize);
+    print_trace(rt, out, (answer / 256) as usize)
 }
 
 // The trace of the chosen steps.
-fn trace<'a>(n: u8, plan: &'a [u8], steps: &'a [u8]) {
-    let mut out = io::large_buffer();
+fn trace(rt: &impl Print, n: u8, plan: &[u8], steps: &[u8]) -> io::Result<()> {
+    let mut out = [0u8; 65536];
     let answer = driver::mortarsedge_run(n as u32, plan, steps, &mut out);
-    say(answer, &out);
+    say(rt, answer, &out)
 }
 
 // The step file becomes the first `size` bytes, and they are traced.
-fn keep_first<'a>(n: u8, plan: &'a [u8], steps: &'a [u8], size: usize) {
+fn keep_first(
+    rt: &(impl Files + Print + Eprint),
+    n: u8,
+    plan: &[u8],
+    steps: &[u8],
+    size: usize,
+) -> io::Result<()> {
     if steps.len() < size {
-        return;
+        return Ok(());
     }
-    save(&steps[..size]);
-    trace(n, plan, &steps[..size]);
+    save(rt, &steps[..size]);
+    trace(rt, n, plan, &steps[..size])
 }
 
 // Says that the step file has not all steps.
-fn say_more() {
-    io::write_all(
-        STDOUT_FILENO,
-        b"more than 2000 steps: rig.steps has the first 2000\n",
-    );
+fn say_more(rt: &impl Print) -> io::Result<()> {
+    println!(rt; "more than 2000 steps: rig.steps has the first 2000")
 }
 
 // The steps are chosen, kept and traced, and it is said where there were more. Only a plan file that can be started changes the step
 // file.
-fn dispatch_plan(n: u8, plan: &[u8]) {
+fn dispatch_plan(rt: &(impl Files + Print + Eprint), n: u8, plan: &[u8]) -> io::Result<()> {
     let mut steps = [0u8; 8000];
     let answer = chooser::choice::mortarsedge_choose(n as u32, plan, &mut steps);
     let number = answer % 256;
     let size = (answer / 256) as usize;
     if number == 0 {
-        keep_first(n, plan, &steps, size);
-        return;
+        return keep_first(rt, n, plan, &steps, size);
     }
     if number == 20 {
-        keep_first(n, plan, &steps, size);
-        say_more();
-        return;
+        keep_first(rt, n, plan, &steps, size)?;
+        return say_more(rt);
     }
-    print_refusal(number);
+    print_refusal(rt, number)
 }
 
-fn main() {
-    let n = processors();
-    let mut plan = io::large_buffer();
-    let planned = load(b"rig.plan", &mut plan);
-    dispatch_plan(n, &plan[..planned]);
+fn main(rt: HostRuntime) -> io::Result<()> {
+    let n = processors(&rt);
+    let mut plan = [0u8; 65536];
+    let planned = show_files::load(&rt, "rig.plan", &mut plan);
+    dispatch_plan(&rt, n, &plan[..planned])
 }

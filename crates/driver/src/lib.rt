@@ -14,8 +14,7 @@ use rules::step::RunAnswer;
 use run::file::run::run_file;
 
 // Plan check: whether a plan file can be started on this many desks. 0, or the number of the refusal.
-#[unsafe(no_mangle)]
-pub extern "C" fn mortarsedge_plan_check(processors: u32, plan: &[u8]) -> u32
+pub fn mortarsedge_plan_check(processors: u32, plan: &[u8]) -> u32
     ensures { result ≡ start_number processors plan.now }
 {
     if !base::is_within(1, 6, processors as usize) {
@@ -47,8 +46,7 @@ pub fn packed(number: u32, filled: usize) -> u64
 
 // The run: a plan file and a step file on this many desks, the trace into the lent output. The number
 // of the answer, and 256 times the number of bytes that are filled.
-#[unsafe(no_mangle)]
-pub extern "C" fn mortarsedge_run<'a>(
+pub fn mortarsedge_run<'a>(
     processors: u32,
     plan: &'a [u8],
     steps: &'a [u8],

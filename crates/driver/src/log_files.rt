@@ -17,8 +17,7 @@ fn logs_packed(a: LogsAnswer) -> u64
 }
 
 // The check: 0 for yes, 256 times the lowest channel for no, 24 or 25 where the logs are refused.
-#[unsafe(no_mangle)]
-pub extern "C" fn mortarsedge_logs<'a>(sent: &'a [u8], received: &'a [u8]) -> u64
+pub fn mortarsedge_logs<'a>(sent: &'a [u8], received: &'a [u8]) -> u64
     ensures { result ≡ logs_outcome sent.now received.now }
 {
     let answer = logs::check_logs(sent, received);

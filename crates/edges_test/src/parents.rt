@@ -7,6 +7,7 @@ use plan::{ProcessorId, TaskId};
 use rules::channel::Hint;
 use rules::message::{Message, Slot};
 use rules::system::System;
+use std::io;
 
 // A pointer: desk and count.
 fn pointer(desk: u8, moves: u16) -> Hint {
@@ -17,7 +18,15 @@ fn pointer(desk: u8, moves: u16) -> Hint {
 }
 
 // With this own pointer of the task after the first k a run of task 2 is answered so.
-fn own(what: &[u8], mut r: System, k: usize, desk: u8, moves: u16, number: u8)
+fn own(
+    rt: &impl Print,
+    what: &str,
+    mut r: System,
+    k: usize,
+    desk: u8,
+    moves: u16,
+    number: u8,
+) -> io::Result<()>
     requires { k < 64 }
 {
     let h = pointer(desk, moves);
@@ -27,22 +36,37 @@ fn own(what: &[u8], mut r: System, k: usize, desk: u8, moves: u16, number: u8)
     tasks.records[k] = x;
     r.tasks = tasks;
     let a = take_step(r, 1, 2, 0);
-    say(what, a.number == number);
+    say(rt, what, a.number == number)
 }
 
 // With this entry of desk 6 for task 64, the last, a pointer and held children, a run of task 2 is answered so.
-fn entry(what: &[u8], mut r: System, desk: u8, moves: u16, held: u64, number: u8) {
+fn entry(
+    rt: &impl Print,
+    what: &str,
+    mut r: System,
+    desk: u8,
+    moves: u16,
+    held: u64,
+    number: u8,
+) -> io::Result<()> {
     let mut parents = r.parents;
     parents.hintprocessors[383] = desk;
     parents.hintmoves[383] = moves;
     parents.held[383] = held;
     r.parents = parents;
     let a = take_step(r, 1, 2, 0);
-    say(what, a.number == number);
+    say(rt, what, a.number == number)
 }
 
 // The ended letter of task 2 to this desk with this count, the only letter, is answered so.
-fn ended(what: &[u8], mut r: System, desk: u8, moves: u16, number: u8) {
+fn ended(
+    rt: &impl Print,
+    what: &str,
+    mut r: System,
+    desk: u8,
+    moves: u16,
+    number: u8,
+) -> io::Result<()> {
     let h = pointer(desk, moves);
     let letter = Message::Terminated(h, TaskId(2));
     let mut network = r.network;
@@ -50,96 +74,108 @@ fn ended(what: &[u8], mut r: System, desk: u8, moves: u16, number: u8) {
     network.used = 1;
     r.network = network;
     let a = take_step(r, 2, 0, 1);
-    say(what, a.number == number);
+    say(rt, what, a.number == number)
 }
 
 // Own pointers: "both 0 for an unborn task, and always for task 1", else in range. In the second rig task 2 is born.
-fn own_pointers(start: System, born: System) {
-    own(b"own pointer, no desk: 9", born, 1, 0, 1, 9);
-    own(b"own pointer, desk 3 of 2: 9", born, 1, 3, 1, 9);
-    own(b"own pointer, count 0: 9", born, 1, 1, 0, 9);
-    own(b"own pointer, count 10,000: 9", born, 1, 1, 10000, 9);
-    own(b"own pointer, both 0: 9", born, 1, 0, 0, 9);
-    own(b"own pointer, desk 2, count 9,999", born, 1, 2, 9999, 0);
+fn own_pointers(rt: &impl Print, start: System, born: System) -> io::Result<()> {
+    own(rt, "own pointer, no desk: 9", born, 1, 0, 1, 9)?;
+    own(rt, "own pointer, desk 3 of 2: 9", born, 1, 3, 1, 9)?;
+    own(rt, "own pointer, count 0: 9", born, 1, 1, 0, 9)?;
+    own(rt, "own pointer, count 10,000: 9", born, 1, 1, 10000, 9)?;
+    own(rt, "own pointer, both 0: 9", born, 1, 0, 0, 9)?;
+    own(rt, "own pointer, desk 2, count 9,999", born, 1, 2, 9999, 0)?;
     own(
-        b"own pointer of an unborn task, desk 1: 9",
+        rt,
+        "own pointer of an unborn task, desk 1: 9",
         start,
         1,
         1,
         0,
         9,
-    );
+    )?;
     own(
-        b"own pointer of an unborn task, count 1: 9",
+        rt,
+        "own pointer of an unborn task, count 1: 9",
         start,
         1,
         0,
         1,
         9,
-    );
-    own(b"own pointer of task 1, desk 1: 9", born, 0, 1, 0, 9);
-    own(b"own pointer of task 1, count 1: 9", born, 0, 0, 1, 9);
-    own(b"own pointer of task 1, both 1: 9", born, 0, 1, 1, 9);
+    )?;
+    own(rt, "own pointer of task 1, desk 1: 9", born, 0, 1, 0, 9)?;
+    own(rt, "own pointer of task 1, count 1: 9", born, 0, 0, 1, 9)?;
+    own(rt, "own pointer of task 1, both 1: 9", born, 0, 1, 1, 9)
 }
 
 // What a desk keeps for a parent: both 0 or both in range, and held children from 1 to T, which is 2 here.
-fn entries(born: System) {
-    entry(b"a desk's pointer, count 0: 9", born, 1, 0, 0, 9);
-    entry(b"a desk's pointer, no desk: 9", born, 0, 1, 0, 9);
-    entry(b"a desk's pointer, desk 3 of 2: 9", born, 3, 1, 0, 9);
-    entry(b"a desk's pointer, count 10,000: 9", born, 1, 10000, 0, 9);
+fn entries(rt: &impl Print, born: System) -> io::Result<()> {
+    entry(rt, "a desk's pointer, count 0: 9", born, 1, 0, 0, 9)?;
+    entry(rt, "a desk's pointer, no desk: 9", born, 0, 1, 0, 9)?;
+    entry(rt, "a desk's pointer, desk 3 of 2: 9", born, 3, 1, 0, 9)?;
     entry(
-        b"a desk's pointer, desk 2, count 9,999",
+        rt,
+        "a desk's pointer, count 10,000: 9",
+        born,
+        1,
+        10000,
+        0,
+        9,
+    )?;
+    entry(
+        rt,
+        "a desk's pointer, desk 2, count 9,999",
         born,
         2,
         9999,
         0,
         0,
-    );
-    entry(b"task 3 of 2 held: 9", born, 0, 0, 4, 9);
-    entry(b"tasks 1 and 2 held", born, 0, 0, 3, 0);
+    )?;
+    entry(rt, "task 3 of 2 held: 9", born, 0, 0, 4, 9)?;
+    entry(rt, "tasks 1 and 2 held", born, 0, 0, 3, 0)
 }
 
 // The count of an ended letter: 1 to 9,999.
-fn ended_letters(born: System) {
-    ended(b"an ended letter, count 0: 9", born, 1, 0, 9);
-    ended(b"an ended letter, count 10,000: 9", born, 1, 10000, 9);
-    ended(b"an ended letter, count 9,999", born, 1, 9999, 0);
+fn ended_letters(rt: &impl Print, born: System) -> io::Result<()> {
+    ended(rt, "an ended letter, count 0: 9", born, 1, 0, 9)?;
+    ended(rt, "an ended letter, count 10,000: 9", born, 1, 10000, 9)?;
+    ended(rt, "an ended letter, count 9,999", born, 1, 9999, 0)
 }
 
 // Task 1 moves to desk 2 while task 2 lives; task 2 finishes. Its letter comes before task 1, and is held there until task 1
 // arrives. Where task 1 comes first, it has its child until the letter comes.
-fn moving_parent(born: System) {
+fn moving_parent(rt: &impl Print, born: System) -> io::Result<()> {
     let a = take_step(born, 3, 1, 2);
-    say(b"a task with a living child moves", is_after(a, 0, 2));
+    say(rt, "a task with a living child moves", is_after(a, 0, 2))?;
     let left = a.system;
     let b = take_step(left, 1, 2, 0);
-    say(b"its child finishes elsewhere", is_after(b, 0, 2));
+    say(rt, "its child finishes elsewhere", is_after(b, 0, 2))?;
     let posted = b.system;
     let c = take_step(posted, 2, 0, 2);
-    say(b"the ended letter comes first", is_after(c, 0, 2));
+    say(rt, "the ended letter comes first", is_after(c, 0, 2))?;
     let held = c.system;
     let d = take_step(held, 2, 0, 1);
-    say(b"the parent arrives", is_after(d, 0, 2));
+    say(rt, "the parent arrives", is_after(d, 0, 2))?;
     let there = d.system;
     let e = take_step(there, 1, 1, 0);
-    say(b"and finishes: no child is left", is_after(e, 0, 2));
+    say(rt, "and finishes: no child is left", is_after(e, 0, 2))?;
     let f = take_step(posted, 2, 0, 1);
-    say(b"the parent comes first", is_after(f, 0, 2));
+    say(rt, "the parent comes first", is_after(f, 0, 2))?;
     let early = f.system;
     let g = take_step(early, 1, 1, 0);
     say(
-        b"and has its child until the letter comes: 12",
+        rt,
+        "and has its child until the letter comes: 12",
         is_after(g, 12, 2),
-    );
+    )
 }
 
 // Of a rig of two desks at its start, in which task 1 creates task 2.
-pub fn edges(start: System) {
+pub fn edges(rt: &impl Print, start: System) -> io::Result<()> {
     let a = take_step(start, 1, 1, 0);
     let born = a.system;
-    own_pointers(start, born);
-    entries(born);
-    ended_letters(born);
-    moving_parent(born);
+    own_pointers(rt, start, born)?;
+    entries(rt, born)?;
+    ended_letters(rt, born)?;
+    moving_parent(rt, born)
 }

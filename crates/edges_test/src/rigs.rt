@@ -3,6 +3,7 @@ use crate::say;
 use plan::{CREATE, FINISH, Instruction, Plan, PlanAnswer};
 use rules::step::Step;
 use rules::system::System;
+use std::io;
 
 // The four bytes of an instruction on no level.
 fn code(opcode: u8, operand: u16) -> u32 {
@@ -72,23 +73,22 @@ pub fn is_after(a: After, number: u8, moves: u16) -> bool {
 }
 
 // A task with a count of 9,998 moves to desk 2 and arrives there; it then moves no more.
-pub fn last_move() {
+pub fn last_move(rt: &impl Print) -> io::Result<()> {
     let plan = single_finish();
     let answer = plan_value::check(plan);
     let PlanAnswer::Accepted = answer else {
-        say(b"a plan of one finish accepted", false);
-        return;
+        return say(rt, "a plan of one finish accepted", false);
     };
     let e = plan_index::ends::derive(plan);
     let r = rig::start::start(2, plan, e);
     let a = take_step(with_moves(r, 9998), 3, 1, 2);
-    say(b"move count 9,998 moves", is_after(a, 0, 9999));
+    say(rt, "move count 9,998 moves", is_after(a, 0, 9999))?;
     let left = a.system;
     let b = take_step(left, 2, 0, 1);
-    say(b"its mover letter delivered", is_after(b, 0, 9999));
+    say(rt, "its mover letter delivered", is_after(b, 0, 9999))?;
     let there = b.system;
     let c = take_step(there, 3, 1, 1);
-    say(b"move count 9,999: 18", is_after(c, 18, 9999));
+    say(rt, "move count 9,999: 18", is_after(c, 18, 9999))
 }
 
 // A plan of two tasks: the first creates the second, and both finish.
@@ -118,25 +118,24 @@ fn with_mark(mut r: System) -> System {
 }
 
 // A mark on task 2 is refused by 9 before its birth, and not after it.
-fn marked_unborn(r: System) {
+fn marked_unborn(rt: &impl Print, r: System) -> io::Result<()> {
     let a = take_step(with_mark(r), 1, 1, 0);
-    say(b"an unborn task with a mark: 9", is_after(a, 9, 1));
+    say(rt, "an unborn task with a mark: 9", is_after(a, 9, 1))?;
     let b = take_step(r, 1, 1, 0);
     let born = b.system;
     let c = take_step(with_mark(born), 1, 2, 0);
-    say(b"a ready task with a mark runs", is_after(c, 0, 1));
+    say(rt, "a ready task with a mark runs", is_after(c, 0, 1))
 }
 
 // The plan of two tasks at its start on two desks: marks, and pointers to parents.
-pub fn two_tasks() {
+pub fn two_tasks(rt: &impl Print) -> io::Result<()> {
     let plan = creating();
     let answer = plan_value::check(plan);
     let PlanAnswer::Accepted = answer else {
-        say(b"a plan of two tasks accepted", false);
-        return;
+        return say(rt, "a plan of two tasks accepted", false);
     };
     let e = plan_index::ends::derive(plan);
     let r = rig::start::start(2, plan, e);
-    marked_unborn(r);
-    crate::parents::edges(r);
+    marked_unborn(rt, r)?;
+    crate::parents::edges(rt, r)
 }

@@ -10,7 +10,7 @@ mod record;
 mod text;
 
 use crate::record::Record;
-use libc::STDOUT_FILENO;
+use std::io;
 use std::num::wrapping_add_u64;
 
 // What one record came to.
@@ -93,25 +93,24 @@ fn compare_all(records: &[u8]) -> Tally {
     t
 }
 
-fn say(number: u64, what: &[u8]) {
-    io::print_decimal(STDOUT_FILENO, number);
-    io::write_all(STDOUT_FILENO, what);
+fn say(rt: &impl Print, number: u64, what: &str) -> io::Result<()> {
+    print!(rt; "{number}{what}")
 }
 
-fn main() {
+fn main(rt: HostRuntime) -> io::Result<()> {
     let mut records = [0u8; 200000];
-    let name = b"finish.bin";
-    let fd = os::open_read(name);
-    if fd < 0 {
-        os::fail(name);
-        return;
-    }
-    let size = io::read_full(fd, &mut records);
-    libc::close(fd);
+    let name = "finish.bin";
+    let size = match show_files::load_present(&rt, name, &mut records) {
+        Ok(size) => size,
+        Err(e) => {
+            show_files::fail(&rt, name, e);
+            return Ok(());
+        }
+    };
     let t = compare_all(&records[..size]);
-    say(t.records, b" records, ");
-    say(t.held, b" hold; ");
-    say(t.agree, b" agree, ");
-    say(t.refused, b" of them refused and ");
-    say(t.finishes, b" finish\n");
+    say(&rt, t.records, " records, ")?;
+    say(&rt, t.held, " hold; ")?;
+    say(&rt, t.agree, " agree, ")?;
+    say(&rt, t.refused, " of them refused and ")?;
+    say(&rt, t.finishes, " finish\n")
 }

@@ -2,10 +2,11 @@
 // in 1 byte, the lengths of the sent log and of the received log in 2 bytes each, that of the printed line in 1
 // byte, and then the two logs and the line: `yes`, `no` and a channel, or `refused` and a number.
 #![tactic(auto)]
+
 ghost use Rattle.std.specs.Prelude.{◌<◌, ◌≤◌, length};
 
-use libc::STDOUT_FILENO;
 use plan_file::fields::{byte_at, word_at};
+use std::io;
 use std::num::wrapping_add_u64;
 
 // Where the parts of a record start, and where the next record does.
@@ -111,21 +112,21 @@ fn compare_all(file: &[u8]) -> Tally {
     }
 }
 
-fn say(number: u64, what: &[u8]) {
-    io::print_decimal(STDOUT_FILENO, number);
-    io::write_all(STDOUT_FILENO, what);
+fn say(rt: &impl Print, number: u64, what: &str) -> io::Result<()> {
+    print!(rt; "{number}{what}")
 }
 
-fn main() {
+fn main(rt: HostRuntime) -> io::Result<()> {
     let mut file = [0u8; 200000];
-    let fd = os::open_read(b"logs.bin");
-    if fd < 0 {
-        os::fail(b"logs.bin");
-        return;
-    }
-    let size = io::read_full(fd, &mut file);
-    libc::close(fd);
+    let name = "logs.bin";
+    let size = match show_files::load_present(&rt, name, &mut file) {
+        Ok(size) => size,
+        Err(e) => {
+            show_files::fail(&rt, name, e);
+            return Ok(());
+        }
+    };
     let t = compare_all(&file[..size]);
-    say(t.records, b" pairs of logs, ");
-    say(t.agree, b" answers agree\n");
+    say(&rt, t.records, " pairs of logs, ")?;
+    say(&rt, t.agree, " answers agree\n")
 }

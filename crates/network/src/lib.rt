@@ -1,6 +1,7 @@
 // What a loop that owns the mail does to it: which letter a step delivers, and what is posted, a letter or letters round by round;
 // how many letters that takes.
 #![tactic(auto)]
+
 ghost use Rattle.std.specs.Prelude.{◌≡◌, ◌≤◌, ◌<◌, length};
 ghost use Rattle.rules.specs.Networks.{messages_of};
 ghost use Rattle.network.specs.Rounds.{is_message, rounds_of, skips_at, message_of, other_processors};

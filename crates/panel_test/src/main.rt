@@ -8,15 +8,16 @@ mod record;
 // The rig after a step file, and rigs changed by hand.
 mod rigs;
 
-use libc::{STDIN_FILENO, STDOUT_FILENO};
 use plan_file::fields::{byte_at, word_at};
 use rigs::Change;
+use std::io;
+use std::io::Read;
 use std::num::wrapping_add_u64;
 
 // 10,000 times the digit on standard input; 0 where there is none.
-fn rounds() -> u64 {
+fn rounds(rt: &impl Input) -> u64 {
     let mut first = [0u8; 1];
-    let got = libc::read(STDIN_FILENO, &mut first);
+    let got = rt.reader().read(&mut first).unwrap_or(0);
     if got < 1 {
         return 0;
     }
@@ -88,36 +89,31 @@ fn compare_all(file: &[u8], rounds: u64) -> Tally {
     t
 }
 
-fn say(number: u64, what: &[u8]) {
-    io::print_decimal(STDOUT_FILENO, number);
-    io::write_all(STDOUT_FILENO, what);
+fn say(rt: &impl Print, number: u64, what: &str) -> io::Result<()> {
+    print!(rt; "{number}{what}")
 }
 
-fn main() {
+fn main(rt: HostRuntime) -> io::Result<()> {
     let mut file = [0u8; 400000];
-    let fd = os::open_read(b"panel.bin");
-    if fd < 0 {
-        os::fail(b"panel.bin");
-        return;
-    }
-    let size = io::read_full(fd, &mut file);
-    libc::close(fd);
-    let t = compare_all(&file[..size], rounds());
-    say(t.records, b" records: ");
-    say(t.panels, b" panels agree\n");
+    let name = "panel.bin";
+    let size = match show_files::load_present(&rt, name, &mut file) {
+        Ok(size) => size,
+        Err(e) => {
+            show_files::fail(&rt, name, e);
+            return Ok(());
+        }
+    };
+    let t = compare_all(&file[..size], rounds(&rt));
+    say(&rt, t.records, " records: ")?;
+    say(&rt, t.panels, " panels agree\n")?;
     let mut total = [0u8; 54];
     if !is_recorded(rigs::panel_changed(Change::Processors), &total) {
-        io::write_all(STDOUT_FILENO, b"seven desks: WRONG\n");
-        return;
+        return println!(rt; "seven desks: WRONG");
     }
     total[18] = 3;
     total[19] = 1;
     if !is_recorded(rigs::panel_changed(Change::Choice), &total) {
-        io::write_all(STDOUT_FILENO, b"a last choice of no task: WRONG\n");
-        return;
+        return println!(rt; "a last choice of no task: WRONG");
     }
-    io::write_all(
-        STDOUT_FILENO,
-        b"seven desks: no count; a last choice of no task: 259 under 9 alone\n",
-    );
+    println!(rt; "seven desks: no count; a last choice of no task: 259 under 9 alone")
 }

@@ -1,5 +1,5 @@
 -- Repeats, in the programmers' new edition of the plan file: the two kinds, and a program with every repeat written out.
-use Rattle.std.specs.Prelude.{ℕ, zero, suc, Bool, true, false, not, ◌||◌, List, [], ◌∷◌, ◌++◌, map, ◌==◌}
+use Rattle.std.specs.Prelude.{ℕ, zero, suc, Bool, true, false, not, List, [], ◌∷◌, ◌++◌, map, ◌==◌}
 use Rattle.base.specs.Choice.{pick}
 use Rattle.plan.specs.declared.Instruction.{Instruction}
 use Rattle.plan.specs.Programs.{Program, Programs}

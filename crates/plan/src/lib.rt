@@ -1,5 +1,6 @@
 // The types of a plan: numbers, instructions, the plan value, and the answers about it.
 #![tactic(auto)]
+
 ghost use Rattle.std.specs.Prelude.{◌≡◌};
 ghost use Rattle.plan.specs.Answers.{answer_number, refusal_number};
 ghost use Rattle.plan.specs.Programs.{code_of, instruction_of};

@@ -1,12 +1,13 @@
 // Says whether the plan in the file `rig.plan` can be started on the number of desks that stands as
 // one digit on standard input: `accepted`, or `refused` and the number.
 #![tactic(auto)]
-use libc::{STDIN_FILENO, STDOUT_FILENO};
+use std::io;
+use std::io::Read;
 
 // A first byte that is no digit counts as 0 desks.
-fn processors() -> u32 {
+fn processors(rt: &impl Input) -> u32 {
     let mut first = [0u8; 1];
-    let got = libc::read(STDIN_FILENO, &mut first);
+    let got = rt.reader().read(&mut first).unwrap_or(0);
     if got < 1 {
         return 0;
     }
@@ -20,27 +21,18 @@ fn processors() -> u32 {
     digit as u32 - 48
 }
 
-fn say(number: u32) {
+fn say(rt: &impl Print, number: u32) -> io::Result<()> {
     if number == 0 {
-        io::write_all(STDOUT_FILENO, b"accepted\n");
-        return;
+        return println!(rt; "accepted");
     }
-    io::write_all(STDOUT_FILENO, b"refused ");
-    io::print_decimal(STDOUT_FILENO, number as u64);
-    io::write_all(STDOUT_FILENO, b"\n");
+    println!(rt; "refused {number}")
 }
 
 // A missing file counts as empty. The buffer is longer than any accepted file, of 16,644 bytes, so
 // that a longer one is refused and not cut.
-fn main() {
-    let n = processors();
-    let mut plan = io::large_buffer();
-    let fd = os::open_read(b"rig.plan");
-    if fd < 0 {
-        say(driver::mortarsedge_plan_check(n, &plan[..0]));
-        return;
-    }
-    let size = io::read_full(fd, &mut plan);
-    libc::close(fd);
-    say(driver::mortarsedge_plan_check(n, &plan[..size]));
+fn main(rt: HostRuntime) -> io::Result<()> {
+    let n = processors(&rt);
+    let mut plan = [0u8; 65536];
+    let size = show_files::load(&rt, "rig.plan", &mut plan);
+    say(&rt, driver::mortarsedge_plan_check(n, &plan[..size]))
 }

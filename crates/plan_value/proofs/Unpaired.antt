@@ -1,10 +1,8 @@
 -- How many channels have one end only: none before any instruction; one task more at an end; none left exactly where no channel has one end.
-use mathlib.Core.Path.{◌≡◌, refl, sym, ◌∙◌, ap}
+use mathlib.Core.Path.{◌≡◌, refl, ◌∙◌, ap}
 use mathlib.Core.Bool.{Bool, true, false, not}
 use mathlib.Core.List.{List, [], ◌∷◌}
-use mathlib.Core.Logic.{◌≢◌, by_cases}
 use Prim.Native.Nat.{ℕ, suc, ◌+◌, ◌-◌, ◌<◌, ◌≤◌}
-use native.Mathlib.Decide.{ℕ_discrete}
 use native.Mathlib.Omega.{arith}
 use lib.ListN.{length, get_or, set, replicate}
 use lib.Seq.{get_or-set_same, get_or-set_other}
@@ -15,7 +13,7 @@ use Rattle.base.specs.Range.{fold, sum_below}
 use Rattle.base.specs.Lists.{every}
 use Rattle.base.proofs.Folds.{fold_same}
 use Rattle.base.proofs.Joins.{part_of_sum}
-use Rattle.base.proofs.Sums.{sum_at_most, sum_changed, sum_none}
+use Rattle.base.proofs.Sums.{sum_at_most, sum_changed}
 use Rattle.plan.specs.Users.{first_of, one_end}
 use Rattle.plan_value.specs.Ends.{one_there, unpaired_in, Counted, unpaired_then}
 use Rattle.plan_value.proofs.Marked.{first_some}

@@ -16,7 +16,7 @@ use Rattle.rules.specs.Answers.{run_number}
 use Rattle.rules.specs.StepFiles.{text}
 use Rattle.run.proofs.file.Outcomes.{plan_ok}
 use Rattle.trace.proofs.Bound.{fitting_short}
-use Rattle.finish.specs.Files.{longest_answer, FinishFile, plan_of, lines_after}
+use Rattle.finish.specs.Files.{FinishFile, plan_of, lines_after}
 use Rattle.finish.proofs.Length.{lines_short}
 use Rattle.driver.specs.Runs.{packed, enough}
 use Rattle.planner.specs.Finish.{FinishMeets}

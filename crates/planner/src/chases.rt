@@ -18,8 +18,7 @@ fn chase_packed(a: ChaseAnswer) -> u64
 
 // The chase: a plan of 32 bytes and steps for three desks in which one offer is forwarded m times, into the lent outputs. The
 // number of the answer, and 256 times the number of bytes of steps that are written.
-#[unsafe(no_mangle)]
-pub extern "C" fn mortarsedge_chase<'a>(m: u32, plan: &'a mut [u8], steps: &'a mut [u8]) -> u64
+pub fn mortarsedge_chase<'a>(m: u32, plan: &'a mut [u8], steps: &'a mut [u8]) -> u64
     ensures { ChaseWrites m plan.old steps.old result plan.new steps.new }
 {
     let answer = write_chase(m as u64, plan, steps);

@@ -19,8 +19,7 @@ fn write_packed(a: WriteAnswer) -> u64
 
 // The converter: a plan file of the new edition, written out into the lent output as a file of the present
 // one. The number of the answer, and 256 times the number of bytes that are written.
-#[unsafe(no_mangle)]
-pub extern "C" fn mortarsedge_convert<'a>(plan: &'a [u8], out: &'a mut [u8]) -> u64
+pub fn mortarsedge_convert<'a>(plan: &'a [u8], out: &'a mut [u8]) -> u64
     ensures { ConvertMeets plan.now out.old result out.new }
 {
     let answer = convert(plan, out);

@@ -6,8 +6,7 @@ use finish::file::finish_file;
 
 // Finish: whether a plan file runs to its end, and what is stuck if it does not, as text into the lent output. The number of the
 // answer, and 256 times the number of bytes that are filled.
-#[unsafe(no_mangle)]
-pub extern "C" fn mortarsedge_finish<'a>(plan: &'a [u8], out: &'a mut [u8]) -> u64
+pub fn mortarsedge_finish<'a>(plan: &'a [u8], out: &'a mut [u8]) -> u64
     ensures { FinishMeets plan.now out.old result out.new }
 {
     let o = finish_file(plan, out);

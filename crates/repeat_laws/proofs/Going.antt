@@ -215,11 +215,11 @@ module _ (g : Program) (k r : ℕ) (more : k < length g) where
 
         out_left : left_from g (place k r) ≡ left_from g (place (suc k) 0)
         unfolding left_from body_of written_from times
-        out_left = rw (this, here, end) refl
+        out_left = rw (this, here, end, written_from) refl
 
         out_goings : suc (goings g (place (suc k) 0)) ≡ goings g (place k r)
         unfolding goings body_of goings_from
-        out_goings = rw (this, here, end) (omega arith)
+        out_goings = rw (this, here, end, goings_from) (omega arith)
 
         on_out : On g (place k r)
         unfolding creates_in
@@ -257,20 +257,20 @@ module _ (g : Program) (k r : ℕ) (more : k < length g) where
           (record {
             paired = x.paired;
             creates = x.creates;
-            written = x.written ∙ rw (here, no_end) refl;
-            goings = x.goings ∙ rw (here, no_end) refl;
+            written = x.written ∙ rw (here, no_end, written_from) refl;
+            goings = x.goings ∙ rw (here, no_end, goings_from) refl;
             created = x.created ∙ sym (no_more none);
           })
 
       next_left : (b : Bool) → eqb r 0 ≡ b → left_from g (place k r) ≡ i ∷ left_from g (place (suc k) r)
       unfolding left_from body_of written_from
       next_left true e = rw (e, here, no_repeat) refl
-      next_left false e = rw (e, same_behind, here, no_end) refl
+      next_left false e = rw (e, same_behind, here, no_end, written_from) refl
 
       next_goings : (b : Bool) → eqb r 0 ≡ b → suc (goings g (place (suc k) r)) ≡ goings g (place k r)
       unfolding goings body_of goings_from
       next_goings true e = rw (e, here, no_repeat) refl
-      next_goings false e = rw (e, same_behind, here, no_end) (omega arith)
+      next_goings false e = rw (e, same_behind, here, no_end, goings_from) (omega arith)
 
       on_plain : On g (place k r)
       on_plain =

@@ -6,7 +6,7 @@ mod conversion;
 // A record of the file, and where the next one is.
 mod record;
 
-use libc::STDOUT_FILENO;
+use std::io;
 use std::num::wrapping_add_u64;
 
 // What one record came to.
@@ -89,24 +89,23 @@ fn compare_all(records: &[u8]) -> Tally {
     t
 }
 
-fn say(number: u64, what: &[u8]) {
-    io::print_decimal(STDOUT_FILENO, number);
-    io::write_all(STDOUT_FILENO, what);
+fn say(rt: &impl Print, number: u64, what: &str) -> io::Result<()> {
+    print!(rt; "{number}{what}")
 }
 
-fn main() {
+fn main(rt: HostRuntime) -> io::Result<()> {
     let mut records = [0u8; 200000];
-    let name = b"repeats.bin";
-    let fd = os::open_read(name);
-    if fd < 0 {
-        os::fail(name);
-        return;
-    }
-    let size = io::read_full(fd, &mut records);
-    libc::close(fd);
+    let name = "repeats.bin";
+    let size = match show_files::load_present(&rt, name, &mut records) {
+        Ok(size) => size,
+        Err(e) => {
+            show_files::fail(&rt, name, e);
+            return Ok(());
+        }
+    };
     let t = compare_all(&records[..size]);
-    say(t.records, b" records, ");
-    say(t.held, b" hold; ");
-    say(t.agree, b" agree, ");
-    say(t.converted, b" of them converted\n");
+    say(&rt, t.records, " records, ")?;
+    say(&rt, t.held, " hold; ")?;
+    say(&rt, t.agree, " agree, ")?;
+    say(&rt, t.converted, " of them converted\n")
 }

@@ -5,7 +5,7 @@ use mathlib.Core.List.{List, [], ◌∷◌}
 use mathlib.Core.Logic.{by_cases, ◌⊎◌, inl, inr}
 use Prim.Native.Nat.{ℕ, zero, suc, ◌+◌, ◌*◌, ◌-◌, ◌/◌, ◌%◌, ◌<◌, ◌≤◌}
 use native.Mathlib.Omega.{arith}
-use native.Mathlib.Decide.{dec_lt, ℕ_discrete}
+use native.Mathlib.Decide.{dec_lt}
 use lib.Dec.{eqb}
 use lib.ListN.{length, get_or, take, length-map, get_or-map}
 use lib.Seq.{get_or-take, length-take-le}
@@ -23,7 +23,7 @@ use Rattle.image.specs.Numbers.{number_at, same_bytes}
 use Rattle.image.specs.Letters.{letter_of, letter_numbers}
 use Rattle.image.specs.Image.{network_in}
 use Rattle.image_laws.specs.Parts.{slot_tidy, mail_tidy}
-use Rattle.image_laws.proofs.Mails.{letter_in, letter_in_lem}
+use Rattle.image_laws.proofs.Mails.{letter_in_lem}
 use Rattle.rig_read.specs.Passing.{zeros_at, slot_passes, mail_passes}
 use Rattle.rig_read.proofs.Passing.{every_entry}
 

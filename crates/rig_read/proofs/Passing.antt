@@ -3,8 +3,7 @@ use mathlib.Core.Path.{◌≡◌, refl, sym, ap, ◌∙◌}
 use mathlib.Core.Bool.{Bool, true, false, ◌&&◌}
 use mathlib.Core.List.{List}
 use mathlib.Core.Logic.{◌⊎◌, inl, inr}
-use Prim.Native.Nat.{ℕ, zero, suc, ◌+◌, ◌*◌, ◌-◌, ◌<◌, ◌≤◌, ◌^◌}
-use native.Mathlib.Omega.{arith}
+use Prim.Native.Nat.{ℕ, zero, suc, ◌+◌, ◌*◌, ◌<◌, ◌^◌}
 use lib.Dec.{eqb, leb, ltb}
 use lib.ListN.{length, get_or}
 use Rattle.base.specs.Range.{fold, below}
@@ -17,7 +16,7 @@ use Rattle.rules.specs.Cells.{hint, offer}
 use Rattle.rules.specs.Sound.{hint_ok, offer_ok, channel_entries_ok, parents_ok}
 use Rattle.board.specs.packing.Packed.{low16, byte2, byte3, byte4, byte5, hint_of, hint_word, channel_of, channel_word}
 use Rattle.board.specs.Lent.{channel_column, channels_on, parent_column, parents_on}
-use Rattle.rig_read.specs.Passing.{channel_passes, channels_pass, parent_passes, parents_pass}
+use Rattle.rig_read.specs.Passing.{channels_pass, parents_pass}
 
 crossed : (a b p q : Bool) → (a && b) && (p && q) ≡ (a && p) && (b && q)
 crossed true true p q = refl

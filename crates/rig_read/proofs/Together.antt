@@ -13,7 +13,7 @@ use Rattle.base.proofs.Tables.{length_table}
 use Rattle.plan.specs.declared.Plan.{Plan}
 use Rattle.plan.specs.declared.PlanAnswer.TheVariants.{Accepted}
 use Rattle.plan.specs.Answers.{is_accepted}
-use Rattle.plan.specs.Programs.{programs, canonical}
+use Rattle.plan.specs.Programs.{programs}
 use Rattle.plan.specs.Refusals.{plan_answer}
 use Rattle.plan.specs.Files.{file_answer, file_programs}
 use Rattle.plan.specs.Outcomes.{plan_read}
@@ -22,7 +22,6 @@ use Rattle.plan_laws.proofs.Canonical.{meaning_canonical}
 use Rattle.plan_laws.proofs.LayoutRead.{file_plan_lem}
 use Rattle.rules.specs.declared.system.System.{System}
 use Rattle.rules.specs.Tasks.{no_task}
-use Rattle.rules.specs.Systems.{meaning}
 use Rattle.rules.specs.Sound.{system_ok, tables_ok, channel_entries_ok, parents_ok, ready_ok, origin_ok, chosen_ok, network_ok}
 use Rattle.rig_check.specs.tasks.Tests.{task_with}
 use Rattle.rig_check.specs.system.Tasks.{last_kind, tasks_ok, origins_ok}
@@ -36,7 +35,7 @@ use Rattle.image_laws.specs.Parts.{version_ok, zeros_behind, board_tidy, mail_ti
 use Rattle.image_laws.proofs.Parts.{rig_parts}
 use Rattle.image_laws.proofs.Whole.{image_parts_lem}
 use Rattle.rig_read.specs.Opened.{Opened}
-use Rattle.rig_read.specs.Passing.{task_passes, tasks_tidy, tasks_pass, board_passes, bytes_pass, mail_passes}
+use Rattle.rig_read.specs.Passing.{tasks_tidy, tasks_pass, board_passes, bytes_pass, mail_passes}
 use Rattle.rig_read.proofs.Passing.{below_and, channels_tidy, channels_pass_lem, parents_tidy, parents_pass_lem}
 
 regroup : (a b z ct tt1 pt mt d tk og tb ce pa rd cs nw : Bool)

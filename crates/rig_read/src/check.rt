@@ -79,7 +79,7 @@ fn tables_ok<'a>(
     requires { (length hintprocessors.now ≡ 768) × (length hintmoves.now ≡ 768) × (length heldprocessors.now ≡ 768)
         × (length heldnumbers.now ≡ 768) × (length notes.now ≡ 768) }
     ensures { result ≡ tables_ok n (record {
-      hintprocessors = hintprocessors.entry.now;
+      hintprocessors = hintprocessors.now;
       hintmoves = hintmoves.now;
       heldprocessors = heldprocessors.now;
       heldnumbers = heldnumbers.now;

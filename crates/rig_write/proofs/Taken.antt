@@ -1,9 +1,8 @@
 -- The bytes of a mail without a letter.
-use mathlib.Core.Path.{◌≡◌, refl, sym, ap, ◌∙◌}
+use mathlib.Core.Path.{◌≡◌, sym, ap, ◌∙◌}
 use mathlib.Core.List.{List, [], ◌∷◌, ◌++◌, append_assoc}
-use Prim.Native.Nat.{ℕ, suc, ◌+◌, ◌*◌, ◌-◌, ◌≤◌}
+use Prim.Native.Nat.{ℕ, ◌+◌, ◌*◌, ◌-◌, ◌≤◌}
 use native.Mathlib.Omega.{arith}
-use lib.Dec.{eqb}
 use lib.ListN.{length, take, drop, length-drop, replicate, replicate-append-replicate}
 use lib.Seq.{length-take-le}
 use borrow.Author.Tests.{ne_eqb}
@@ -12,9 +11,8 @@ use Rattle.rules.specs.declared.message.Network.{Network}
 use Rattle.rules.specs.Networks.{messages, message_at, dequeued}
 use Rattle.rules_laws.proofs.Messages.{length_messages, dequeued_used, messages_split, dequeued_size, messages_dequeued}
 use Rattle.plan_write.specs.output.Output.{overlay}
-use Rattle.network.specs.Positions.{mail_less}
 use Rattle.rig_write.specs.Mail.{mail_bytes, letters_bytes, MailIn, TakenFrom}
-use Rattle.rig_write.proofs.MailBytes.{letters_append, letters_one, letters_long, mail_letters}
+use Rattle.rig_write.proofs.MailBytes.{letters_append, letters_long, mail_letters}
 use Rattle.rig_write.proofs.Shift.{shifted, cut_out}
 
 -- the letter at position p, of those in the mail

@@ -63,9 +63,9 @@ module _ {r q : System} (b : ButChosen r q) where
 pub but_steps : {r q : System} → ButChosen r q → (ss : List Step) → ButChosen (steps r ss).system (steps q ss).system
 unfolding steps_by
 but_steps b [] = b
-but_steps b (s ∷ ss) = but_steps (but_step b s) ss
+but_steps {r = r} {q = q} b (s ∷ ss) = but_steps {r = (step r s).system} {q = (step q s).system} (but_step b s) ss
 
 pub but_reports : {r q : System} → ButChosen r q → (ss : List Step) → (steps r ss).reports ≡ (steps q ss).reports
 unfolding steps_by
 but_reports b [] = refl
-but_reports b (s ∷ ss) = rw (but_report b s, but_reports (but_step b s) ss) refl
+but_reports {r = r} {q = q} b (s ∷ ss) = rw (but_report b s, but_reports {r = (step r s).system} {q = (step q s).system} (but_step b s) ss) refl

@@ -1,15 +1,15 @@
 -- The first member of a set in the order of numbers stands behind the set's trailing zeros.
-use mathlib.Core.Path.{◌≡◌, refl, sym, ◌∙◌, ap}
+use mathlib.Core.Path.{◌≡◌, refl, sym, ◌∙◌}
 use mathlib.Core.Logic.{by_cases}
 use Prim.Native.Nat.{ℕ, zero, suc, ◌+◌, ◌*◌, ◌-◌, ◌/◌, ◌%◌, ◌^◌, ◌<◌, ◌≤◌}
 use native.Mathlib.Nat.{mod-lt, mod-eq_of_lt, mul-one}
 use native.Mathlib.Omega.{arith}
 use native.Mathlib.Decide.{dec_lt}
 use lib.Bits.{bit_and, and_high, shifted_half, shifted_even}
-use lib.Count.{count_trailing_zeros, trailing_of_zero, under}
+use lib.Count.{count_trailing_zeros, under}
 use lib.Dec.{eqb, ltb}
 use lib.Pow.{pow_pos, shr-shr, shr_lt}
-use borrow.Author.Tests.{ltb-true, ltb-false, lt-ltb, le-ltb, ne_eqb}
+use borrow.Author.Tests.{lt-ltb, le-ltb, ne_eqb}
 use Rattle.base.specs.Choice.{pick}
 use Rattle.base.specs.Sets.{member}
 use Rattle.rules.specs.Dispatch.{first_from, next_ready}

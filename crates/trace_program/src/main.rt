@@ -2,14 +2,13 @@
 // the number of desks that stands as one digit on standard input, and prints the trace, or `refused`
 // and the number.
 #![tactic(auto)]
-ghost use Rattle.io.specs.Counts.{IsPrefixLen};
-
-use libc::{STDIN_FILENO, STDOUT_FILENO};
+use std::io;
+use std::io::Read;
 
 // A first byte that is no digit counts as 0 desks.
-fn processors() -> u32 {
+fn processors(rt: &impl Input) -> u32 {
     let mut first = [0u8; 1];
-    let got = libc::read(STDIN_FILENO, &mut first);
+    let got = rt.reader().read(&mut first).unwrap_or(0);
     if got < 1 {
         return 0;
     }
@@ -23,51 +22,37 @@ fn processors() -> u32 {
     digit as u32 - 48
 }
 
-// Reads a file and answers how many bytes. A missing file counts as empty: nothing is read where
-// opening it failed.
-fn load(name: &[u8], file: &mut [u8]) -> usize
-    ensures { IsPrefixLen result file.new }
-{
-    let fd = os::open_read(name);
-    let size = io::read_full(fd, file);
-    libc::close(fd);
-    size
-}
-
-fn print_refusal(number: u64) {
-    io::write_all(STDOUT_FILENO, b"refused ");
-    io::print_decimal(STDOUT_FILENO, number);
-    io::write_all(STDOUT_FILENO, b"\n");
+fn print_refusal(rt: &impl Print, number: u64) -> io::Result<()> {
+    println!(rt; "refused {number}")
 }
 
 // The trace is the first `filled` bytes.
-fn print_trace(out: &[u8], filled: usize) {
+fn print_trace(rt: &impl Print, out: &[u8], filled: usize) -> io::Result<()> {
     if out.len() < filled {
-        return;
+        return Ok(());
     }
-    io::write_all(STDOUT_FILENO, &out[..filled]);
+    rt.write_all(&out[..filled])
 }
 
 // The answer is the number of the refusal, 0 for none, and 256 times how much of the output is filled.
-fn say(answer: u64, out: &[u8]) {
+fn say(rt: &impl Print, answer: u64, out: &[u8]) -> io::Result<()> {
     let number = answer % 256;
     if number != 0 {
-        print_refusal(number);
-        return;
+        return print_refusal(rt, number);
     }
-    print_trace(out, (answer / 256) as usize);
+    print_trace(rt, out, (answer / 256) as usize)
 }
 
 // The buffers are longer than any accepted file, of 16,644 bytes of plan and 8,000 of steps, so that
 // a longer one is refused and not cut; and than any trace, of 2,000 lines of at most 19 bytes and the
 // last.
-fn main() {
-    let n = processors();
-    let mut plan = io::large_buffer();
-    let mut steps = io::large_buffer();
-    let mut out = io::large_buffer();
-    let planned = load(b"rig.plan", &mut plan);
-    let stepped = load(b"rig.steps", &mut steps);
+fn main(rt: HostRuntime) -> io::Result<()> {
+    let n = processors(&rt);
+    let mut plan = [0u8; 65536];
+    let mut steps = [0u8; 65536];
+    let mut out = [0u8; 65536];
+    let planned = show_files::load(&rt, "rig.plan", &mut plan);
+    let stepped = show_files::load(&rt, "rig.steps", &mut steps);
     let answer = driver::mortarsedge_run(n, &plan[..planned], &steps[..stepped], &mut out);
-    say(answer, &out);
+    say(&rt, answer, &out)
 }

@@ -13,11 +13,12 @@ mod runs;
 // The expected bytes of steps and calls.
 mod seen;
 
-ghost use Rattle.io.specs.Counts.{IsPrefixLen};
+ghost use Rattle.std.specs.Prelude.{◌≡◌, ◌≤◌, length, take};
 
-use libc::STDOUT_FILENO;
 use plan_file::fields::byte_at;
+use std::io;
 use std::num::wrapping_add_u64;
+use std::rt::Files;
 
 // What one record came to.
 #[derive(Clone, Copy)]
@@ -138,49 +139,47 @@ fn compare_calls(file: &[u8]) -> Agreed {
     t
 }
 
-fn say(number: u64, what: &[u8]) {
-    io::print_decimal(STDOUT_FILENO, number);
-    io::write_all(STDOUT_FILENO, what);
+fn say(rt: &impl Print, number: u64, what: &str) -> io::Result<()> {
+    print!(rt; "{number}{what}")
 }
 
-// Reads a file and answers how many bytes.
-fn load(name: &[u8], file: &mut [u8]) -> usize
-    ensures { IsPrefixLen result file.new }
+// Reads a file and answers how many bytes. A missing file counts as empty, which is said.
+fn load(rt: &(impl Files + Eprint), name: &str, file: &mut [u8]) -> usize
+    ensures in_bounds { result ≤ length file.new }
+    ensures prefix { result ≡ length (take result file.new) }
 {
-    let fd = os::open_read(name);
-    if fd < 0 {
-        os::fail(name);
+    match show_files::load_present(rt, name, file) {
+        Ok(size) => size,
+        Err(e) => {
+            show_files::fail(rt, name, e);
+            0
+        }
     }
-    let size = io::read_full(fd, file);
-    libc::close(fd);
-    size
 }
 
-fn report_calls(name: &[u8]) {
+fn report_calls(rt: &(impl Files + Print + Eprint), name: &str) -> io::Result<()> {
     let mut file = [0u8; 400000];
-    let size = load(name, &mut file);
+    let size = load(rt, name, &mut file);
     let t = compare_calls(&file[..size]);
-    io::write_all(STDOUT_FILENO, name);
-    io::write_all(STDOUT_FILENO, b": ");
-    say(t.records, b" records, ");
-    say(t.agree, b" agree\n");
+    print!(rt; "{name}: ")?;
+    say(rt, t.records, " records, ")?;
+    say(rt, t.agree, " agree\n")
 }
 
-fn report(name: &[u8]) {
+fn report(rt: &(impl Files + Print + Eprint), name: &str) -> io::Result<()> {
     let mut file = [0u8; 400000];
-    let size = load(name, &mut file);
+    let size = load(rt, name, &mut file);
     let t = compare_all(&file[..size]);
-    io::write_all(STDOUT_FILENO, name);
-    io::write_all(STDOUT_FILENO, b": ");
-    say(t.records, b" records, ");
-    say(t.plans, b" plans and ");
-    say(t.runs, b" runs agree; ");
-    say(t.accepted, b" accepted, ");
-    say(t.back, b" written back\n");
+    print!(rt; "{name}: ")?;
+    say(rt, t.records, " records, ")?;
+    say(rt, t.plans, " plans and ")?;
+    say(rt, t.runs, " runs agree; ")?;
+    say(rt, t.accepted, " accepted, ")?;
+    say(rt, t.back, " written back\n")
 }
 
-fn main() {
-    report(b"s103.bin");
-    report(b"edges.bin");
-    report_calls(b"calls.bin");
+fn main(rt: HostRuntime) -> io::Result<()> {
+    report(&rt, "s103.bin")?;
+    report(&rt, "edges.bin")?;
+    report_calls(&rt, "calls.bin")
 }

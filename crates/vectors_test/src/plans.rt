@@ -46,7 +46,7 @@ fn rereads(file: &[u8], out: &mut [u8]) -> bool {
 
 // Both, of an accepted file.
 pub fn comes_back(file: &[u8]) -> bool {
-    let mut out = io::large_buffer();
+    let mut out = [0u8; 65536];
     let written = writes_back(file, &mut out);
     base::both(written, rereads(file, &mut out))
 }

@@ -1,5 +1,6 @@
 // What tablets and the driver show of a task: refusals 9 and 10, then its record.
 #![tactic(auto)]
+
 ghost use Rattle.std.specs.Prelude.{◌≡◌, ◌≤◌};
 ghost use Rattle.rules.specs.Numbers.{task_number_ok};
 ghost use Rattle.rules.specs.Systems.{task_in};

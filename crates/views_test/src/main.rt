@@ -9,10 +9,10 @@ mod record;
 // What a view shows, as bytes.
 mod shown;
 
-use libc::STDOUT_FILENO;
 use plan::{PlanAnswer, TaskId};
 use plan_file::fields::byte_at;
 use rules::system::System;
+use std::io;
 use std::num::wrapping_add_u64;
 
 // What one record came to.
@@ -128,23 +128,23 @@ fn compare_all(file: &[u8]) -> Tally {
     t
 }
 
-fn say(number: u64, what: &[u8]) {
-    io::print_decimal(STDOUT_FILENO, number);
-    io::write_all(STDOUT_FILENO, what);
+fn say(rt: &impl Print, number: u64, what: &str) -> io::Result<()> {
+    print!(rt; "{number}{what}")
 }
 
-fn main() {
+fn main(rt: HostRuntime) -> io::Result<()> {
     let mut file = [0u8; 300000];
-    let fd = os::open_read(b"views.bin");
-    if fd < 0 {
-        os::fail(b"views.bin");
-        return;
-    }
-    let size = io::read_full(fd, &mut file);
-    libc::close(fd);
+    let name = "views.bin";
+    let size = match show_files::load_present(&rt, name, &mut file) {
+        Ok(size) => size,
+        Err(e) => {
+            show_files::fail(&rt, name, e);
+            return Ok(());
+        }
+    };
     let t = compare_all(&file[..size]);
-    say(t.records, b" records: ");
-    say(t.tablets, b" tablets and ");
-    say(t.drivers, b" drivers agree; ");
-    say(t.refused, b" refuse tasks 0 and T + 1 by 10\n");
+    say(&rt, t.records, " records: ")?;
+    say(&rt, t.tablets, " tablets and ")?;
+    say(&rt, t.drivers, " drivers agree; ")?;
+    say(&rt, t.refused, " refuse tasks 0 and T + 1 by 10\n")
 }

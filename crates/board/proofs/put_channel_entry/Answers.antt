@@ -16,6 +16,6 @@ bounds-board-k c = search rules
 pub returns : goal.returns
 returns c =
     let s = c.before in
-    let g = s.well-formed.1.1 in
+    let g = s.well_formed.1.1 in
     let small : NarrowChannel s.args.y = (omega (arith, g), omega (arith, g), omega (arith, g), omega (arith, g), omega (arith, g)) in
     channel_put s.args.board.now s.args.k s.args.y s.requires.0 s.requires.1 c.channel_word.ensures small

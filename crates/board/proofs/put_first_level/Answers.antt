@@ -9,7 +9,6 @@ use Rattle.plan.specs.declared.Word.{Word}
 use Rattle.rules.specs.Systems.{task_in}
 use Rattle.board.specs.Lent.{ready_on, tasks_on, SameAbove}
 use Rattle.board.proofs.put_first_level.Goals as goal
-use Rattle.board.proofs.put_first_level.Goals.{Start}
 
 pub wide8-n-requires : goal.wide8-n-requires
 wide8-n-requires c = search rules
@@ -59,24 +58,19 @@ offset_bounds-board-n-2 c = search rules
 pub bounds-board-n-2 : goal.bounds-board-n-2
 bounds-board-n-2 c = search rules
 
-small : (s : Start) → NarrowTask s.args.x
-small s =
-    let g = s.well-formed.1.1 in
-    (omega (arith, g), omega (arith, g), omega (arith, g), omega (arith, g), omega (arith, g), (omega (arith, g), omega (arith, g), omega (arith, g), omega (arith, g)))
-
 pub returns : goal.returns
 returns c =
-    let z = c.before.before.before.before in
-    let s = z.before in
-    let t = s.args.t in
-    let board = s.args.board.now in
-    let x = s.args.x in
-    let m = z.wide8-n.ensures in
-    let long = s.requires.2 in
+    let t = c.args.t in
+    let board = c.args.board.now in
+    let x = c.args.x in
+    let m = c.wide8-n.ensures in
+    let long = c.requires.2 in
+    let g = c.well_formed.1.1 in
+    let small : NarrowTask x = (omega (arith, g), omega (arith, g), omega (arith, g), omega (arith, g), omega (arith, g), (omega (arith, g), omega (arith, g), omega (arith, g), omega (arith, g))) in
     let w = c.task_word.ensures in
-    let same = subst (λ (u : Word). SameAbove u x.word-1) (word_read board t m (omega arith) (omega arith)) s.requires.3 in
-    let v = c.with_first_level.ensures ∙ first_number_lem _ x.word-1 same in
+    let same = subst (λ (u : Word). SameAbove u x.word) (word_read board t m (omega arith) (omega arith)) c.requires.3 in
+    let v = c.with_first_level.ensures ∙ first_number_lem _ x.word same in
     let y = task_in (tasks_on board) t in
-    let records = task_written board t.0 x m (omega arith) (omega arith) long w v (small s) in
-    let sets = ready_kept board t.0 x m (omega arith) (omega arith) long w v (small s) ∙ sym (standing 1 t y x (ready_on board) s.requires.4) in
-    (simp (length-set, long), table_stored board _ t x (omega arith) records sets, channels_kept board t.0 x m (omega arith) (omega arith) long w v (small s), parents_kept board t.0 x m (omega arith) (omega arith) long w v (small s))
+    let records = task_written board t.0 x m (omega arith) (omega arith) long w v small in
+    let sets = ready_kept board t.0 x m (omega arith) (omega arith) long w v small ∙ sym (standing 1 t y x (ready_on board) c.requires.4) in
+    (simp (length-set, long), table_stored board _ t x (omega arith) records sets, channels_kept board t.0 x m (omega arith) (omega arith) long w v small, parents_kept board t.0 x m (omega arith) (omega arith) long w v small)

@@ -35,6 +35,6 @@ pub returns : goal.returns
 returns c =
     let q = c.before in
     let s = q.before in
-    let g = s.well-formed.1.1 in
+    let g = s.well_formed.1.1 in
     let h = s.args.e.hint in
     parent_put s.args.board.now s.args.d s.args.t q.parent_index.ensures.0 q.parent_index.ensures.1 s.requires.1 h c.hint_word.ensures.0 (omega (arith, g)) (omega (arith, g)) s.args.e.held

@@ -68,7 +68,7 @@ returns-then-t-ne0 c =
     let long = s.requires.1 in
     let w = b.task_word-new.ensures in
     let v = b.word_number.ensures in
-    let g = s.well-formed.1.1 in
+    let g = s.well_formed.1.1 in
     let small : NarrowTask x = (omega (arith, g), omega (arith, g), omega (arith, g), omega (arith, g), omega (arith, g), (omega (arith, g), omega (arith, g), omega (arith, g), omega (arith, g))) in
     task_put board t x m (omega arith) (omega arith) long w v small c.put_ready.new.board c.put_ready.ensures
 

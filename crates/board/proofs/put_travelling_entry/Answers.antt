@@ -22,5 +22,5 @@ bounds-board-k-2 c = search rules
 pub returns : goal.returns
 returns c =
     let s = c.before.before in
-    let g = s.well-formed.1.1 in
+    let g = s.well_formed.1.1 in
     travelling_put s.args.board.now s.args.k s.args.h s.requires.0 s.requires.1 c.with_travelling.ensures (omega (arith, g)) (omega (arith, g))

@@ -16,7 +16,7 @@ use Rattle.dispatch.proofs.dispatch.Goals.{Else-not-is_within, Else-not-system_o
 -- the lengths of the rig's arrays
 shaped : (c : Start) → Shaped c.args.r
 shaped c =
-    let f = c.well-formed.0.1.1 in
+    let f = c.well_formed.0.1.1 in
     let tasks = f.1.1.0.1.1 in
     let tables = f.1.1.1.0.1.1 in
     let channels = f.1.1.1.1.0.1.1 in
@@ -51,7 +51,7 @@ passed c = sym c.system_ok.ensures ∙ not-false c.system_ok.result c.if-not-sys
 desk : (c : Else-not-is_within) → let s = c.before.before.before.before.before.before in processor_ok s.args.r.processors s.args.d ≡ true
 desk c =
     let w = c.before in
-    sym (rw (w.wide8-2.ensures, w.wide8.ensures) at w.is_Within.ensures) ∙ not-false w.is_Within.result c.if-not-is_within.false-raw
+    sym (rw (w.wide8-2.ensures, w.wide8.ensures) at w.is_within.ensures) ∙ not-false w.is_within.result c.if-not-is_within.false-raw
 
 pub system_ok-requires : goal.system_ok-requires
 system_ok-requires c = search rules
@@ -82,7 +82,7 @@ unfolding dispatched
 returns-then-not-is_within c =
     let w = c.before.before in
     let e = w.before.before.before in
-    let q = sym (rw (w.wide8-2.ensures, w.wide8.ensures) at w.is_Within.ensures) ∙ not-true w.is_Within.result c.if-not-is_within.true-raw in
+    let q = sym (rw (w.wide8-2.ensures, w.wide8.ensures) at w.is_within.ensures) ∙ not-true w.is_within.result c.if-not-is_within.true-raw in
     c.undispatched-then-not-is_within.ensures ∙ rw (passed e, q) refl
 
 pub delivery_turn-a-requires : goal.delivery_turn-a-requires

@@ -18,23 +18,11 @@ started_if : (n : ℕ) (p : List ℕ) {b : Bool} → within 1 6 n ≡ b → star
 unfolding start_number start_answer
 started_if n p e = ap (λ (b : Bool). answer_number (unless b (Refused BadProcessors) (file_answer p))) e
 
-pub is_within-requires : goal.is_within-requires
-is_within-requires c = search rules
-
-pub number-requires : goal.number-requires
-number-requires c = search rules
-
 pub returns-then-not-is_within : goal.returns-then-not-is_within
 returns-then-not-is_within c =
     let l = c.before.before in
     let e = sym l.is_Within.ensures ∙ not-true l.is_Within.result c.if-not-is_within.true-raw in
     c.number.ensures ∙ sym (started_if _ _ e)
-
-pub check_plan-answer-requires : goal.check_plan-answer-requires
-check_plan-answer-requires c = search rules
-
-pub number-requires-2 : goal.number-requires-2
-number-requires-2 c = search rules
 
 pub returns : goal.returns
 returns c =

@@ -15,20 +15,11 @@ use Rattle.driver.proofs.run_number.Reads as run-number-reads
 use Rattle.run.proofs.file.run.run_file.Reads as run-file-reads
 use Rattle.driver.proofs.mortarsedge_run.Goals as goal
 
-pub run_file-o-requires : goal.run_file-o-requires
-run_file-o-requires c = search rules
-
-pub run_number-number-requires : goal.run_number-number-requires
-run_number-number-requires c = search rules
-
 pub packed-requires : goal.packed-requires
 packed-requires c =
     let f = c.before.before.before in
     let a = f.args in
     (c.run_number-number.ensures.1, omega (arith, f.run_file-o.ensures.count, run_text_short a.processors a.plan.now a.steps.now a.out-1.now))
-
-pub shape_of-out : goal.shape_of-out
-shape_of-out c = search rules
 
 pub returns : goal.returns
 unfolding run_outcome

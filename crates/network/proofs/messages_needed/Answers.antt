@@ -5,18 +5,6 @@ use Rattle.rules.specs.Networks.{messages_of}
 use Rattle.network.proofs.Adverts.{length_adverts}
 use Rattle.network.proofs.messages_needed.Goals as goal
 
-pub enum_told-1 : goal.enum_told-1
-enum_told-1 c = search rules
-
-pub enum_told-in-Single : goal.enum_told-in-Single
-enum_told-in-Single c = search rules
-
-pub enum_known-p : goal.enum_known-p
-enum_known-p c = search rules
-
-pub other_processors-requires : goal.other_processors-requires
-other_processors-requires c = search rules
-
 pub returns-in-Nothing : goal.returns-in-Nothing
 unfolding messages_of
 returns-in-Nothing c = search rules

@@ -2,25 +2,15 @@
 use mathlib.Core.Path.{◌≡◌, refl, sym, ◌∙◌}
 use mathlib.Core.Bool.{Bool, true, false}
 use native.Mathlib.Omega.{arith}
-use borrow.Author.Rules.{rules}
 use Rattle.base.specs.Choice.{within}
 use Rattle.base.proofs.Tests.{within_low, within_high}
 use Rattle.network.proofs.other_processors.Goals as goal
 use Rattle.network.proofs.other_processors.Goals.{After-is_within}
 
-pub wide8-all-requires : goal.wide8-all-requires
-wide8-all-requires c = search rules
-
-pub wide8-own-requires : goal.wide8-own-requires
-wide8-own-requires c = search rules
-
-pub is_within-requires : goal.is_within-requires
-is_within-requires c = search rules
-
 -- what the test says of the desk
-tested : (w : After-is_within) (b : Bool) → w.is_Within.result ≡ b
+tested : (w : After-is_within) (b : Bool) → w.is_within.result ≡ b
     → within 1 w.args.processors w.args.d.0 ≡ b
-tested w b e = sym (rw (w.wide8-own.ensures, w.wide8-all.ensures) at w.is_Within.ensures) ∙ e
+tested w b e = sym (rw (w.wide8-own.ensures, w.wide8-all.ensures) at w.is_within.ensures) ∙ e
 
 pub overflow_sub-result : goal.overflow_sub-result
 overflow_sub-result c =

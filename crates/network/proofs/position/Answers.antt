@@ -2,7 +2,6 @@
 use mathlib.Core.Path.{◌≡◌, refl, sym, ◌∙◌}
 use mathlib.Core.Bool.{true, false}
 use native.Mathlib.Omega.{arith}
-use borrow.Author.Rules.{rules}
 use borrow.Author.Tests.{eq-eqb, ne_eqb}
 use Rattle.base.specs.Choice.{within}
 use Rattle.base.proofs.Tests.{within_high}
@@ -17,17 +16,11 @@ pub returns-then-s-ne0 : goal.returns-then-s-ne0
 unfolding position_of
 returns-then-s-ne0 c = (rw (eq-eqb _ _ c.if-s-ne2.false, ne_eqb _ _ c.if-s-ne0.true) refl, omega arith)
 
-pub wide16-p-requires : goal.wide16-p-requires
-wide16-p-requires c = search rules
-
-pub is_within-requires : goal.is_within-requires
-is_within-requires c = search rules
-
 pub returns-then-is_within : goal.returns-then-is_within
 unfolding position_of
 returns-then-is_within c =
     let a = c.args in
-    let there : within 1 a.used a.s.number ≡ true = rw c.wide16-p.ensures at (sym c.before.is_Within.ensures ∙ c.if-is_within.true) in (
+    let there : within 1 a.used a.s.number ≡ true = rw c.wide16-p.ensures at (sym c.before.is_within.ensures ∙ c.if-is_within.true) in (
       rw (eq-eqb _ _ c.if-s-ne2.false, eq-eqb _ _ c.if-s-ne0.false, there) c.wide16-p.ensures,
       rw c.wide16-p.ensures (within_high 1 a.used a.s.number there),
     )
@@ -36,5 +29,5 @@ pub returns : goal.returns
 unfolding position_of
 returns c =
     let a = c.args in
-    let none : within 1 a.used a.s.number ≡ false = rw c.wide16-p.ensures at (sym c.before.is_Within.ensures ∙ c.if-is_within.false) in
+    let none : within 1 a.used a.s.number ≡ false = rw c.wide16-p.ensures at (sym c.before.is_within.ensures ∙ c.if-is_within.false) in
     (rw (eq-eqb _ _ c.if-s-ne2.false, eq-eqb _ _ c.if-s-ne0.false, none) refl, omega arith)

@@ -19,4 +19,4 @@ both-requires c = search rules
 
 pub returns : goal.returns
 returns c =
-    simp (c.both.ensures, c.is_within-2.ensures, c.wide8-2.ensures, c.before.before.before.is_Within.ensures, c.wide8.ensures)
+    simp (c.both.ensures, c.is_within-2.ensures, c.wide8-2.ensures, c.before.before.before.is_within.ensures, c.wide8.ensures)

@@ -1,7 +1,6 @@
 -- `check_slots` answers as the paper asks of the plan's meaning: the sizes first, and then what the pass says.
 use mathlib.Core.Path.{◌≡◌, refl, sym, ◌∙◌}
 use mathlib.Core.Bool.{true}
-use borrow.Author.Rules.{rules}
 use borrow.Author.Tests.{not-true, not-false}
 use Rattle.plan.specs.declared.Plan.{Plan}
 use Rattle.plan.proofs.Parts.{tasks_of_lem}
@@ -19,9 +18,6 @@ plan c = plan_in c.args.tasks c.args.lengths.now c.args.codes.now
 -- where the sizes have passed
 sized : (c : Else-not-sizes_ok) → let p = plan c.before.before in sizes_in p.tasks p.lengths ≡ true
 sized c = sym c.sizes_ok.ensures ∙ not-false c.sizes_ok.result c.if-not-sizes_ok.false-raw
-
-pub sizes_ok-requires : goal.sizes_ok-requires
-sizes_ok-requires c = search rules
 
 pub returns-then-not-sizes_ok : goal.returns-then-not-sizes_ok
 returns-then-not-sizes_ok c =

@@ -8,7 +8,7 @@ use Rattle.rig_step.proofs.passes.Goals.{Start}
 -- the lengths of the rig's arrays
 shaped : (c : Start) → Shaped c.args.r
 shaped c =
-    let f = c.well-formed.0.1.1 in
+    let f = c.well_formed.0.1.1 in
     let tasks = f.1.1.0.1.1 in
     let tables = f.1.1.1.0.1.1 in
     let channels = f.1.1.1.1.0.1.1 in

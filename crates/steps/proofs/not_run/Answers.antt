@@ -11,16 +11,14 @@ use Rattle.steps.proofs.not_run.Goals as goal
 
 pub move_task-requires : goal.move_task-requires
 move_task-requires c =
-    let start = c.before.before.before.before.before in
-    start.requires.1
+    c.requires.1
 
 pub returns-then-s-eq3 : goal.returns-then-s-eq3
 returns-then-s-eq3 c =
-    let then1 = c.before.before.before.before in
-    let a = then1.args in
+    let a = c.args in
     λ codes numbers op on notes.
     let l = lent a.hintprocessors.now a.hintmoves.now op on notes a.board.now in
-    same_acted (a_move (facts_in a.n.tasks codes numbers a.users.now) a.n.processors (tasks_of l) (kept_of l) a.n.used a.s then1.if-s-eq3.true)
+    same_acted (a_move (facts_in a.n.tasks codes numbers a.users.now) a.n.processors (tasks_of l) (kept_of l) a.n.used a.s c.if-s-eq3.true)
     (c.move_task.ensures op on notes)
 
 pub no_message-requires : goal.no_message-requires
@@ -28,12 +26,10 @@ no_message-requires c = search rules
 
 pub returns : goal.returns
 returns c =
-    let else1 = c.before in
-    let start = else1.before.before in
-    let a = start.args in
+    let a = c.args in
     λ codes numbers op on notes.
     let l = lent a.hintprocessors.now a.hintmoves.now op on notes a.board.now in
     let f = facts_in a.n.tasks codes numbers a.users.now in
-    refused_acted (senders_of a.users.now) (receivers_of a.users.now) l start.requires.1.whole
+    refused_acted (senders_of a.users.now) (receivers_of a.users.now) l c.requires.1.whole
     (step_verdict f a.n.processors (tasks_of l) (kept_of l) a.n.used a.s) (kind_refusal a.s)
-    (no_run_no_move f _ _ _ _ _ start.requires.0 else1.if-s-eq3.false) c.no_message.ensures
+    (no_run_no_move f _ _ _ _ _ c.requires.0 c.if-s-eq3.false) c.no_message.ensures

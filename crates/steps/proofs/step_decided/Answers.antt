@@ -18,8 +18,7 @@ run_decided-requires c = search rules
 
 pub returns-then-s-eq1 : goal.returns-then-s-eq1
 returns-then-s-eq1 c =
-    let z = c.before in
-    c.run_decided.ensures ∙ sym (ap act_of (a_run _ _ _ _ _ _ z.if-s-eq1.true (omega (arith, z.if-s-ne0.false))))
+    c.run_decided.ensures ∙ sym (ap act_of (a_run _ _ _ _ _ _ c.if-s-eq1.true (omega (arith, c.if-s-ne0.false))))
 
 pub move_decided-requires : goal.move_decided-requires
 move_decided-requires c = count_few c.requires.parts
@@ -32,5 +31,4 @@ no_message-requires c = search rules
 
 pub returns : goal.returns
 returns c =
-    let e = c.before in
-    c.no_message.ensures ∙ sym (ap act_of (no_run_no_move _ _ _ _ _ _ e.if-s-eq1.false e.if-s-eq3.false))
+    c.no_message.ensures ∙ sym (ap act_of (no_run_no_move _ _ _ _ _ _ c.if-s-eq1.false c.if-s-eq3.false))

@@ -1,8 +1,5 @@
 -- `instruction_in`.
 use borrow.Author.Rules.{rules}
-use Rattle.board.proofs.fetch.instruction_in.Reads as reads
-use Rattle.board.proofs.fetch.instruction_in.Lts as lts
-use Rattle.base.proofs.wide8.Reads as wide8-reads
 use Rattle.board.proofs.fetch.instruction_in.Goals as goal
 
 pub wide8-requires : goal.wide8-requires

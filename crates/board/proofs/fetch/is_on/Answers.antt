@@ -1,10 +1,5 @@
 -- `is_on`.
 use borrow.Author.Rules.{rules}
-use Rattle.board.proofs.fetch.is_on.Reads as reads
-use Rattle.board.proofs.fetch.is_on.Lts as lts
-use Rattle.base.proofs.wide16.Reads as wide16-reads
-use Rattle.base.proofs.wide8.Reads as wide8-reads
-use Rattle.board.proofs.fetch.last_code.Reads as last-code-reads
 use Rattle.board.proofs.fetch.is_on.Goals as goal
 
 pub last_code-requires : goal.last_code-requires

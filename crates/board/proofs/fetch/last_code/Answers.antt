@@ -3,9 +3,6 @@ use mathlib.Core.Path.{sym}
 use native.Mathlib.Omega.{arith}
 use Rattle.board.proofs.Finding.{last_no_task, last_at_start, last_at}
 use borrow.Author.Rules.{rules}
-use Rattle.board.proofs.fetch.last_code.Reads as reads
-use Rattle.board.proofs.fetch.last_code.Lts as lts
-use Rattle.base.proofs.wide8.Reads as wide8-reads
 use Rattle.board.proofs.fetch.last_code.Goals as goal
 
 pub returns-then-t-eq0 : goal.returns-then-t-eq0

@@ -1,26 +1,8 @@
 -- `receive_rule` is the rule of a receive: each branch rewrites with the tests that led there.
-use mathlib.Core.Path.{◌≡◌, sym, ◌∙◌}
-use mathlib.Core.Bool.{false}
+use mathlib.Core.Path.{sym, ◌∙◌}
 use borrow.Author.Rules.{rules}
-use Rattle.rules.specs.declared.rule.Site.{Site}
-use Rattle.rules.specs.Cells.{counts}
 use Rattle.rules.specs.Receive.{receive_rule}
-use Rattle.channel_rules.specs.Tests.{sends_here}
 use Rattle.channel_rules.proofs.receive.receive_rule.Goals as goal
-use Rattle.channel_rules.proofs.receive.receive_rule.Goals.{Else-counts, Else-sends_here}
-
--- the site, and what is known of it where each test has failed
-abbrev site1 : Else-sends_here → Site
-site1 c = c.args.x
-
-abbrev site2 : Else-counts → Site
-site2 c = site1 c.before.before
-
-not_sent : (c : Else-sends_here) → sends_here (site1 c) ≡ false
-not_sent c = sym c.sends_here.ensures ∙ c.if-sends_here.false
-
-not_counting : (c : Else-counts) → counts (site2 c).cell (site2 c).cell.channel.carried ≡ false
-not_counting c = sym c.counts.ensures ∙ c.if-counts.false
 
 pub sends_here-requires : goal.sends_here-requires
 sends_here-requires c = search rules
@@ -47,8 +29,7 @@ receive_answers-requires c = rw c.with_carried-removed.ensures (search rules)
 pub returns-then-counts : goal.returns-then-counts
 unfolding receive_rule
 returns-then-counts c =
-    let t = c.before.before.before in
-    rw (not_sent t.before.before, sym t.counts.ensures ∙ t.if-counts.true)
+    rw (sym c.sends_here.ensures ∙ c.if-sends_here.false, sym c.counts.ensures ∙ c.if-counts.true)
     (rw (c.with_carried-removed.ensures, c.no_offer-none.ensures) at c.receive_answers.ensures)
 
 pub advert_stands-requires : goal.advert_stands-requires
@@ -63,9 +44,9 @@ receive_answers-requires-then-advert_stands c = rw c.with_noted-removed.ensures 
 pub returns-then-advert_stands : goal.returns-then-advert_stands
 unfolding receive_rule
 returns-then-advert_stands c =
-    let t = c.before.before in
-    let e = t.before.before in
-    rw (not_sent e.before.before, not_counting e, sym t.advert_stands.ensures ∙ t.if-advert_stands.true)
+    let not_sent = sym c.sends_here.ensures ∙ c.if-sends_here.false in
+    let not_counting = sym c.counts.ensures ∙ c.if-counts.false in
+    rw (not_sent, not_counting, sym c.advert_stands.ensures ∙ c.if-advert_stands.true)
     (rw c.with_noted-removed.ensures at c.receive_answers-then-advert_stands.ensures)
 
 pub receive_waits-requires : goal.receive_waits-requires
@@ -74,7 +55,7 @@ receive_waits-requires c = search rules
 pub returns : goal.returns
 unfolding receive_rule
 returns c =
-    let t = c.before in
-    let e = t.before.before in
-    rw (not_sent e.before.before, not_counting e, sym t.advert_stands.ensures ∙ t.if-advert_stands.false)
+    let not_sent = sym c.sends_here.ensures ∙ c.if-sends_here.false in
+    let not_counting = sym c.counts.ensures ∙ c.if-counts.false in
+    rw (not_sent, not_counting, sym c.advert_stands.ensures ∙ c.if-advert_stands.false)
     c.receive_waits.ensures

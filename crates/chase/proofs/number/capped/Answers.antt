@@ -1,12 +1,8 @@
 -- `capped`.
 use mathlib.Core.Path.{refl}
 use native.Mathlib.Omega.{arith}
-use borrow.Author.Rules.{rules}
 use borrow.Author.Tests.{le-leb, lt-leb}
 use Rattle.chase.proofs.number.capped.Goals as goal
-
-pub overflow_cast-result : goal.overflow_cast-result
-overflow_cast-result c = search rules
 
 pub returns-then-n-le501 : goal.returns-then-n-le501
 returns-then-n-le501 c = rw (le-leb c.args.n 501 (omega arith)) refl

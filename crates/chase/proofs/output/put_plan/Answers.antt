@@ -2,7 +2,7 @@ use mathlib.Core.Path.{◌≡◌, refl, sym, ap, ◌∙◌}
 use mathlib.Core.List.{List}
 use Prim.Native.Nat.{ℕ, ◌-◌}
 use native.Mathlib.Omega.{arith}
-use lib.ListN.{length, take, length-set}
+use lib.ListN.{take, length-set}
 use Rattle.plan_write.specs.output.Output.{overlay}
 use Rattle.plan_write.proofs.output.Overlay.{overlay_none}
 use Rattle.chase.specs.Construction.{chase_plan}
@@ -27,12 +27,11 @@ loop-k-smaller c = omega arith
 
 pub loop-k-preserved : goal.loop-k-preserved
 loop-k-preserved c =
-    let l = c.before.before in
-    let a = l.args in (
+    let a = c.args in (
       omega arith,
-      simp length-set l.loop-k.invariant.1,
+      simp length-set c.loop-k.invariant.1,
       rw c.plan_byte.ensures
-          (byte_more a.out.now chase_plan l.loop-k.out l.loop-k.k (omega (arith, plan_length)) (omega (arith, plan_length)) l.loop-k.invariant.1 l.loop-k.invariant.2),
+          (byte_more a.out.now chase_plan c.loop-k.out c.loop-k.k (omega (arith, plan_length)) (omega (arith, plan_length)) c.loop-k.invariant.1 c.loop-k.invariant.2),
     )
 
 pub shape_of-out : goal.shape_of-out
@@ -40,7 +39,6 @@ shape_of-out c = c.loop-k.invariant.1
 
 pub returns : goal.returns
 returns c =
-    let l = c.before in
-    let a = l.args in
-    let e : l.loop-k.k ≡ 32 = omega arith in
-    l.loop-k.invariant.2 ∙ ap (λ (k : ℕ). overlay a.out.now 0 (take k chase_plan)) e ∙ ap (λ (p : List ℕ). overlay a.out.now 0 p) plan_whole
+    let a = c.args in
+    let e : c.loop-k.k ≡ 32 = omega arith in
+    c.loop-k.invariant.2 ∙ ap (λ (k : ℕ). overlay a.out.now 0 (take k chase_plan)) e ∙ ap (λ (p : List ℕ). overlay a.out.now 0 p) plan_whole

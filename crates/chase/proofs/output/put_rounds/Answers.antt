@@ -1,9 +1,8 @@
 use mathlib.Core.Path.{◌≡◌, refl}
 use Prim.Native.Nat.{◌-◌, ◌+◌, ◌*◌}
 use native.Mathlib.Omega.{arith}
-use borrow.Author.Rules.{rules}
 use Rattle.rules.specs.Steps.{deliver_step, move_step}
-use Rattle.chase.specs.Construction.{desk_after, round}
+use Rattle.chase.specs.Construction.{desk_after}
 use Rattle.chase.proofs.Writing.{no_rounds, round_more, three_are}
 use Rattle.chase.proofs.output.put_rounds.Goals as goal
 
@@ -18,12 +17,6 @@ overflow_add-desk-in-loop-k c = omega arith
 
 pub overflow_cast-desk : goal.overflow_cast-desk
 overflow_cast-desk c = omega arith
-
-pub move_to-there-requires : goal.move_to-there-requires
-move_to-there-requires c = search rules
-
-pub deliver-next-requires : goal.deliver-next-requires
-deliver-next-requires c = search rules
 
 pub overflow_mul-k : goal.overflow_mul-k
 overflow_mul-k c = omega arith
@@ -42,17 +35,13 @@ loop-k-smaller c = omega arith
 
 pub loop-k-preserved : goal.loop-k-preserved
 loop-k-preserved c =
-    let put = c.before.before in
-    let next = put.before.before in
-    let there = next.before in
-    let l = there.before.before in
-    let a = l.args in
-    let k = l.loop-k.k in (
+    let a = c.args in
+    let k = c.loop-k.k in (
       omega arith,
       omega arith,
-      round_more a.out-1.now l.loop-k.out _ k (omega arith) l.loop-k.invariant.2
-          (three_are l.loop-k.out _ (12 + 12 * k) _ _ _ (deliver_step 1) (move_step 2 (desk_after (k + 1))) (deliver_step 1) next.deliver-next.ensures there.move_to-there.ensures
-          next.deliver-next.ensures put.put_three.ensures),
+      round_more a.out.now c.loop-k.out _ k (omega arith) c.loop-k.invariant.2
+          (three_are c.loop-k.out _ (12 + 12 * k) _ _ _ (deliver_step 1) (move_step 2 (desk_after (k + 1))) (deliver_step 1) c.deliver-next.ensures c.move_to-there.ensures
+          c.deliver-next.ensures c.put_three.ensures),
     )
 
 pub shape_of-out : goal.shape_of-out
@@ -60,6 +49,5 @@ shape_of-out c = c.loop-k.invariant.1
 
 pub returns : goal.returns
 returns c =
-    let l = c.before in
-    let e : l.loop-k.k ≡ l.args.m = omega arith in
-    rw (← e) l.loop-k.invariant.2
+    let e : c.loop-k.k ≡ c.args.m = omega arith in
+    rw (← e) c.loop-k.invariant.2

@@ -1,21 +1,11 @@
 -- `put_step` puts the four bytes of a step.
 use native.Mathlib.Omega.{arith}
 use lib.ListN.{length-set}
-use borrow.Author.Rules.{rules}
 use Rattle.chase.proofs.Writing.{step_put}
 use Rattle.chase.proofs.output.put_step.Goals as goal
 
-pub bounds-out-at : goal.bounds-out-at
-bounds-out-at c = search rules
-
-pub overflow_add-out : goal.overflow_add-out
-overflow_add-out c = search rules
-
 pub bounds-out-at-2 : goal.bounds-out-at-2
 bounds-out-at-2 c = simp length-set (omega arith)
-
-pub overflow_add-at : goal.overflow_add-at
-overflow_add-at c = search rules
 
 pub put_word-requires : goal.put_word-requires
 put_word-requires c = simp length-set (omega arith)
@@ -25,6 +15,5 @@ shape_of-out c = simp length-set at c.out-1.given
 
 pub returns : goal.returns
 returns c =
-    let b = c.before.before.before.before.before in
-    let a = b.args in
-    step_put a.out-1.now a.at a.s _ b.requires c.put_word.ensures
+    let a = c.args in
+    step_put a.out.now a.at a.s _ c.requires c.put_word.ensures

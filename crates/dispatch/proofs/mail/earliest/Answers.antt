@@ -43,7 +43,7 @@ found b s e =
     sym (rw w.wide16-at.ensures at s.is_for.ensures) ∙ e
 
 long : (s : Start goal.the-invariant-loop-d goal.the-decreases-loop-d) → length s.args.t1.slots ≡ 256
-long s = simp length-map at s.well-formed.0.1.1.0.1.0.1
+long s = simp length-map at s.well_formed.0.1.1.0.1.0.1
 
 pub returns-then-is_for : goal.returns-then-is_for
 returns-then-is_for c =

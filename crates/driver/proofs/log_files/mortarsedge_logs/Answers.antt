@@ -4,11 +4,5 @@ use Rattle.driver.specs.Logs.{logs_packed}
 use borrow.Author.Rules.{rules}
 use Rattle.driver.proofs.log_files.mortarsedge_logs.Goals as goal
 
-pub check_logs-answer-requires : goal.check_logs-answer-requires
-check_logs-answer-requires c = search rules
-
-pub logs_packed-requires : goal.logs_packed-requires
-logs_packed-requires c = search rules
-
 pub returns : goal.returns
 returns c = c.logs_packed.ensures ∙ ap logs_packed c.check_logs-answer.ensures

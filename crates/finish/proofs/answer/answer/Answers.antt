@@ -54,15 +54,6 @@ started c b =
 pub build-requires : goal.build-requires
 build-requires c = (refl, few_users c.requires.begins)
 
-pub no_tables-tables-requires : goal.no_tables-tables-requires
-no_tables-tables-requires c = search rules
-
-pub start_board-requires : goal.start_board-requires
-start_board-requires c = search rules
-
-pub locate-requires : goal.locate-requires
-locate-requires c = search rules
-
 pub settle-work-requires : goal.settle-work-requires
 settle-work-requires c =
     let l = c.before.before.before.before.before.before.before in
@@ -78,15 +69,6 @@ emit_answer-requires c =
     let l = located s in
     let g = (s.settle-work.ensures _ (started l (begin (built l)).requires.begins)).gone in
     (count_few (parts g.after), all_dependent g.after, omega (arith, few_runs g), refl, omega arith)
-
-pub bounds-progress-0 : goal.bounds-progress-0
-bounds-progress-0 c = search rules
-
-pub bounds-progress-1 : goal.bounds-progress-1
-bounds-progress-1 c = search rules
-
-pub shape_of-out : goal.shape_of-out
-shape_of-out c = search rules
 
 pub returns : goal.returns
 returns c p b =

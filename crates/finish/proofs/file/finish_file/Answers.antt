@@ -29,12 +29,6 @@ told c = c.before.before.before.before
 pub open-opened-requires : goal.open-opened-requires
 open-opened-requires c = (refl, refl, refl, refl)
 
-pub enum_known-checked : goal.enum_known-checked
-enum_known-checked c = search rules
-
-pub enum_told-1 : goal.enum_told-1
-enum_told-1 c = search rules
-
 pub put_numbers-requires : goal.put_numbers-requires
 put_numbers-requires c = let t = told c in (opened_passes (opened t).open-opened.ensures t.in-Accepted.is, refl)
 
@@ -52,9 +46,6 @@ answered c =
     let t = told n.before in
     c.answer-d.ensures _ (opened_begins (opened t).open-opened.ensures t.in-Accepted.is 1 refl n.put_numbers.ensures)
 
-pub shape_of-out-then-d : goal.shape_of-out-then-d
-shape_of-out-then-d c = search rules
-
 -- where it was given
 abbrev given : After-slice_known-in-Accepted-1 → After-answer-d
 given c = c.before.before
@@ -66,9 +57,6 @@ returns-then-d c =
 
 pub returns-in-Refused : goal.returns-in-Refused
 returns-in-Refused c = refused_file _ _ _ (sym c.open-opened.ensures.answered ∙ c.in-Refused.is)
-
-pub shape_of-out : goal.shape_of-out
-shape_of-out c = search rules
 
 pub returns-else-d : goal.returns-else-d
 returns-else-d c =

@@ -9,21 +9,12 @@ use Rattle.finish.proofs.lines.emit_answer.Goals.{After-emit_first, Start}
 abbrev start : After-emit_first → Start
 start c = c.before.before.before.before.before
 
-pub finishes-all-requires : goal.finishes-all-requires
-finishes-all-requires c = search rules
-
-pub emit_first-requires : goal.emit_first-requires
-emit_first-requires c = search rules
-
 pub emit_list-requires : goal.emit_list-requires
 emit_list-requires c =
     let f = c.before.before.before.before in
     let s = start f in
     let lines = f.emit_first.ensures in
     (s.requires.0, s.requires.1, lines.long ∙ s.requires.3, lines.room s.requires.4)
-
-pub shape_of-out : goal.shape_of-out
-shape_of-out c = search rules
 
 pub returns : goal.returns
 returns c =

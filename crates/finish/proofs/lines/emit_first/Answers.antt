@@ -5,17 +5,8 @@ use Rattle.trace.proofs.Lines.{verdict_length}
 use Rattle.run.proofs.all_steps.Progress.{next_stopped, noted_room, next_noted}
 use Rattle.finish.proofs.lines.emit_first.Goals as goal
 
-pub bounds-progress-1 : goal.bounds-progress-1
-bounds-progress-1 c = search rules
-
 pub returns-then-progress-ne0 : goal.returns-then-progress-ne0
 returns-then-progress-ne0 c = next_stopped _ _ _ c.if-progress-ne0.true
-
-pub bounds-progress-0 : goal.bounds-progress-0
-bounds-progress-0 c = search rules
-
-pub emit_verdict-written-requires : goal.emit_verdict-written-requires
-emit_verdict-written-requires c = search rules
 
 pub note-requires : goal.note-requires
 note-requires c =
@@ -23,9 +14,6 @@ note-requires c =
     let else1 = m.before.before.before in
     let start = else1.before.before.before in
     (start.requires.1, omega (arith, noted_room _ start.args.progress.now _ start.requires.1 else1.if-progress-ne0.false start.requires.2 m.emit_verdict-written.ensures, start.well-formed.0))
-
-pub shape_of-out : goal.shape_of-out
-shape_of-out c = search rules
 
 pub returns : goal.returns
 returns c =

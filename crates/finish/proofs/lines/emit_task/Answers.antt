@@ -35,17 +35,8 @@ stuck : (c : After-is_stuck) → let a = (start (read c)).args in
     is_stuck (task_in (tasks_on a.board.now) (task_id a.t)) ≡ c.is_stuck.result
 stuck c = sym (c.is_stuck.ensures ∙ ap is_stuck (read c).task_at-x.ensures)
 
-pub bounds-progress-1 : goal.bounds-progress-1
-bounds-progress-1 c = search rules
-
 pub returns-then-progress-ne0 : goal.returns-then-progress-ne0
 returns-then-progress-ne0 c = next_stopped _ _ _ c.if-progress-ne0.true
-
-pub task_at-x-requires : goal.task_at-x-requires
-task_at-x-requires c = search rules
-
-pub is_stuck-requires : goal.is_stuck-requires
-is_stuck-requires c = search rules
 
 pub returns-then-not-is_stuck : goal.returns-then-not-is_stuck
 returns-then-not-is_stuck c = rw (stuck c.before ∙ not-true _ c.if-not-is_stuck.true-raw) (next_none _ _)
@@ -53,26 +44,11 @@ returns-then-not-is_stuck c = rw (stuck c.before ∙ not-true _ c.if-not-is_stuc
 pub depends_on-u-requires : goal.depends_on-u-requires
 depends_on-u-requires c = rw (read c.before).task_at-x.ensures (start (read c.before)).requires.1
 
-pub bounds-progress-0 : goal.bounds-progress-0
-bounds-progress-0 c = search rules
-
-pub wide8-requires : goal.wide8-requires
-wide8-requires c = search rules
-
-pub wide8-requires-2 : goal.wide8-requires-2
-wide8-requires-2 c = search rules
-
-pub emit_stuck-written-requires : goal.emit_stuck-written-requires
-emit_stuck-written-requires c = search rules
-
 pub note-requires : goal.note-requires
 note-requires c =
     let m = c.before.before.before in
     let s = start (read (tested m).before) in
     (s.requires.2, omega (arith, noted_room _ s.args.progress.now _ s.requires.2 (first m).if-progress-ne0.false s.requires.3 m.emit_stuck-written.ensures, s.good.0))
-
-pub shape_of-out : goal.shape_of-out
-shape_of-out c = search rules
 
 pub returns : goal.returns
 unfolding stuck_line

@@ -5,16 +5,10 @@ use native.Mathlib.Omega.{arith}
 use borrow.Author.Rules.{rules}
 use Rattle.finish.proofs.search.runnable.Goals as goal
 
-pub search-t-requires : goal.search-t-requires
-search-t-requires c = search rules
-
 pub returns-then-t-ne0 : goal.returns-then-t-ne0
 returns-then-t-ne0 c =
     let (low, high, can) = c.search-t.ensures.some c.if-t-ne0.true in
     record { some = λ ne. (omega arith, high, can); none = λ e. absurd (c.if-t-ne0.true e) }
-
-pub search-requires : goal.search-requires
-search-requires c = search rules
 
 pub returns : goal.returns
 returns c =

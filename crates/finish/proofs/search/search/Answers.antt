@@ -24,12 +24,6 @@ loop-k-init c = (omega arith, omega arith, λ t l h. absurd (omega arith))
 pub overflow_add-t : goal.overflow_add-t
 overflow_add-t c = omega arith
 
-pub run_refusal-q-requires : goal.run_refusal-q-requires
-run_refusal-q-requires c = search rules
-
-pub is_accepted-requires : goal.is_accepted-requires
-is_accepted-requires c = search rules
-
 pub returns-then-is_accepted : goal.returns-then-is_accepted
 returns-then-is_accepted c = record { some = λ ne. (omega arith, omega arith, asked c.before ∙ c.if-is_accepted.true); none = λ e. absurd (omega arith) }
 

@@ -10,14 +10,8 @@ use Rattle.plan_index.specs.user_table.Users.{senders_of, receivers_of}
 use Rattle.finish.specs.Answers.{depends_in}
 use Rattle.finish.proofs.stuck.depends_on.Goals as goal
 
-pub is_in-requires : goal.is_in-requires
-is_in-requires c = search rules
-
 pub last_channel-c-requires : goal.last_channel-c-requires
 last_channel-c-requires c = c.requires (rw (sym c.is_in.ensures ∙ c.if-is_in.true) refl)
-
-pub receiver-requires : goal.receiver-requires
-receiver-requires c = search rules
 
 pub returns-then-is_in : goal.returns-then-is_in
 unfolding depends_in
@@ -27,16 +21,10 @@ returns-then-is_in c =
     rw (sym t.is_in.ensures ∙ t.if-is_in.true)
     (c.receiver.ensures ∙ ap (named_in (receivers_of t.args.users.now)) l.last_channel-c.ensures.0)
 
-pub is_in-requires-2 : goal.is_in-requires-2
-is_in-requires-2 c = search rules
-
 pub last_channel-c-requires-then-is_in-2 : goal.last_channel-c-requires-then-is_in-2
 last_channel-c-requires-then-is_in-2 c =
     let start = c.before.before.before.before in
     start.requires (rw (sym c.is_in-2.ensures ∙ c.if-is_in-2.true) (or-true (is_in Sending start.args.x)))
-
-pub sender-requires : goal.sender-requires
-sender-requires c = search rules
 
 pub returns-then-is_in-2 : goal.returns-then-is_in-2
 unfolding depends_in
@@ -46,9 +34,6 @@ returns-then-is_in-2 c =
     let e = t.before.before in
     rw (sym e.is_in.ensures ∙ e.if-is_in.false, sym t.is_in-2.ensures ∙ t.if-is_in-2.true)
     (c.sender.ensures ∙ ap (named_in (senders_of e.args.users.now)) l.last_channel-c-then-is_in-2.ensures.0)
-
-pub lowest_child-requires : goal.lowest_child-requires
-lowest_child-requires c = search rules
 
 pub returns : goal.returns
 unfolding depends_in

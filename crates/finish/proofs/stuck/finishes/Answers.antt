@@ -32,9 +32,6 @@ overflow_add-t c = omega arith
 pub task_at-x-requires : goal.task_at-x-requires
 task_at-x-requires c = omega arith
 
-pub is_stuck-requires : goal.is_stuck-requires
-is_stuck-requires c = search rules
-
 pub returns-then-is_stuck : goal.returns-then-is_stuck
 unfolding finishes_in
 returns-then-is_stuck c =

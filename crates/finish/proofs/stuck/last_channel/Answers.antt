@@ -8,12 +8,6 @@ use Rattle.rig_parts.specs.Fetches.{instruction_in}
 use Rattle.finish.proofs.stuck.last_channel.Goals as goal
 use Rattle.finish.proofs.stuck.last_channel.Goals.{After-instruction_in-i}
 
-pub overflow_sub-x : goal.overflow_sub-x
-overflow_sub-x c = search rules
-
-pub instruction_in-i-requires : goal.instruction_in-i-requires
-instruction_in-i-requires c = search rules
-
 -- the channel, as it was read
 operand : (c : After-instruction_in-i) → let a = c.args in
     (c.instruction_in-i.result.operand ≡ (instruction_in a.codes.now a.t (a.x.pc - 1)).operand) × (c.instruction_in-i.result.operand ≤ 128)

@@ -30,7 +30,7 @@ told c = c.before.before
 
 -- what has passed: the desks, the plan file, the step file
 processors : (c : Else-not-is_within) → within 1 6 (begin c).args.processors ≡ true
-processors c = let i = c.before.is_Within in sym i.ensures ∙ not-false i.result c.if-not-is_within.false-raw
+processors c = let i = c.before.is_within in sym i.ensures ∙ not-false i.result c.if-not-is_within.false-raw
 
 file : (c : In-Accepted) → file_answer (begin (within-limits (opened c))).args.plan.now ≡ Accepted
 file c = opened_file (opened c).open-opened.ensures c.in-Accepted.is
@@ -53,7 +53,7 @@ refused-requires c = search rules
 
 pub returns-then-not-is_within : goal.returns-then-not-is_within
 returns-then-not-is_within c =
-    let i = c.before.before.is_Within in
+    let i = c.before.before.is_within in
     processors_refused _ _ _ (sym i.ensures ∙ not-true i.result c.if-not-is_within.true-raw) c.refused.ensures
 
 pub open-opened-requires : goal.open-opened-requires

@@ -50,6 +50,6 @@ pub returns : goal.returns
 returns c =
     let l = c.before in
     let s = l.before in
-    let long : length s.args.t2 ≡ 27 = s.well-formed.1.0.1.0.1 in
+    let long : length s.args.t2 ≡ 27 = s.well_formed.1.0.1.0.1 in
     let all : l.loop-k.k ≡ 27 = omega arith in
     (rw all at (l.loop-k.invariant.2 long)) ∙ ap (λ (t : List ℕ). t ++ drop 27 s.args.out.now) (take_all 27 s.args.t2 (omega arith))

@@ -3,20 +3,10 @@ use Rattle.plan.specs.Words.{add_word}
 use Rattle.plan.proofs.Sums.{wraps}
 use Rattle.plan.proofs.Word.add.Goals as goal
 
-pub level-old-requires : goal.level-old-requires
-level-old-requires c = search rules
-
--- nothing is asked
-pub wrapping_add_u16-sum-requires : goal.wrapping_add_u16-sum-requires
-wrapping_add_u16-sum-requires c = search rules
-
-pub with_level-word-requires : goal.with_level-word-requires
-with_level-word-requires c = search rules
-
 -- what it returns
 pub returns : goal.returns
 unfolding add_word
 returns c =
     let old = c.level-old.result in
     let operand = c.args.i.operand in
-    rw (c.with_level-word.ensures, c.wrapping_add_u16-sum.ensures, wraps old operand (search rules) (search rules), c.level-old.ensures) refl
+    rw (c.with_level-word.ensures, c.wrapping_add_u16-sum.ensures.value, wraps old operand (search rules) (search rules), c.level-old.ensures) refl

@@ -2,26 +2,19 @@
 use mathlib.Core.Path.{refl, sym}
 use native.Mathlib.Omega.{arith}
 use borrow.Author.Tests.{le-leb, lt-leb, eq-eqb}
-use borrow.Author.Rules.{rules}
 use Rattle.plan_value.proofs.ByKind.{ok_create, ok_zero, ok_channel, ok_word, ok_level, ok_unknown, new_old, new_repeat, new_end, new_unknown, new_level}
 use Rattle.plan_value.proofs.instruction.instruction_ok.Goals as goal
-
-pub wide16-operand-requires : goal.wide16-operand-requires
-wide16-operand-requires c = search rules
 
 pub returns-then-level-ne0 : goal.returns-then-level-ne0
 returns-then-level-ne0 c =
     let a = c.args in
     sym (new_level a.tasks a.x (omega arith) (λ e. omega arith))
 
-pub is_within-requires : goal.is_within-requires
-is_within-requires c = search rules
-
 pub returns-then-opcode-eq-REPEAT : goal.returns-then-opcode-eq-REPEAT
 returns-then-opcode-eq-REPEAT c =
     let w = c.before.before.before.before in
     let a = w.args in
-    rw (new_repeat a.tasks a.x (omega arith), eq-eqb a.x.level 0 (omega arith), c.is_Within.ensures, w.wide16-operand.ensures) refl
+    rw (new_repeat a.tasks a.x (omega arith), eq-eqb a.x.level 0 (omega arith), c.is_within.ensures, w.wide16-operand.ensures) refl
 
 pub returns-then-opcode-eq-REPEAT_END : goal.returns-then-opcode-eq-REPEAT_END
 returns-then-opcode-eq-REPEAT_END c =
@@ -39,9 +32,6 @@ returns-then-level-gt3 c =
     let a = c.args in
     rw (new_old a.tasks a.x (omega arith), ok_word a.tasks a.x (omega arith) (omega arith), lt-leb a.x.level 3 (omega arith)) refl
 
-pub is_within-requires-then-opcode-ge-SET : goal.is_within-requires-then-opcode-ge-SET
-is_within-requires-then-opcode-ge-SET c = search rules
-
 pub returns-then-opcode-ge-SET : goal.returns-then-opcode-ge-SET
 returns-then-opcode-ge-SET c =
     let w = c.before.before.before.before in
@@ -53,9 +43,6 @@ pub returns-then-level-ne0-2 : goal.returns-then-level-ne0-2
 returns-then-level-ne0-2 c =
     let a = c.args in
     rw (new_old a.tasks a.x (omega arith)) (sym (ok_level a.tasks a.x (omega arith) (λ e. omega arith)))
-
-pub is_within-requires-then-opcode-ge-SEND : goal.is_within-requires-then-opcode-ge-SEND
-is_within-requires-then-opcode-ge-SEND c = search rules
 
 pub returns-then-opcode-ge-SEND : goal.returns-then-opcode-ge-SEND
 returns-then-opcode-ge-SEND c =
@@ -69,12 +56,6 @@ returns-then-opcode-ge-SYNC c =
     let w = c.before.before.before.before.before in
     let a = w.args in
     rw (new_old a.tasks a.x (omega arith), ok_zero a.tasks a.x (omega arith) (omega arith) (omega arith) (omega arith), w.wide16-operand.ensures) refl
-
-pub wide8-requires : goal.wide8-requires
-wide8-requires c = search rules
-
-pub is_within-requires-then-opcode-ge-CREATE : goal.is_within-requires-then-opcode-ge-CREATE
-is_within-requires-then-opcode-ge-CREATE c = search rules
 
 pub returns-then-opcode-ge-CREATE : goal.returns-then-opcode-ge-CREATE
 returns-then-opcode-ge-CREATE c =

@@ -1,16 +1,11 @@
-use Prim.Native.Nat.{◌+◌, ◌-◌}
+use Prim.Native.Nat.{◌+◌}
 use mathlib.Core.Path.{◌≡◌, refl, sym}
 use mathlib.Core.Bool.{true, false}
 use native.Mathlib.Omega.{arith}
-use borrow.Author.Rules.{rules}
 use borrow.Author.Tests.{eq-eqb, ne_eqb, lt-leb}
-use Rattle.base.specs.Range.{below}
 use Rattle.base.proofs.Tests.{below_none, below_more, below_fails}
 use Rattle.plan_value.specs.Firsts.{has_parent}
 use Rattle.plan_value.proofs.pass.all_created.Goals as goal
-
-pub wide8-n-requires : goal.wide8-n-requires
-wide8-n-requires c = search rules
 
 pub loop-k-init : goal.loop-k-init
 loop-k-init c =

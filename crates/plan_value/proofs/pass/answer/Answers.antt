@@ -1,7 +1,6 @@
 -- `pass::answer` asks the pass and the table of parents in the paper's order.
 use mathlib.Core.Path.{◌≡◌, sym, ◌∙◌}
 use mathlib.Core.Bool.{true}
-use borrow.Author.Rules.{rules}
 use borrow.Author.Tests.{not-true, not-false}
 use Rattle.plan_value.specs.declared.pass.Pass.{Pass}
 use Rattle.plan_value.proofs.pass.answer.Goals as goal
@@ -35,18 +34,12 @@ returns-then-not-p-2 c = let d = c.before.before in simp (instructions d, not-tr
 pub returns-then-not-p-3 : goal.returns-then-not-p-3
 returns-then-not-p-3 c = let d = c.before.before in simp (instructions d.before.before, finishes d, not-true (pass2 d).creates c.if-not-p-3.true)
 
-pub all_created-requires : goal.all_created-requires
-all_created-requires c = search rules
-
 pub returns-then-not-all_created : goal.returns-then-not-all_created
 returns-then-not-all_created c =
     let a = c.before in
     let d = a.before in
     let e = d.before.before in
     simp (instructions e.before.before, finishes e, creates d, sym a.all_created.ensures ∙ not-true a.all_created.result c.if-not-all_created.true-raw)
-
-pub both-requires : goal.both-requires
-both-requires c = search rules
 
 pub returns-then-not-both : goal.returns-then-not-both
 returns-then-not-both c =

@@ -3,20 +3,10 @@ use mathlib.Core.Path.{refl, sym, ◌∙◌, ap}
 use Prim.Native.Nat.{ℕ}
 use lib.ListN.{get_or}
 use lib.Seq.{set-get_or}
-use borrow.Author.Rules.{rules}
 use borrow.Author.Tests.{eq-eqb, ne_eqb}
 use Rattle.plan_value.specs.Ends.{unpaired_then}
 use Rattle.plan_value.proofs.Unpaired.{unpaired_few, unpaired_part, unpaired_more}
 use Rattle.plan_value.proofs.pass.enter_end.Goals as goal
-
-pub bounds-ends-a : goal.bounds-ends-a
-bounds-ends-a c = search rules
-
-pub bounds-others-a : goal.bounds-others-a
-bounds-others-a c = search rules
-
-pub end_fits-requires : goal.end_fits-requires
-end_fits-requires c = search rules
 
 pub returns-then-old-ne0 : goal.returns-then-old-ne0
 returns-then-old-ne0 c =
@@ -26,12 +16,6 @@ returns-then-old-ne0 c =
       entered = record { answer = c.end_fits.ensures; table = rw (ne_eqb (get_or a.ends.now a.a 0) 0 c.if-old-ne0.true) (sym (set-get_or a.ends.now a.a 0)) };
       unpaired = s.requires.3.count;
     }
-
-pub bounds-ends-a-2 : goal.bounds-ends-a-2
-bounds-ends-a-2 c = search rules
-
-pub end_fits-requires-2 : goal.end_fits-requires-2
-end_fits-requires-2 c = search rules
 
 pub unpaired_then-requires : goal.unpaired_then-requires
 unpaired_then-requires c =

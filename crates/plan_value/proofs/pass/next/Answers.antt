@@ -5,7 +5,6 @@ use mathlib.Core.Logic.{◌≢◌}
 use Prim.Native.Nat.{ℕ, ◌+◌, ◌*◌, ◌≤◌}
 use native.Mathlib.Omega.{arith}
 use lib.Dec.{leb}
-use borrow.Author.Rules.{rules}
 use borrow.Author.Tests.{not-true, not-false}
 use Rattle.base.specs.Choice.{within}
 use Rattle.plan_value.specs.declared.instruction.Edition.{Edition}
@@ -69,30 +68,6 @@ module _ (c : After-both-going) where
       let zero = zero_level e before.pass.tasks x ok (omega (arith, z)) in
       ne (omega (arith, c.wide8.ensures, c.wide8-2.ensures, z, zero))
 
-pub wide16-a-requires : goal.wide16-a-requires
-wide16-a-requires c = search rules
-
-pub wide8-requires : goal.wide8-requires
-wide8-requires c = search rules
-
-pub wide8-requires-2 : goal.wide8-requires-2
-wide8-requires-2 c = search rules
-
-pub overflow_mul-head : goal.overflow_mul-head
-overflow_mul-head c = search rules
-
-pub overflow_add-head : goal.overflow_add-head
-overflow_add-head c = search rules
-
-pub both-going-requires : goal.both-going-requires
-both-going-requires c = search rules
-
-pub is_channel_allowed-requires : goal.is_channel_allowed-requires
-is_channel_allowed-requires c = search rules
-
-pub new-requires : goal.new-requires
-new-requires c = search rules
-
 pub returns-then-not-is_channel_allowed : goal.returns-then-not-is_channel_allowed
 returns-then-not-is_channel_allowed c =
     let l = c.before.before in
@@ -102,31 +77,22 @@ returns-then-not-is_channel_allowed c =
 
 pub enter_end-sent-requires : goal.enter_end-sent-requires
 enter_end-sent-requires c =
-    let f = c.before.before in
+    let f = c.before in
     let l = f.before in
     let b = l.before.before in
     let test = channel b 4 (omega arith) (omega arith) l.if-head-eq4.true l.is_channel_allowed.ensures in
     let (low, high) = send_fits (e b) (before b).pass.tasks (x b) (fine b test f.if-not-is_channel_allowed.false-raw) (kind_of_lem b 4 (omega arith) l.if-head-eq4.true) in
     ((start b).requires.1, rw (on b) low, rw (on b) high, (start b).requires.2)
 
-pub both-channels-requires : goal.both-channels-requires
-both-channels-requires c = search rules
-
 pub returns-then-head-eq4 : goal.returns-then-head-eq4
 returns-then-head-eq4 c =
     let n = c.before in
-    let f = n.before.before.before in
+    let f = n.before.before in
     let l = f.before in
     let b = l.before.before in
     let o = kind_of_lem b 4 (omega arith) l.if-head-eq4.true in
     let test = channel b 4 (omega arith) (omega arith) l.if-head-eq4.true l.is_channel_allowed.ensures in
     next_send (e b) (x b) (before b) (fine b test f.if-not-is_channel_allowed.false-raw) (going b (λ z. omega (arith, o, z))) (on b) o c.both-channels.ensures n.enter_end-sent.ensures
-
-pub is_channel_allowed-requires-then-head-eq5 : goal.is_channel_allowed-requires-then-head-eq5
-is_channel_allowed-requires-then-head-eq5 c = search rules
-
-pub new-requires-then-not-is_channel_allowed-2 : goal.new-requires-then-not-is_channel_allowed-2
-new-requires-then-not-is_channel_allowed-2 c = search rules
 
 pub returns-then-not-is_channel_allowed-2 : goal.returns-then-not-is_channel_allowed-2
 returns-then-not-is_channel_allowed-2 c =
@@ -137,31 +103,22 @@ returns-then-not-is_channel_allowed-2 c =
 
 pub enter_end-received-requires : goal.enter_end-received-requires
 enter_end-received-requires c =
-    let f = c.before.before in
+    let f = c.before in
     let l = f.before in
     let b = l.before.before.before in
     let test = channel b 5 (omega arith) (omega arith) l.if-head-eq5.true l.is_channel_allowed-then-head-eq5.ensures in
     let (low, high) = receive_fits (e b) (before b).pass.tasks (x b) (fine b test f.if-not-is_channel_allowed-2.false-raw) (kind_of_lem b 5 (omega arith) l.if-head-eq5.true) in
     ((start b).requires.1, rw (on b) low, rw (on b) high, counted_swap (start b).requires.2)
 
-pub both-channels-requires-then-head-eq5 : goal.both-channels-requires-then-head-eq5
-both-channels-requires-then-head-eq5 c = search rules
-
 pub returns-then-head-eq5 : goal.returns-then-head-eq5
 returns-then-head-eq5 c =
     let n = c.before in
-    let f = n.before.before.before in
+    let f = n.before.before in
     let l = f.before in
     let b = l.before.before.before in
     let o = kind_of_lem b 5 (omega arith) l.if-head-eq5.true in
     let test = channel b 5 (omega arith) (omega arith) l.if-head-eq5.true l.is_channel_allowed-then-head-eq5.ensures in
     next_receive (e b) (x b) (before b) (fine b test f.if-not-is_channel_allowed-2.false-raw) (going b (λ z. omega (arith, o, z))) (on b) o c.both-channels-then-head-eq5.ensures n.enter_end-received.ensures
-
-pub is_allowed-requires : goal.is_allowed-requires
-is_allowed-requires c = search rules
-
-pub new-requires-then-not-is_allowed : goal.new-requires-then-not-is_allowed
-new-requires-then-not-is_allowed c = search rules
 
 pub returns-then-not-is_allowed : goal.returns-then-not-is_allowed
 returns-then-not-is_allowed c =
@@ -177,12 +134,6 @@ returns-then-opcode-ge-SET c =
     next_other (e b) (x b) (before b) (fine b l.is_allowed.ensures c.if-not-is_allowed.false-raw) (going b (λ z. omega (arith, word, z))) (start b).requires.2.count
     (λ z. omega (arith, word, z)) (λ z. omega (arith, word, z)) (λ z. omega (arith, word, z))
 
-pub is_allowed-requires-2 : goal.is_allowed-requires-2
-is_allowed-requires-2 c = search rules
-
-pub new-requires-then-not-is_allowed-2 : goal.new-requires-then-not-is_allowed-2
-new-requires-then-not-is_allowed-2 c = search rules
-
 pub returns-then-not-is_allowed-2 : goal.returns-then-not-is_allowed-2
 returns-then-not-is_allowed-2 c =
     let l = c.before.before in
@@ -196,9 +147,6 @@ enter_create-requires c =
     let b = l.before.before.before.before in
     rw (on b) (create_fits (e b) (before b).pass.tasks (x b) (fine b l.is_allowed-2.ensures f.if-not-is_allowed-2.false-raw) (start b).requires.0 c.if-opcode-eq-CREATE.true)
 
-pub both-creates-requires : goal.both-creates-requires
-both-creates-requires c = search rules
-
 pub returns-then-opcode-eq-CREATE : goal.returns-then-opcode-eq-CREATE
 returns-then-opcode-eq-CREATE c =
     let n = c.before in
@@ -207,12 +155,6 @@ returns-then-opcode-eq-CREATE c =
     let b = l.before.before.before.before in
     let o = n.if-opcode-eq-CREATE.true in
     next_create_lem (e b) (x b) (before b) (fine b l.is_allowed-2.ensures f.if-not-is_allowed-2.false-raw) (going b (λ z. omega (arith, o, z))) (on b) (start b).requires.2.count o c.both-creates.ensures n.enter_create.ensures
-
-pub same-requires : goal.same-requires
-same-requires c = search rules
-
-pub both-finishes-requires : goal.both-finishes-requires
-both-finishes-requires c = search rules
 
 pub returns : goal.returns
 returns c =

@@ -1,10 +1,10 @@
-use Prim.Native.Nat.{ℕ, ◌+◌, ◌≤◌, ◌<◌, ◌-◌}
+use Prim.Native.Nat.{ℕ, ◌+◌, ◌*◌, ◌≤◌, ◌<◌, ◌-◌}
 use mathlib.Core.Path.{◌≡◌, refl, sym, ◌∙◌, ap}
 use native.Mathlib.Omega.{arith}
-use borrow.Author.Rules.{rules}
 use borrow.Author.Tests.{not-true, not-false}
 use lib.ListN.{length, get_or}
 use lib.Dec.{eqb}
+use Rattle.plan.specs.declared.Instruction.{Instruction}
 use Rattle.plan.specs.declared.Plan.{Plan}
 use Rattle.plan.specs.Programs.{programs}
 use Rattle.plan.specs.Layout.{count_of}
@@ -12,66 +12,22 @@ use Rattle.plan.proofs.Parts.{tasks_of_lem, count_of_lem, instruction_of_lem}
 use Rattle.plan_value.specs.declared.instruction.Edition.{Edition}
 use Rattle.plan_value.specs.declared.pass.Entry.{Entry}
 use Rattle.plan_value.specs.Editions.{present_edition}
-use Rattle.plan_value.specs.Pass.{Seen, seen, next_seen, entry_at}
-use Rattle.plan_value.specs.Slots.{plan_in}
+use Rattle.plan_value.specs.Pass.{seen, next_seen, entry_at}
+use Rattle.plan_value.specs.Slots.{slot_in, plan_in}
 use Rattle.plan_value.proofs.Sized.{few_tasks, count_few}
 use Rattle.plan_value.proofs.Taken.{pass_counted}
 use Rattle.plan_value.proofs.Entries.{entry_is, pass_start, pass_row, pass_more, pass_stops, pass_ends}
 use Rattle.plan_value.proofs.slots.pass_slots.Goals as goal
-use Rattle.plan_value.proofs.slots.pass_slots.Goals.{After-next-p, After-of-x, At-loop-i, At-loop-k, Start}
 
--- an instruction is taken into the pass: the plan, the place, the instruction, and what is kept then
-module _ (c : After-next-p) where
-  abbrev at2 : At-loop-i
-  at2 = c.before.before.before.before.before.before.before
+-- an instruction that is read, where it stands
+abbrev entry : ℕ → ℕ → ℕ → Instruction → Entry
+entry k i count r = record { task = k + 1; last = eqb i (count - 1); instruction = r }
 
-  abbrev out : At-loop-k
-  out = at2.before.before.before.before
-
-  abbrev start : Start goal.the-invariant-loop-i goal.the-decreases-loop-i goal.the-invariant-loop-k goal.the-decreases-loop-k
-  start = out.before.before.before.before
-
-  abbrev plan : Plan
-  plan = let a = start.args in plan_in a.tasks a.lengths.now a.codes.now
-
-  abbrev k : ℕ
-  k = out.loop-k.k
-
-  abbrev i : ℕ
-  i = at2.loop-i.i
-
-  abbrev before : Seen
-  before = seen at2.loop-i.p at2.loop-i.parents at2.loop-i.senders at2.loop-i.receivers
-
-  abbrev after : Seen
-  after = seen c.next-p.result c.next-p.new.parents c.next-p.new.senders c.next-p.new.receivers
-
-  task : k < plan.tasks
-  task = omega arith
-
-  place : i < get_or plan.lengths k 0
-  place = omega arith
-
-  abbrev of : After-of-x
-  of = c.before.before.before.before
-
-  abbrev x : Entry
-  x = record { task = k + 1; last = eqb i (at2.wide8-count.result - 1); instruction = of.of-x.result }
-
-  here : x ≡ entry_at (programs plan) k i
-  here = entry_is (programs plan) k i refl (at2.loop-i.invariant.5 ∙ sym (count_of_lem plan k task)) (of.of-x.ensures ∙ sym (instruction_of_lem plan k i task place))
-
-  next : after ≡ next_seen present_edition x before
-  next = c.next-p.ensures ∙ ap (λ (e : Edition). next_seen e x before) out.present-edition.ensures
-
-pub wide8-n-requires : goal.wide8-n-requires
-wide8-n-requires c = search rules
-
-pub present-edition-requires : goal.present-edition-requires
-present-edition-requires c = search rules
-
-pub new-p-requires : goal.new-p-requires
-new-p-requires c = search rules
+-- it is the plan's
+here : (p : Plan) (k i count : ℕ) (r : Instruction) → k < p.tasks → i < get_or p.lengths k 0 → count ≡ get_or p.lengths k 0 → r ≡ slot_in p.codes (64 * k + i)
+    → entry k i count r ≡ entry_at (programs p) k i
+here p k i count r task place size e =
+    entry_is (programs p) k i refl (size ∙ sym (count_of_lem p k task)) (e ∙ sym (instruction_of_lem p k i task place))
 
 pub loop-k-init : goal.loop-k-init
 loop-k-init c =
@@ -83,9 +39,6 @@ loop-k-init c =
 
 pub bounds-lengths-k : goal.bounds-lengths-k
 bounds-lengths-k c = omega arith
-
-pub wide8-count-requires : goal.wide8-count-requires
-wide8-count-requires c = search rules
 
 pub overflow_cast-t : goal.overflow_cast-t
 overflow_cast-t c = omega arith
@@ -113,9 +66,6 @@ offset_bounds-codes-s c = omega arith
 pub bounds-codes-s : goal.bounds-codes-s
 bounds-codes-s c = omega arith
 
-pub of-x-requires : goal.of-x-requires
-of-x-requires c = search rules
-
 pub overflow_sub-entry : goal.overflow_sub-entry
 overflow_sub-entry c = omega arith
 
@@ -127,10 +77,18 @@ next-p-requires c =
 
 pub returns-then-not-p : goal.returns-then-not-p
 returns-then-not-p c =
-    let n = c.before.before in
-    let p = plan n in
-    pass_stops (programs p) present_edition p.tasks (k n) (i n) (at2 n).loop-i.invariant.6 (x n) (here n) (after n) (next n) refl
-    (sym (tasks_of_lem p)) (rw (tasks_of_lem p) (task n)) (rw (count_of_lem p (k n) (task n)) (place n)) (not-true n.next-p.result.instructions c.if-not-p.true)
+    let a = c.args in
+    let p = plan_in a.tasks a.lengths.now a.codes.now in
+    let l = c.loop-i in
+    let k = c.loop-k.k in
+    let x = entry k l.i c.wide8-count.result c.of-x.result in
+    let task : k < p.tasks = omega arith in
+    let place : l.i < get_or p.lengths k 0 = omega arith in
+    let next = c.next-p.ensures ∙ ap (λ (e : Edition). next_seen e x (seen l.p l.parents l.senders l.receivers)) c.present-edition.ensures in
+    pass_stops (programs p) present_edition p.tasks k l.i l.invariant.6 x
+    (here p k l.i c.wide8-count.result c.of-x.result task place l.invariant.5 c.of-x.ensures)
+    (seen c.next-p.result c.next-p.new.parents c.next-p.new.senders c.next-p.new.receivers) next refl
+    (sym (tasks_of_lem p)) (rw (tasks_of_lem p) task) (rw (count_of_lem p k task) place) (not-true c.next-p.result.instructions c.if-not-p.true)
 
 pub overflow_add-i : goal.overflow_add-i
 overflow_add-i c = omega arith
@@ -140,17 +98,24 @@ loop-i-smaller c = omega arith
 
 pub loop-i-preserved : goal.loop-i-preserved
 loop-i-preserved c =
-    let n = c.before.before in
-    let p = plan n in
-    let inv = (at2 n).loop-i.invariant in (
+    let a = c.args in
+    let p = plan_in a.tasks a.lengths.now a.codes.now in
+    let l = c.loop-i in
+    let inv = l.invariant in
+    let k = c.loop-k.k in
+    let x = entry k l.i c.wide8-count.result c.of-x.result in
+    let task : k < p.tasks = omega arith in
+    let place : l.i < get_or p.lengths k 0 = omega arith in
+    let next = c.next-p.ensures ∙ ap (λ (e : Edition). next_seen e x (seen l.p l.parents l.senders l.receivers)) c.present-edition.ensures in (
       omega arith,
       inv.1,
       inv.2,
       inv.3,
       inv.4,
       inv.5,
-      pass_more (programs p) present_edition p.tasks (k n) (i n) inv.6 (x n) (here n) (after n) (next n) (omega arith)
-          (not-false n.next-p.result.instructions c.if-not-p.false),
+      pass_more (programs p) present_edition p.tasks k l.i inv.6 x (here p k l.i c.wide8-count.result c.of-x.result task place inv.5 c.of-x.ensures)
+          (seen c.next-p.result c.next-p.new.parents c.next-p.new.senders c.next-p.new.receivers) next (omega arith)
+          (not-false c.next-p.result.instructions c.if-not-p.false),
     )
 
 pub overflow_add-k : goal.overflow_add-k

@@ -1,21 +1,11 @@
 -- `chase_packed`.
 use mathlib.Core.Path.{refl, ap}
 use native.Mathlib.Omega.{arith}
-use borrow.Author.Rules.{rules}
 use Rattle.planner.specs.Chases.{chase_size}
 use Rattle.planner.proofs.chases.chase_packed.Goals as goal
 
-pub enum_known-a : goal.enum_known-a
-enum_known-a c = search rules
-
 pub overflow_mul-result : goal.overflow_mul-result
 overflow_mul-result c = omega (arith, ap chase_size c.in-Written.is, c.requires)
-
-pub enum_told-1 : goal.enum_told-1
-enum_told-1 c = search rules
-
-pub enum_told-in-OutputShort : goal.enum_told-in-OutputShort
-enum_told-in-OutputShort c = search rules
 
 pub returns-in-Written : goal.returns-in-Written
 returns-in-Written c = rw c.in-Written.is (omega arith)

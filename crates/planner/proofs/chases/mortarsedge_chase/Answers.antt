@@ -1,21 +1,11 @@
 -- `mortarsedge_chase`.
 use mathlib.Core.Path.{◌∙◌, ap}
-use borrow.Author.Rules.{rules}
 use Rattle.planner.specs.Chases.{chase_packed}
 use Rattle.planner.proofs.ChaseSizes.{chase_few}
 use Rattle.planner.proofs.chases.mortarsedge_chase.Goals as goal
 
-pub write_chase-answer-requires : goal.write_chase-answer-requires
-write_chase-answer-requires c = search rules
-
 pub chase_packed-requires : goal.chase_packed-requires
 chase_packed-requires c = chase_few _ _ _ _ c.write_chase-answer.ensures.answer
-
-pub shape_of-plan : goal.shape_of-plan
-shape_of-plan c = search rules
-
-pub shape_of-steps : goal.shape_of-steps
-shape_of-steps c = search rules
 
 pub returns : goal.returns
 returns c =

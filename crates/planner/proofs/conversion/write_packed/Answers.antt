@@ -1,24 +1,11 @@
 -- `write_packed`.
 use mathlib.Core.Path.{ap}
 use native.Mathlib.Omega.{arith}
-use borrow.Author.Rules.{rules}
 use Rattle.plan.specs.Answers.{write_size}
 use Rattle.planner.proofs.conversion.write_packed.Goals as goal
 
-pub enum_known-a : goal.enum_known-a
-enum_known-a c = search rules
-
 pub overflow_mul-result : goal.overflow_mul-result
 overflow_mul-result c = omega (arith, ap write_size c.in-Written.is, c.requires)
-
-pub enum_known-a-in-Unwritten-1 : goal.enum_known-a-in-Unwritten-1
-enum_known-a-in-Unwritten-1 c = search rules
-
-pub number-requires : goal.number-requires
-number-requires c = search rules
-
-pub overflow_cast-result : goal.overflow_cast-result
-overflow_cast-result c = search rules
 
 pub returns-in-Written : goal.returns-in-Written
 returns-in-Written c = rw c.in-Written.is (omega arith)

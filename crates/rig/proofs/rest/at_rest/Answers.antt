@@ -26,15 +26,6 @@ returns-then-used-ne0 c = sym (quiet_network _ _ _ _ c.if-used-ne0.true)
 pub loop-k-init : goal.loop-k-init
 loop-k-init c = (search rules, below_none _)
 
-pub overflow_add-t : goal.overflow_add-t
-overflow_add-t c = search rules
-
-pub run_refusal-q-requires : goal.run_refusal-q-requires
-run_refusal-q-requires c = search rules
-
-pub is_accepted-requires : goal.is_accepted-requires
-is_accepted-requires c = search rules
-
 pub returns-then-is_accepted : goal.returns-then-is_accepted
 returns-then-is_accepted c =
     let l = c.before.before.before in

@@ -11,24 +11,6 @@ build-requires c =
     let s = c.before.before.before.before.before.before.before in
     (refl, rw s.requires.0 (few_ends s.args.p s.requires.1))
 
-pub no_tables-none-requires : goal.no_tables-none-requires
-no_tables-none-requires c = search rules
-
-pub locate-requires : goal.locate-requires
-locate-requires c = search rules
-
-pub start_tasks-tasks-requires : goal.start_tasks-tasks-requires
-start_tasks-tasks-requires c = search rules
-
-pub no_channels-channels-requires : goal.no_channels-channels-requires
-no_channels-channels-requires c = search rules
-
-pub start_parents-kept-requires : goal.start_parents-kept-requires
-start_parents-kept-requires c = search rules
-
-pub no_messages-network-requires : goal.no_messages-network-requires
-no_messages-network-requires c = search rules
-
 pub returns : goal.returns
 returns c =
     let parents = c.before in

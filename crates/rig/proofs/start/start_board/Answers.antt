@@ -8,31 +8,10 @@ use Rattle.rig.proofs.start.start_board.Goals as goal
 pub loop-k-init : goal.loop-k-init
 loop-k-init c = (omega arith, rw c.requires unborn_none)
 
-pub overflow_mul-board : goal.overflow_mul-board
-overflow_mul-board c = search rules
-
-pub overflow_add-board : goal.overflow_add-board
-overflow_add-board c = search rules
-
-pub offset_bounds-board-k : goal.offset_bounds-board-k
-offset_bounds-board-k c = search rules
-
-pub bounds-board-k : goal.bounds-board-k
-bounds-board-k c = search rules
-
-pub overflow_add-k : goal.overflow_add-k
-overflow_add-k c = search rules
-
-pub loop-k-smaller : goal.loop-k-smaller
-loop-k-smaller c = search rules
-
 pub loop-k-preserved : goal.loop-k-preserved
 loop-k-preserved c =
     let l = c.before in
     (omega arith, unborn_more l.loop-k.k l.loop-k.board (omega arith) l.loop-k.invariant.1)
-
-pub first_task-first-requires : goal.first_task-first-requires
-first_task-first-requires c = search rules
 
 pub put_task-requires : goal.put_task-requires
 put_task-requires c = (omega arith, c.loop-k.invariant.1.whole)

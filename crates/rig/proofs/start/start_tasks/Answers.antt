@@ -10,18 +10,6 @@ use Rattle.rig.specs.start.Parts.{start_tasks}
 use borrow.Author.Rules.{rules}
 use Rattle.rig.proofs.start.start_tasks.Goals as goal
 
-pub unborn-none-requires : goal.unborn-none-requires
-unborn-none-requires c = search rules
-
-pub first_task-first-requires : goal.first_task-first-requires
-first_task-first-requires c = search rules
-
-pub bounds-records-0 : goal.bounds-records-0
-bounds-records-0 c = search rules
-
-pub bounds-ready-0 : goal.bounds-ready-0
-bounds-ready-0 c = search rules
-
 -- the first set has task 1 alone
 one_ready : start_tasks ≡ record { records = set (replicate 64 unborn) 0 (born (processor_id 1) unknown); ready = set (replicate 6 0) 0 1 }
 unfolding task_stored task_in ready_sets ready_then inserted member

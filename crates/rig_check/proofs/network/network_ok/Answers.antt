@@ -1,17 +1,15 @@
 use Prim.Native.Nat.{◌-◌}
 use mathlib.Core.Path.{◌≡◌, sym, ◌∙◌}
-use mathlib.Core.Bool.{true}
 use native.Mathlib.Omega.{arith}
-use lib.ListN.{length, length-map}
+use lib.ListN.{length}
 use borrow.Author.Rules.{rules}
 use borrow.Author.Tests.{not-true, not-false}
-use Rattle.base.specs.Range.{below}
 use Rattle.base.proofs.Tests.{below_none, below_more}
 use Rattle.rig_check.proofs.network.Network.{network_over, network_stops, network_ends}
 use Rattle.rig_check.proofs.network.network_ok.Goals as goal
 
 pub returns-then-used-gt256 : goal.returns-then-used-gt256
-returns-then-used-gt256 c = let a = c.args in network_over a.n a.m a.t3 c.if-used-gt256.true
+returns-then-used-gt256 c = let a = c.args in network_over a.n a.m a.x c.if-used-gt256.true
 
 pub loop-i-init : goal.loop-i-init
 loop-i-init c = (omega arith, below_none _)
@@ -27,11 +25,9 @@ message_ok-requires c = search rules
 
 pub returns-then-not-message_ok : goal.returns-then-not-message_ok
 returns-then-not-message_ok c =
-    let l = c.before.before.before.before in
-    let s = l.before.before in
-    let a = s.args in
-    let h : length a.t3.slots ≡ 256 = simp length-map at s.well-formed.1.1.0.1.1.0.1.0.1 in
-    network_stops a.n a.m a.t3 l.if-used-gt256.false h l.loop-i.i c.loop-i-test.true
+    let a = c.args in
+    let h : length a.x.slots ≡ 256 = omega arith in
+    network_stops a.n a.m a.x c.if-used-gt256.false h c.loop-i.i c.loop-i-test.true
     (sym c.message_ok.ensures ∙ not-true c.message_ok.result c.if-not-message_ok.true-raw)
 
 pub overflow_add-i : goal.overflow_add-i
@@ -41,17 +37,14 @@ pub loop-i-smaller : goal.loop-i-smaller
 loop-i-smaller c = omega arith
 
 pub loop-i-preserved : goal.loop-i-preserved
-loop-i-preserved c =
-    let l = c.before.before.before.before in (
-      omega arith,
-      below_more _ l.loop-i.i l.loop-i.invariant.1 (sym c.message_ok.ensures ∙ not-false c.message_ok.result c.if-not-message_ok.false-raw),
-    )
+loop-i-preserved c = (
+  omega arith,
+  below_more _ c.loop-i.i c.loop-i.invariant.1 (sym c.message_ok.ensures ∙ not-false c.message_ok.result c.if-not-message_ok.false-raw),
+)
 
 pub returns : goal.returns
 returns c =
-    let l = c.before in
-    let s = l.before.before in
-    let a = s.args in
-    let h : length a.t3.slots ≡ 256 = simp length-map at s.well-formed.1.1.0.1.1.0.1.0.1 in
-    let e : l.loop-i.i ≡ a.t3.used = omega arith in
-    network_ends a.n a.m a.t3 l.if-used-gt256.false h (rw e at l.loop-i.invariant.1)
+    let a = c.args in
+    let h : length a.x.slots ≡ 256 = omega arith in
+    let e : c.loop-i.i ≡ a.x.used = omega arith in
+    network_ends a.n a.m a.x c.if-used-gt256.false h (rw e at c.loop-i.invariant.1)

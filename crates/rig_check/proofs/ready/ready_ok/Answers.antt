@@ -1,12 +1,10 @@
 use Prim.Native.Nat.{ℕ, ◌+◌, ◌-◌}
-use mathlib.Core.Bool.{true}
 use mathlib.Core.Path.{◌≡◌, refl, sym, ◌∙◌}
 use native.Mathlib.Omega.{arith}
 use native.Mathlib.Numerals.{add-one}
 use lib.Dec.{eqb}
 use lib.ListN.{get_or}
 use borrow.Author.Tests.{eq-eqb, ne_eqb}
-use Rattle.base.specs.Range.{below}
 use Rattle.base.specs.Sets.{set_of}
 use Rattle.base.proofs.Tests.{below_none, below_more, below_fails}
 use Rattle.rules.specs.declared.system.TaskTable.{TaskTable}
@@ -43,10 +41,9 @@ compared m ts d e f = rw (e, f, add-one d) refl
 pub returns-then-stored-ready_set : goal.returns-then-stored-ready_set
 unfolding ready_ok
 returns-then-stored-ready_set c =
-    let l = c.before.before.before.before.before in
-    let a = l.args in
-    let e = compared a.m a.t2 l.loop-d.d c.wide8-k.ensures c.ready_set.ensures in
-    sym (below_fails (set_ok a.m a.t2) 6 l.loop-d.d (omega arith) (sym e ∙ ne_eqb _ _ c.if-stored-ready_set.true))
+    let a = c.args in
+    let e = compared a.m a.ts c.loop-d.d c.wide8-k.ensures c.ready_set.ensures in
+    sym (below_fails (set_ok a.m a.ts) 6 c.loop-d.d (omega arith) (sym e ∙ ne_eqb _ _ c.if-stored-ready_set.true))
 
 pub overflow_add-d-in-loop-d : goal.overflow_add-d-in-loop-d
 overflow_add-d-in-loop-d c = omega arith
@@ -56,10 +53,9 @@ loop-d-smaller c = omega arith
 
 pub loop-d-preserved : goal.loop-d-preserved
 loop-d-preserved c =
-    let l = c.before.before.before.before.before in
-    let a = l.args in
-    let e = compared a.m a.t2 l.loop-d.d c.wide8-k.ensures c.ready_set.ensures in
-    (omega arith, below_more _ _ l.loop-d.invariant.1 (sym e ∙ eq-eqb _ _ c.if-stored-ready_set.false))
+    let a = c.args in
+    let e = compared a.m a.ts c.loop-d.d c.wide8-k.ensures c.ready_set.ensures in
+    (omega arith, below_more _ _ c.loop-d.invariant.1 (sym e ∙ eq-eqb _ _ c.if-stored-ready_set.false))
 
 pub returns : goal.returns
 unfolding ready_ok

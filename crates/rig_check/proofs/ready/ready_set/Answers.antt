@@ -8,7 +8,7 @@ use Rattle.plan.specs.declared.ProcessorId.{ProcessorId}
 use Rattle.rules.specs.declared.system.TaskTable.{TaskTable}
 use Rattle.rules.specs.Numbers.{task_id}
 use Rattle.rules.specs.Tasks.{no_task}
-use Rattle.rules.specs.Systems.{task_in, is_ready_at}
+use Rattle.rules.specs.Systems.{is_ready_at}
 use Rattle.rules_laws.proofs.TaskAt.{task_in_some}
 use borrow.Author.Rules.{rules}
 use Rattle.rig_check.proofs.ready.ready_set.Invariants.{ready_in}
@@ -51,11 +51,8 @@ next ts d t {k} e =
 pub loop-t-preserved : goal.loop-t-preserved
 unfolding set_of
 loop-t-preserved c =
-    let w = c.before.before.before in
-    let l = c.before.before.before.before.before in
-    let a = l.args in
-    let e = next a.t2 a.d l.loop-t.t w.wide8-k.ensures in
-    (omega arith, c.insert_where-more.ensures ∙ rw (c.is_ready_at.ensures, l.loop-t.invariant.1, e, add-one l.loop-t.t) refl)
+    let e = next c.args.ts c.args.d c.loop-t.t c.wide8-k.ensures in
+    (omega arith, c.insert_where-more.ensures ∙ rw (c.is_ready_at.ensures, c.loop-t.invariant.1, e, add-one c.loop-t.t) refl)
 
 pub returns : goal.returns
 returns c = let l = c.loop-t in let e : l.t ≡ c.args.m = omega arith in l.invariant.1 ∙ rw e refl

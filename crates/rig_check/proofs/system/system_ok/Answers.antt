@@ -20,10 +20,9 @@ plan_ok-requires c = search rules
 pub returns-then-not-plan_ok : goal.returns-then-not-plan_ok
 unfolding system_ok
 returns-then-not-plan_ok c =
-    let d = c.before.before.before in
     rw (
-      ← d.processors_ok.ensures,
-      not-false d.processors_ok.result d.if-not-processors_ok.false-raw,
+      ← c.processors_ok.ensures,
+      not-false c.processors_ok.result c.if-not-processors_ok.false-raw,
       ← c.plan_ok.ensures,
       not-true c.plan_ok.result c.if-not-plan_ok.true-raw,
     )
@@ -31,19 +30,16 @@ returns-then-not-plan_ok c =
 
 pub tasks_ok-requires : goal.tasks_ok-requires
 tasks_ok-requires c =
-    let d = c.before.before.before in
-    sizes_passed (programs d.args.t1.plan) (sym c.plan_ok.ensures ∙ not-false c.plan_ok.result c.if-not-plan_ok.false-raw)
+    sizes_passed (programs c.args.r.plan) (sym c.plan_ok.ensures ∙ not-false c.plan_ok.result c.if-not-plan_ok.false-raw)
 
 pub returns-then-not-tasks_ok : goal.returns-then-not-tasks_ok
 unfolding system_ok
 returns-then-not-tasks_ok c =
-    let e = c.before.before in
-    let d = e.before.before.before in
     rw (
-      ← d.processors_ok.ensures,
-      not-false d.processors_ok.result d.if-not-processors_ok.false-raw,
-      ← e.plan_ok.ensures,
-      not-false e.plan_ok.result e.if-not-plan_ok.false-raw,
+      ← c.processors_ok.ensures,
+      not-false c.processors_ok.result c.if-not-processors_ok.false-raw,
+      ← c.plan_ok.ensures,
+      not-false c.plan_ok.result c.if-not-plan_ok.false-raw,
       ← c.tasks_ok.ensures,
       not-true c.tasks_ok.result c.if-not-tasks_ok.true-raw,
     )
@@ -51,23 +47,18 @@ returns-then-not-tasks_ok c =
 
 pub origins_ok-requires : goal.origins_ok-requires
 origins_ok-requires c =
-    let e = c.before.before in
-    let d = e.before.before.before in
-    sizes_passed (programs d.args.t1.plan) (sym e.plan_ok.ensures ∙ not-false e.plan_ok.result e.if-not-plan_ok.false-raw)
+    sizes_passed (programs c.args.r.plan) (sym c.plan_ok.ensures ∙ not-false c.plan_ok.result c.if-not-plan_ok.false-raw)
 
 pub returns-then-not-origins_ok : goal.returns-then-not-origins_ok
 unfolding system_ok
 returns-then-not-origins_ok c =
-    let f = c.before.before in
-    let e = f.before.before in
-    let d = e.before.before.before in
     rw (
-      ← d.processors_ok.ensures,
-      not-false d.processors_ok.result d.if-not-processors_ok.false-raw,
-      ← e.plan_ok.ensures,
-      not-false e.plan_ok.result e.if-not-plan_ok.false-raw,
-      ← f.tasks_ok.ensures,
-      not-false f.tasks_ok.result f.if-not-tasks_ok.false-raw,
+      ← c.processors_ok.ensures,
+      not-false c.processors_ok.result c.if-not-processors_ok.false-raw,
+      ← c.plan_ok.ensures,
+      not-false c.plan_ok.result c.if-not-plan_ok.false-raw,
+      ← c.tasks_ok.ensures,
+      not-false c.tasks_ok.result c.if-not-tasks_ok.false-raw,
       ← c.origins_ok.ensures,
       not-true c.origins_ok.result c.if-not-origins_ok.true-raw,
     )
@@ -81,9 +72,8 @@ parents_ok-family-requires c = search rules
 
 pub ready_ok-ready-requires : goal.ready_ok-ready-requires
 ready_ok-ready-requires c =
-    let e = c.before.before.before.before.before.before.before.before.before.before.before in
-    let r = e.args.t1 in
-    few_tasks r (sizes_passed (programs r.plan) (sym e.plan_ok.ensures ∙ not-false e.plan_ok.result e.if-not-plan_ok.false-raw))
+    let r = c.args.r in
+    few_tasks r (sizes_passed (programs r.plan) (sym c.plan_ok.ensures ∙ not-false c.plan_ok.result c.if-not-plan_ok.false-raw))
 
 pub all_at_most-chosen-requires : goal.all_at_most-chosen-requires
 all_at_most-chosen-requires c = search rules
@@ -112,21 +102,15 @@ both-requires-2 c = search rules
 pub returns : goal.returns
 unfolding system_ok chosen_ok
 returns c =
-    let n = c.before.before.before.before.before.before in
-    let k = n.before.before.before.before.before in
-    let o = k.before.before.before.before.before.before.before.before in
-    let f = o.before.before in
-    let e = f.before.before in
-    let d = e.before.before.before in
     rw (
-      ← d.processors_ok.ensures,
-      not-false d.processors_ok.result d.if-not-processors_ok.false-raw,
-      ← e.plan_ok.ensures,
-      not-false e.plan_ok.result e.if-not-plan_ok.false-raw,
-      ← f.tasks_ok.ensures,
-      not-false f.tasks_ok.result f.if-not-tasks_ok.false-raw,
-      ← o.origins_ok.ensures,
-      not-false o.origins_ok.result o.if-not-origins_ok.false-raw,
+      ← c.processors_ok.ensures,
+      not-false c.processors_ok.result c.if-not-processors_ok.false-raw,
+      ← c.plan_ok.ensures,
+      not-false c.plan_ok.result c.if-not-plan_ok.false-raw,
+      ← c.tasks_ok.ensures,
+      not-false c.tasks_ok.result c.if-not-tasks_ok.false-raw,
+      ← c.origins_ok.ensures,
+      not-false c.origins_ok.result c.if-not-origins_ok.false-raw,
     )
     (c.both-2.ensures
     ∙ rw (
@@ -135,10 +119,10 @@ returns c =
       c.both-last.ensures,
       c.both.ensures,
       c.both-mail.ensures,
-      n.network_ok.ensures,
-      n.all_at_most-chosen.ensures,
-      k.ready_ok-ready.ensures,
-      k.parents_ok-family.ensures,
-      k.channel_entries_ok-kept.ensures,
+      c.network_ok.ensures,
+      c.all_at_most-chosen.ensures,
+      c.ready_ok-ready.ensures,
+      c.parents_ok-family.ensures,
+      c.channel_entries_ok-kept.ensures,
     )
     refl)

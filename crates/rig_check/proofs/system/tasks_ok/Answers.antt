@@ -4,7 +4,6 @@ use mathlib.Core.Bool.{Bool, true, false}
 use native.Mathlib.Omega.{arith}
 use borrow.Author.Rules.{rules}
 use borrow.Author.Tests.{not-true, not-false}
-use Rattle.base.specs.Range.{below}
 use Rattle.base.proofs.Tests.{below_none, below_more, below_fails}
 use Rattle.rig_check.proofs.system.EachTask.{record_ok, tasks_places, record_with, few_tasks, short_program}
 use Rattle.rig_check.proofs.system.tasks_ok.Goals as goal
@@ -24,18 +23,14 @@ bounds-ts-k c = let s = c.before.before.before.before.before in omega (arith, fe
 
 pub last_kind-kind-requires : goal.last_kind-kind-requires
 last_kind-kind-requires c =
-    let i = c.before.before.before.before in
-    let l = i.before in
-    let s = l.before.before.before.before in
-    let w = l.wide8-end.ensures in
-    let q : l.loop-k.k < s.args.r.plan.tasks = omega (arith, i.loop-k-test.true) in
-    (omega (arith, few_tasks s.args.r s.requires), short_program s.args.r s.requires l.loop-k.k q)
+    let r = c.args.r in
+    let w = c.wide8-end.ensures in
+    let q : c.loop-k.k < r.plan.tasks = omega (arith, c.loop-k-test.true) in
+    (omega (arith, few_tasks r c.requires), short_program r c.requires c.loop-k.k q)
 
 pub bounds-p-k : goal.bounds-p-k
 bounds-p-k c =
-    let i = c.before.before.before.before.before in
-    let s = i.before.before.before.before.before in
-    omega (arith, i.wide8-end.ensures, i.loop-k-test.true, few_tasks s.args.r s.requires)
+    omega (arith, c.wide8-end.ensures, c.loop-k-test.true, few_tasks c.args.r c.requires)
 
 pub task_ok-requires : goal.task_ok-requires
 task_ok-requires c = search rules
@@ -45,18 +40,14 @@ tested : (t : After-task_ok) (b : Bool) → t.task_ok.result ≡ b
     → let r = t.args.r in
     record_ok r.processors r.plan r.tasks t.loop-k.k ≡ b
 tested t b e =
-    let k = t.before.before in
-    let l = k.before.before.before.before.before.before in
-    sym ((rw k.last_kind-kind.ensures at t.task_ok.ensures) ∙ record_with l.args.r l.loop-k.k) ∙ e
+    sym ((rw t.last_kind-kind.ensures at t.task_ok.ensures) ∙ record_with t.args.r t.loop-k.k) ∙ e
 
 pub returns-then-not-task_ok : goal.returns-then-not-task_ok
 returns-then-not-task_ok c =
-    let i = c.before.before.before.before.before.before.before.before in
-    let l = i.before in
-    let r = l.args.r in
-    let w = l.wide8-end.ensures in
-    let q : l.loop-k.k < r.plan.tasks = omega (arith, i.loop-k-test.true) in
-    sym (tasks_places r ∙ below_fails (record_ok r.processors r.plan r.tasks) r.plan.tasks l.loop-k.k q (tested c.before false (not-true c.task_ok.result c.if-not-task_ok.true-raw)))
+    let r = c.args.r in
+    let w = c.wide8-end.ensures in
+    let q : c.loop-k.k < r.plan.tasks = omega (arith, c.loop-k-test.true) in
+    sym (tasks_places r ∙ below_fails (record_ok r.processors r.plan r.tasks) r.plan.tasks c.loop-k.k q (tested c.before false (not-true c.task_ok.result c.if-not-task_ok.true-raw)))
 
 pub overflow_add-k : goal.overflow_add-k
 overflow_add-k c = omega (arith, c.loop-k-test.true)
@@ -65,12 +56,10 @@ pub loop-k-smaller : goal.loop-k-smaller
 loop-k-smaller c = omega (arith, c.loop-k-test.true)
 
 pub loop-k-preserved : goal.loop-k-preserved
-loop-k-preserved c =
-    let i = c.before.before.before.before.before.before.before.before in
-    let l = i.before in (
-      omega (arith, l.wide8-end.ensures, i.loop-k-test.true),
-      below_more _ l.loop-k.k l.loop-k.invariant.1 (tested c.before true (not-false c.task_ok.result c.if-not-task_ok.false-raw)),
-    )
+loop-k-preserved c = (
+  omega (arith, c.wide8-end.ensures, c.loop-k-test.true),
+  below_more _ c.loop-k.k c.loop-k.invariant.1 (tested c.before true (not-false c.task_ok.result c.if-not-task_ok.false-raw)),
+)
 
 pub returns : goal.returns
 returns c =

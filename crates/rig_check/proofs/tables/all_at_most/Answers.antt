@@ -1,11 +1,8 @@
 use Prim.Native.Nat.{◌-◌}
 use mathlib.Core.Path.{◌≡◌}
-use mathlib.Core.Bool.{true}
 use native.Mathlib.Omega.{arith}
-use lib.Dec.{leb}
 use lib.ListN.{length}
 use borrow.Author.Tests.{lt-leb, le-leb}
-use Rattle.base.specs.Range.{below}
 use Rattle.base.proofs.Tests.{below_none, below_more}
 use Rattle.base.proofs.Scans.{every_stops, every_ends}
 use Rattle.rig_check.proofs.tables.all_at_most.Invariants.{passes}

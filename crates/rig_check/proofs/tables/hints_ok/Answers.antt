@@ -1,11 +1,9 @@
 use Prim.Native.Nat.{◌-◌}
 use mathlib.Core.Path.{◌≡◌, sym, ◌∙◌}
-use mathlib.Core.Bool.{true}
 use native.Mathlib.Omega.{arith}
 use lib.ListN.{length}
 use borrow.Author.Rules.{rules}
 use borrow.Author.Tests.{not-true, not-false}
-use Rattle.base.specs.Range.{below}
 use Rattle.base.proofs.Tests.{below_none, below_more}
 use Rattle.base.proofs.Scans.{pairs_stop, pairs_end}
 use Rattle.rig_check.proofs.tables.hints_ok.Invariants.{passes}

@@ -2,11 +2,7 @@ use mathlib.Core.Path.{refl, ◌∙◌}
 use native.Mathlib.Omega.{arith}
 use Rattle.rules.specs.Sound.{chosen_ok}
 use Rattle.rig_read.proofs.Together.{few_opened, short_opened, tables_opened, together}
-use borrow.Author.Rules.{rules}
 use Rattle.rig_read.proofs.check.passes.Goals as goal
-
-pub bytes_ok-bytes-requires : goal.bytes_ok-bytes-requires
-bytes_ok-bytes-requires c = search rules
 
 pub board_ok-entries-requires : goal.board_ok-entries-requires
 board_ok-entries-requires c = let o = c.requires in (few_opened o, short_opened o)
@@ -14,38 +10,10 @@ board_ok-entries-requires c = let o = c.requires in (few_opened o, short_opened 
 pub tables_ok-tables-requires : goal.tables_ok-tables-requires
 tables_ok-tables-requires c = tables_opened c.requires
 
-pub slice_bounds-all_at_most-end : goal.slice_bounds-all_at_most-end
-slice_bounds-all_at_most-end c = search rules
-
-pub all_at_most-choices-requires : goal.all_at_most-choices-requires
-all_at_most-choices-requires c = search rules
-
-pub mail_ok-requires : goal.mail_ok-requires
-mail_ok-requires c = search rules
-
-pub both-mail-requires : goal.both-mail-requires
-both-mail-requires c = search rules
-
-pub processors_ok-requires : goal.processors_ok-requires
-processors_ok-requires c = search rules
-
-pub both-last-requires : goal.both-last-requires
-both-last-requires c = search rules
-
-pub both-requires : goal.both-requires
-both-requires c = search rules
-
-pub both-requires-2 : goal.both-requires-2
-both-requires-2 c = search rules
-
-pub both-requires-3 : goal.both-requires-3
-both-requires-3 c = search rules
-
 pub returns : goal.returns
 unfolding chosen_ok
 returns c =
-    let known = c.shared_slice_known-1.given in
-    rw (together c.requires (λ i. omega (arith, known i)))
+    rw (together c.requires (λ i. omega (arith, c.type_inv.rig i)))
     (c.both-3.ensures
     ∙ rw (
       c.both-2.ensures,

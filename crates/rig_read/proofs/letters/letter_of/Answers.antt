@@ -3,29 +3,7 @@ use Rattle.image.specs.Letters.{letter_of}
 use native.Mathlib.Omega.{arith}
 use mathlib.Core.Path.{◌≡◌, refl}
 use Prim.Native.Nat.{◌%◌}
-use borrow.Author.Rules.{rules}
 use Rattle.rig_read.proofs.letters.letter_of.Goals as goal
-
-pub low8-kind-requires : goal.low8-kind-requires
-low8-kind-requires c = search rules
-
-pub low8-number-requires : goal.low8-number-requires
-low8-number-requires c = search rules
-
-pub low8-requires : goal.low8-requires
-low8-requires c = search rules
-
-pub low8-requires-2 : goal.low8-requires-2
-low8-requires-2 c = search rules
-
-pub low16-moves-requires : goal.low16-moves-requires
-low16-moves-requires c = search rules
-
-pub low8-requires-in-1 : goal.low8-requires-in-1
-low8-requires-in-1 c = search rules
-
-pub word_of-word-requires : goal.word_of-word-requires
-word_of-word-requires c = search rules
 
 pub returns-in-1 : goal.returns-in-1
 unfolding letter_of

@@ -1,6 +1,5 @@
 use Prim.Native.Nat.{◌-◌}
 use native.Mathlib.Omega.{arith}
-use borrow.Author.Rules.{rules}
 use Rattle.image.specs.Numbers.{numbers_at}
 use Rattle.image.specs.Image.{board_in}
 use Rattle.rig_read.proofs.Filling.{filled_none, filled_more, filled_all}
@@ -8,27 +7,6 @@ use Rattle.rig_read.proofs.parts.read_board.Goals as goal
 
 pub loop-k-init : goal.loop-k-init
 loop-k-init c = (omega arith, filled_none c.requires.1)
-
-pub overflow_mul-k : goal.overflow_mul-k
-overflow_mul-k c = search rules
-
-pub overflow_add-k : goal.overflow_add-k
-overflow_add-k c = search rules
-
-pub number8-requires : goal.number8-requires
-number8-requires c = search rules
-
-pub offset_bounds-board-k : goal.offset_bounds-board-k
-offset_bounds-board-k c = search rules
-
-pub bounds-board-k : goal.bounds-board-k
-bounds-board-k c = search rules
-
-pub overflow_add-k-in-loop-k : goal.overflow_add-k-in-loop-k
-overflow_add-k-in-loop-k c = search rules
-
-pub loop-k-smaller : goal.loop-k-smaller
-loop-k-smaller c = search rules
 
 pub loop-k-preserved : goal.loop-k-preserved
 loop-k-preserved c =

@@ -1,6 +1,5 @@
 use Prim.Native.Nat.{◌-◌}
 use native.Mathlib.Omega.{arith}
-use borrow.Author.Rules.{rules}
 use Rattle.image.specs.Numbers.{numbers_at}
 use Rattle.rig_read.proofs.Places.{byte_in}
 use Rattle.rig_read.proofs.Filling.{filled_none, filled_more, filled_all}
@@ -8,21 +7,6 @@ use Rattle.rig_read.proofs.parts.read_bytes.Goals as goal
 
 pub loop-k-init : goal.loop-k-init
 loop-k-init c = (omega arith, filled_none c.requires.1)
-
-pub overflow_add-table : goal.overflow_add-table
-overflow_add-table c = search rules
-
-pub bounds-rig-at : goal.bounds-rig-at
-bounds-rig-at c = search rules
-
-pub bounds-table-k : goal.bounds-table-k
-bounds-table-k c = search rules
-
-pub overflow_add-k : goal.overflow_add-k
-overflow_add-k c = search rules
-
-pub loop-k-smaller : goal.loop-k-smaller
-loop-k-smaller c = search rules
 
 pub loop-k-preserved : goal.loop-k-preserved
 loop-k-preserved c =

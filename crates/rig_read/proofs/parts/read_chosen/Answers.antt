@@ -1,7 +1,6 @@
 use mathlib.Core.Path.{refl}
 use Prim.Native.Nat.{◌-◌}
 use native.Mathlib.Omega.{arith}
-use borrow.Author.Rules.{rules}
 use Rattle.image.specs.Numbers.{numbers_at}
 use Rattle.image.specs.Image.{chosen_in}
 use Rattle.rig_read.proofs.Places.{byte_in}
@@ -10,21 +9,6 @@ use Rattle.rig_read.proofs.parts.read_chosen.Goals as goal
 
 pub loop-k-init : goal.loop-k-init
 loop-k-init c = (omega arith, filled_none refl)
-
-pub overflow_add-chosen : goal.overflow_add-chosen
-overflow_add-chosen c = search rules
-
-pub bounds-rig-k : goal.bounds-rig-k
-bounds-rig-k c = search rules
-
-pub bounds-chosen-k : goal.bounds-chosen-k
-bounds-chosen-k c = search rules
-
-pub overflow_add-k : goal.overflow_add-k
-overflow_add-k c = search rules
-
-pub loop-k-smaller : goal.loop-k-smaller
-loop-k-smaller c = search rules
 
 pub loop-k-preserved : goal.loop-k-preserved
 loop-k-preserved c =

@@ -1,33 +1,11 @@
 use Prim.Native.Nat.{◌-◌}
 use native.Mathlib.Omega.{arith}
-use borrow.Author.Rules.{rules}
 use Rattle.image.specs.Numbers.{numbers_at}
 use Rattle.rig_read.proofs.Filling.{filled_none, filled_more, filled_all}
 use Rattle.rig_read.proofs.parts.read_counts.Goals as goal
 
 pub loop-k-init : goal.loop-k-init
 loop-k-init c = (omega arith, filled_none c.requires.1)
-
-pub overflow_mul-k : goal.overflow_mul-k
-overflow_mul-k c = search rules
-
-pub overflow_add-at : goal.overflow_add-at
-overflow_add-at c = search rules
-
-pub number2-requires : goal.number2-requires
-number2-requires c = search rules
-
-pub offset_bounds-table-k : goal.offset_bounds-table-k
-offset_bounds-table-k c = search rules
-
-pub bounds-table-k : goal.bounds-table-k
-bounds-table-k c = search rules
-
-pub overflow_add-k : goal.overflow_add-k
-overflow_add-k c = search rules
-
-pub loop-k-smaller : goal.loop-k-smaller
-loop-k-smaller c = search rules
 
 pub loop-k-preserved : goal.loop-k-preserved
 loop-k-preserved c =

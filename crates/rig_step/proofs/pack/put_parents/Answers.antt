@@ -52,7 +52,7 @@ loop-k-preserved c =
 pub returns : goal.returns
 returns c =
     let i = c.loop-k.invariant in
-    let f = c.well-formed.1.0.1.1 in
+    let f = c.well_formed.1.0.1.1 in
     let long : LongFor c.args.parents =
     record {
       hintprocessors = simp length-map at f.0.1.0.1;

@@ -38,4 +38,4 @@ loop-k-preserved c =
 pub returns : goal.returns
 returns c =
     let i = c.loop-k.invariant in
-    (i.1, agree_all (omega arith) (i.3 c.well-formed.1.0.1.0.1), i.4, i.2)
+    (i.1, agree_all (omega arith) (i.3 c.well_formed.1.0.1.0.1), i.4, i.2)

@@ -1,46 +1,6 @@
 -- `first_number`, letter by letter.
 use Rattle.image.specs.Letters.{letter_numbers}
-use borrow.Author.Rules.{rules}
 use Rattle.rig_write.proofs.letters.first_number.Goals as goal
-
-pub enum_told-1 : goal.enum_told-1
-enum_told-1 c = search rules
-
-pub enum_known-m : goal.enum_known-m
-enum_known-m c = search rules
-
-pub offer_word-requires : goal.offer_word-requires
-offer_word-requires c = search rules
-
-pub enum_known-m-in-Advert-1 : goal.enum_known-m-in-Advert-1
-enum_known-m-in-Advert-1 c = search rules
-
-pub letter_word-requires : goal.letter_word-requires
-letter_word-requires c = search rules
-
-pub enum_known-m-in-ReadyToReceive-1 : goal.enum_known-m-in-ReadyToReceive-1
-enum_known-m-in-ReadyToReceive-1 c = search rules
-
-pub call_word-requires : goal.call_word-requires
-call_word-requires c = search rules
-
-pub enum_known-m-in-Data-1 : goal.enum_known-m-in-Data-1
-enum_known-m-in-Data-1 c = search rules
-
-pub letter_word-requires-in-Data : goal.letter_word-requires-in-Data
-letter_word-requires-in-Data c = search rules
-
-pub enum_known-m-in-Terminated-1 : goal.enum_known-m-in-Terminated-1
-enum_known-m-in-Terminated-1 c = search rules
-
-pub ended_word-requires : goal.ended_word-requires
-ended_word-requires c = search rules
-
-pub enum_known-m-in-Migration-1 : goal.enum_known-m-in-Migration-1
-enum_known-m-in-Migration-1 c = search rules
-
-pub letter_word-requires-in-Migration : goal.letter_word-requires-in-Migration
-letter_word-requires-in-Migration c = search rules
 
 pub returns-in-Empty : goal.returns-in-Empty
 unfolding letter_numbers

@@ -9,37 +9,19 @@ use Rattle.rig_write.proofs.Posts.{one_posted, round_skipped, round_posted}
 use borrow.Author.Rules.{rules}
 use Rattle.rig_write.proofs.mail.post_round.Goals as goal
 
-pub skips-requires : goal.skips-requires
-skips-requires c = search rules
-
 pub returns-then-skips : goal.returns-then-skips
 returns-then-skips c =
-    let s = c.before in
-    let a = s.args in
-    round_skipped a.x a.j a.mail-1.now a.free (sym s.skips.ensures ∙ c.if-skips.true)
-
-pub message-slot-requires : goal.message-slot-requires
-message-slot-requires c = search rules
+    let a = c.args in
+    round_skipped a.x a.j a.mail.now a.free (sym c.skips.ensures ∙ c.if-skips.true)
 
 pub put_letter-requires : goal.put_letter-requires
 put_letter-requires c =
-    let m = c.before in
-    let s = m.before.before in
-    let a = s.args in
-    let one = one_posted a.x a.j (sym s.skips.ensures ∙ m.if-skips.false) _ m.message-slot.ensures in
+    let a = c.args in
+    let one = one_posted a.x a.j (sym c.skips.ensures ∙ c.if-skips.false) _ c.message-slot.ensures in
     let few = ap (λ (l : List Message). a.free + length l) one in
-    (search rules, omega (arith, few, s.requires.2))
-
-pub overflow_add-result : goal.overflow_add-result
-overflow_add-result c = search rules
-
-pub shape_of-mail : goal.shape_of-mail
-shape_of-mail c = search rules
+    (search rules, omega (arith, few, c.requires.2))
 
 pub returns : goal.returns
 returns c =
-    let p = c.before.before in
-    let m = p.before.before in
-    let s = m.before.before in
-    let a = s.args in
-    round_posted a.x a.j a.mail-1.now _ a.free _ (sym s.skips.ensures ∙ m.if-skips.false) m.message-slot.ensures p.put_letter.ensures
+    let a = c.args in
+    round_posted a.x a.j a.mail.now _ a.free _ (sym c.skips.ensures ∙ c.if-skips.false) c.message-slot.ensures c.put_letter.ensures

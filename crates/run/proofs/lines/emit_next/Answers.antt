@@ -4,17 +4,8 @@ use borrow.Author.Rules.{rules}
 use Rattle.run.proofs.all_steps.Progress.{step_line_some, next_stopped, noted_room, next_noted}
 use Rattle.run.proofs.lines.emit_next.Goals as goal
 
-pub bounds-progress-1 : goal.bounds-progress-1
-bounds-progress-1 c = search rules
-
 pub returns-then-progress-ne0 : goal.returns-then-progress-ne0
 returns-then-progress-ne0 c = next_stopped _ _ _ c.if-progress-ne0.true
-
-pub bounds-progress-0 : goal.bounds-progress-0
-bounds-progress-0 c = search rules
-
-pub emit_step-written-requires : goal.emit_step-written-requires
-emit_step-written-requires c = search rules
 
 pub note-requires : goal.note-requires
 note-requires c =
@@ -22,9 +13,6 @@ note-requires c =
     let else1 = m.before.before.before in
     let start = else1.before.before.before in
     (start.requires.1, omega (arith, noted_room _ start.args.progress.now _ start.requires.1 else1.if-progress-ne0.false start.requires.2 m.emit_step-written.ensures, start.well-formed.0))
-
-pub shape_of-out : goal.shape_of-out
-shape_of-out c = search rules
 
 pub returns : goal.returns
 returns c =

@@ -14,64 +14,43 @@ pub enum_told-in-Offered : goal.enum_told-in-Offered
 enum_told-in-Offered c = search rules
 
 pub offer-requires : goal.offer-requires
-offer-requires c =
-    let told = c.before.before.before.before in
-    let x = told.enum_told-in-Offered-1.given in
-    (record { channel = x.0.0; made = x.0.1.0; along = x.0.1.1.0; is = x.1 }, but_notes told.requires)
+offer-requires c = (record { channel = c.in-Offered.field-0; made = c.in-Offered.field-1; along = c.in-Offered.field-2; is = c.in-Offered.is }, but_notes c.requires)
 
 pub enum_told-in-Advert : goal.enum_told-in-Advert
 enum_told-in-Advert c = search rules
 
 pub advert-requires : goal.advert-requires
-advert-requires c =
-    let told = c.before.before in
-    let x = told.enum_told-in-Advert-1.given in
-    (record { channel = x.0.0; processor = x.0.1.0; from = x.0.1.1.0; is = x.1 }, by_notes told.requires)
+advert-requires c = (record { channel = c.in-Advert.field-0; processor = c.in-Advert.field-1; from = c.in-Advert.field-2; is = c.in-Advert.is }, by_notes c.requires)
 
 pub enum_told-in-ReadyToReceive : goal.enum_told-in-ReadyToReceive
 enum_told-in-ReadyToReceive c = search rules
 
 pub call-requires : goal.call-requires
-call-requires c =
-    let told = c.before.before.before in
-    let x = told.enum_told-in-ReadyToReceive-1.given in
-    (record { channel = x.0.0; processor = x.0.1.0; pointer = x.0.1.1.0; is = x.1 }, by_hints told.requires)
+call-requires c = (record { channel = c.in-ReadyToReceive.field-0; processor = c.in-ReadyToReceive.field-1; pointer = c.in-ReadyToReceive.field-2; is = c.in-ReadyToReceive.is }, by_hints c.requires)
 
 pub enum_told-in-Data : goal.enum_told-in-Data
 enum_told-in-Data c = search rules
 
 pub word-requires : goal.word-requires
-word-requires c =
-    let told = c.before in
-    let x = told.enum_told-in-Data-1.given in
-    (record { channel = x.0.0; processor = x.0.1.0; word = x.0.1.1.0; is = x.1 }, by_board told.requires)
+word-requires c = (record { channel = c.in-Data.field-0; processor = c.in-Data.field-1; word = c.in-Data.field-2; is = c.in-Data.is }, by_board c.requires)
 
 pub enum_known-m : goal.enum_known-m
 enum_known-m c = search rules
 
 pub ended-requires : goal.ended-requires
-ended-requires c =
-    let k = c.before.before in
-    let s = k.before in
-    let x = k.m-1.given in
-    (s.requires.rig.whole, can_end s.requires x.0.0 x.0.1.0 x.1)
+ended-requires c = (c.requires.rig.whole, can_end c.requires c.in-Terminated.h c.in-Terminated.t c.in-Terminated.is)
 
 pub enum_told-in-Migration : goal.enum_told-in-Migration
 enum_told-in-Migration c = search rules
 
 pub mover-requires : goal.mover-requires
-mover-requires c =
-    let told = c.before.before.before.before.before in
-    let s = told.before in
-    let x = told.enum_told-in-Migration-1.given in
-    (record { processor = x.0.0; task = x.0.1.0; is = x.1 }, record { list = s.args.codes.now; holds = but_notes s.requires })
+mover-requires c = (record { processor = c.in-Migration.field-0; task = c.in-Migration.field-1; is = c.in-Migration.is }, record { list = c.args.codes.now; holds = but_notes c.requires })
 
 pub returns-in-Empty : goal.returns-in-Empty
 returns-in-Empty c =
-    let s = c.before.before in
-    let a = s.args in
+    let a = c.args in
     none_opened a.codes.now a.users.now a.hintprocessors.now a.hintmoves.now a.heldprocessors.now a.heldnumbers.now a.notes.now a.board.now
-    c.posted.ensures c.in-Empty.is s.requires.rig.whole
+    c.posted.ensures c.in-Empty.is c.requires.rig.whole
 
 pub returns-in-Offered : goal.returns-in-Offered
 returns-in-Offered c = c.offer.ensures c.args.notes.now
@@ -93,9 +72,8 @@ returns-in-Data c =
 
 pub returns-in-Terminated : goal.returns-in-Terminated
 returns-in-Terminated c =
-    let k = c.before.before.before in
-    let a = k.args in
-    rw k.in-Terminated.is (c.ended.ensures a.codes.now a.hintprocessors.now a.hintmoves.now a.heldprocessors.now a.heldnumbers.now a.notes.now)
+    let a = c.args in
+    rw c.in-Terminated.is (c.ended.ensures a.codes.now a.hintprocessors.now a.hintmoves.now a.heldprocessors.now a.heldnumbers.now a.notes.now)
 
 pub returns-in-Migration : goal.returns-in-Migration
 returns-in-Migration c =

@@ -52,8 +52,8 @@ abbrev found : Start → Task
 found s = task_in (tasks_on s.args.board.now) s.args.t
 
 -- what each test says
-numbered : (c : After-is_within) → c.is_Within.result ≡ within 1 (first c).args.n.tasks (first c).args.t.0
-numbered c = tested c.is_Within.ensures c.wide8.ensures c.wide8-2.ensures
+numbered : (c : After-is_within) → c.is_within.result ≡ within 1 (first c).args.n.tasks (first c).args.t.0
+numbered c = tested c.is_within.ensures c.wide8.ensures c.wide8-2.ensures
 
 placed : (c : After-is_within-2) → c.is_within-2.result ≡ within 1 (first (second c).before).args.n.processors (first (second c).before).args.to
 placed c = tested c.is_within-2.ensures c.wide8-3.ensures c.wide16.ensures

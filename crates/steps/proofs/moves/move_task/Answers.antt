@@ -1,61 +1,59 @@
 -- `move_task`: nothing, or the departure and the two sweeps.
 use mathlib.Core.Path.{◌≡◌, sym, ap, ◌∙◌}
-use mathlib.Core.Bool.{true}
-use Prim.Native.Nat.{◌<◌, ◌≤◌}
+use mathlib.Core.Bool.{Bool, true}
+use mathlib.Core.List.{List}
+use Prim.Native.Nat.{ℕ, ◌<◌, ◌≤◌}
 use native.Mathlib.Nat.{lt_of_le_of_lt}
 use native.Mathlib.Omega.{arith}
 use borrow.Author.Rules.{rules}
 use borrow.Author.Tests.{not-true, not-false}
 use Rattle.base.specs.Choice.{within}
 use Rattle.base.proofs.Tests.{within_low, within_high}
+use Rattle.plan.specs.declared.TaskId.{TaskId}
 use Rattle.rules.specs.declared.task.Task.{Task}
 use Rattle.rules.specs.Answers.{is_accepted}
 use Rattle.rules.specs.Numbers.{processor_id}
 use Rattle.rules.specs.Systems.{task_in}
-use Rattle.rig_parts.specs.declared.change.Verdict.{Verdict}
 use Rattle.rig_parts.specs.declared.change.Verdict.TheVariants.{Accepted as Allowed}
 use Rattle.rig_parts.specs.MoveVerdicts.{move_change, move_refusal, judged_move}
 use Rattle.rig_parts.proofs.Passed.{MovePassed, move_passed}
 use Rattle.plan_index.specs.user_table.Users.{senders_of, receivers_of}
 use Rattle.board.specs.declared.act.Act.{Act}
+use Rattle.board.specs.declared.act.Size.{Size}
 use Rattle.board.specs.Lent.{lent, tasks_on}
 use Rattle.board.specs.Acted.{act_of}
+use Rattle.steps.specs.Moves.{CanMove}
 use Rattle.steps.proofs.Acting.{answered_acted}
 use Rattle.steps.proofs.Moving.{move_accepted, move_said, move_acted}
 use Rattle.steps.proofs.moves.move_task.Goals as goal
-use Rattle.steps.proofs.moves.move_task.Goals.{After-departure, After-is_accepted, After-task_at-x, Else-not-is_accepted, Start}
 
--- where it begins
-abbrev from : After-is_accepted → Start
-from c = c.before.before.before
-
--- the verdict, and the task that is asked for
-abbrev judged : Start → Verdict
-judged s = let a = s.args in judged_move a.n.tasks a.n.processors (tasks_on a.board.now) a.n.used a.t (processor_id a.to)
-
-abbrev found : Start → Task
-found s = task_in (tasks_on s.args.board.now) s.args.t
+-- what is known where the move is accepted
+record Going (board : List ℕ) (n : Size) (t : TaskId) (to : ℕ) : Type 0 where
+  accepted : is_accepted (move_refusal n.tasks n.processors (tasks_on board) n.used t (processor_id to)) ≡ true
+  passed : MovePassed n.tasks n.processors n.used t (processor_id to) (task_in (tasks_on board) t)
+  few : t.0 ≤ 64
+  at_processor : within 1 6 (task_in (tasks_on board) t).processor.0 ≡ true
+  low : (task_in (tasks_on board) t).moves < 9999
 
 -- whether the answer is that it is accepted
-asked : (c : After-is_accepted) → is_accepted (act_of (judged (from c))).answer ≡ c.is_accepted.result
-asked c = sym (c.is_accepted.ensures ∙ ap (λ (r : Act). is_accepted r.answer) c.move_decided-r.ensures)
+asked : (board : List ℕ) (n : Size) (t : TaskId) (to : ℕ) {r : Act} {b : Bool}
+    → let v = judged_move n.tasks n.processors (tasks_on board) n.used t (processor_id to) in r ≡ act_of v → b ≡ is_accepted r.answer
+    → is_accepted (act_of v).answer ≡ b
+asked board n t to said is = sym (is ∙ ap (λ (r : Act). is_accepted r.answer) said)
 
--- what is known where it is
-accepted : (c : Else-not-is_accepted) → let a = (from c.before).args in
-    is_accepted (move_refusal a.n.tasks a.n.processors (tasks_on a.board.now) a.n.used a.t (processor_id a.to)) ≡ true
-accepted c = sym (move_said _ _ _ _ _ _) ∙ asked c.before ∙ not-false _ c.if-not-is_accepted.false-raw
-
-passed : (c : Else-not-is_accepted) → let a = (from c.before).args in MovePassed a.n.tasks a.n.processors a.n.used a.t (processor_id a.to) (found (from c.before))
-passed c = move_passed _ _ _ _ _ _ (accepted c)
-
-few : (c : Else-not-is_accepted) → (from c.before).args.t.0 ≤ 64
-few c = let s = from c.before in omega (arith, s.requires.few, within_high 1 s.args.n.tasks s.args.t.0 (passed c).task)
-
-at_processor : (c : Else-not-is_accepted) → within 1 6 (found (from c.before)).processor.0 ≡ true
-at_processor c = let p = passed c in (from c.before).requires.processor p.task p.ready
-
-low : (c : Else-not-is_accepted) → (found (from c.before)).moves < 9999
-low c = let p = passed c in omega (arith, (from c.before).requires.counts p.task p.ready, p.unspent)
+going : (users board : List ℕ) (n : Size) (t : TaskId) (to : ℕ) {r : Act} {b : Bool} → CanMove users board n.tasks t
+    → r ≡ act_of (judged_move n.tasks n.processors (tasks_on board) n.used t (processor_id to)) → b ≡ is_accepted r.answer → b ≡ true → Going board n t to
+going users board n t to can said is holds =
+    let ok : is_accepted (move_refusal n.tasks n.processors (tasks_on board) n.used t (processor_id to)) ≡ true =
+    sym (move_said _ _ _ _ _ _) ∙ asked board n t to said is ∙ holds in
+    let p : MovePassed n.tasks n.processors n.used t (processor_id to) (task_in (tasks_on board) t) = move_passed _ _ _ _ _ _ ok in
+    record {
+      accepted = ok;
+      passed = p;
+      few = omega (arith, can.few, within_high 1 n.tasks t.0 p.task);
+      at_processor = can.processor p.task p.ready;
+      low = omega (arith, can.counts p.task p.ready, p.unspent);
+    }
 
 pub move_decided-r-requires : goal.move_decided-r-requires
 move_decided-r-requires c = search rules
@@ -65,79 +63,63 @@ is_accepted-requires c = search rules
 
 pub returns-then-not-is_accepted : goal.returns-then-not-is_accepted
 returns-then-not-is_accepted c =
-    let s = from c.before in
+    let a = c.args in
     λ op on notes.
-    answered_acted (senders_of s.args.users.now) (receivers_of s.args.users.now) (lent s.args.hintprocessors.now s.args.hintmoves.now op on notes s.args.board.now) s.requires.whole (judged s)
-    (asked c.before ∙ not-true _ c.if-not-is_accepted.true-raw) c.move_decided-r.ensures
+    answered_acted (senders_of a.users.now) (receivers_of a.users.now) (lent a.hintprocessors.now a.hintmoves.now op on notes a.board.now) c.requires.whole
+    (judged_move a.n.tasks a.n.processors (tasks_on a.board.now) a.n.used a.t (processor_id a.to))
+    (asked a.board.now a.n a.t a.to c.move_decided-r.ensures c.is_accepted.ensures ∙ not-true c.is_accepted.result c.if-not-is_accepted.true-raw) c.move_decided-r.ensures
 
 pub task_at-x-requires : goal.task_at-x-requires
-task_at-x-requires c = few c.before
-
--- a number of desks has 8 bits
-narrow : (s : Start) → s.args.n.processors < 256
-narrow s = search rules
+task_at-x-requires c = let k = going c.args.users.now c.args.board.now c.args.n c.args.t c.args.to c.requires c.move_decided-r.ensures c.is_accepted.ensures (not-false c.is_accepted.result c.if-not-is_accepted.false-raw) in k.few
 
 pub overflow_cast-e : goal.overflow_cast-e
 overflow_cast-e c =
-    let e = c.before.before.before in
-    record { fits = lt_of_le_of_lt (within_high 1 _ _ (passed e).processor) (narrow (from e.before)) }
-
--- the task that was fetched
-module _ (c : After-task_at-x) where
-  fetched_low : c.task_at-x.result.moves < 9999
-  fetched_low = rw c.task_at-x.ensures (low c.before.before)
-
-  fetched_processor : within 1 6 c.task_at-x.result.processor.0 ≡ true
-  fetched_processor = rw c.task_at-x.ensures (at_processor c.before.before)
+    let k = going c.args.users.now c.args.board.now c.args.n c.args.t c.args.to c.requires c.move_decided-r.ensures c.is_accepted.ensures (not-false c.is_accepted.result c.if-not-is_accepted.false-raw) in
+    -- a number of desks has 8 bits
+    let narrow : c.args.n.processors < 256 = search rules in
+    record { fits = lt_of_le_of_lt (within_high 1 _ _ k.passed.processor) narrow }
 
 pub overflow_add-h : goal.overflow_add-h
-overflow_add-h c = let h = fetched_low c.before.before in omega (arith, h)
+overflow_add-h c =
+    let k = going c.args.users.now c.args.board.now c.args.n c.args.t c.args.to c.requires c.move_decided-r.ensures c.is_accepted.ensures (not-false c.is_accepted.result c.if-not-is_accepted.false-raw) in
+    let h : c.task_at-x.result.moves < 9999 = rw c.task_at-x.ensures k.low in
+    omega (arith, h)
 
 pub departure-requires : goal.departure-requires
-departure-requires c = fetched_low c.before.before.before
-
--- the task that was fetched, from where it leaves
-abbrev fetch : After-departure → After-task_at-x
-fetch c = c.before.before.before.before
+departure-requires c = let k = going c.args.users.now c.args.board.now c.args.n c.args.t c.args.to c.requires c.move_decided-r.ensures c.is_accepted.ensures (not-false c.is_accepted.result c.if-not-is_accepted.false-raw) in rw c.task_at-x.ensures k.low
 
 pub put_task-requires : goal.put_task-requires
-put_task-requires c = let s = (fetch c).before.before in (few s, (from s.before).requires.whole)
+put_task-requires c = let k = going c.args.users.now c.args.board.now c.args.n c.args.t c.args.to c.requires c.move_decided-r.ensures c.is_accepted.ensures (not-false c.is_accepted.result c.if-not-is_accepted.false-raw) in (k.few, c.requires.whole)
 
 pub point_parent-requires : goal.point_parent-requires
 point_parent-requires c =
-    let f = fetch c.before.before in
-    let w = fetched_processor f in
-    (record { processor_low = within_low 1 6 _ w; processor = within_high 1 6 _ w; task = few f.before.before }, c.put_task.ensures.0)
+    let k = going c.args.users.now c.args.board.now c.args.n c.args.t c.args.to c.requires c.move_decided-r.ensures c.is_accepted.ensures (not-false c.is_accepted.result c.if-not-is_accepted.false-raw) in
+    let w : within 1 6 c.task_at-x.result.processor.0 ≡ true = rw c.task_at-x.ensures k.at_processor in
+    (record { processor_low = within_low 1 6 _ w; processor = within_high 1 6 _ w; task = k.few }, c.put_task.ensures.0)
 
 pub locate-requires : goal.locate-requires
 locate-requires c =
-    let f = fetch c.before.before.before.before.before in
-    let s = f.before.before in
-    let w = fetched_processor f in
-    (few s, within_low 1 6 _ w, within_high 1 6 _ w, (from s.before).requires.indexed)
+    let k = going c.args.users.now c.args.board.now c.args.n c.args.t c.args.to c.requires c.move_decided-r.ensures c.is_accepted.ensures (not-false c.is_accepted.result c.if-not-is_accepted.false-raw) in
+    let w : within 1 6 c.task_at-x.result.processor.0 ≡ true = rw c.task_at-x.ensures k.at_processor in
+    (k.few, within_low 1 6 _ w, within_high 1 6 _ w, c.requires.indexed)
 
 pub depart-requires : goal.depart-requires
 depart-requires c =
-    let q = c.before.before.before.before.before.before in
-    let f = fetch q.before.before.before in
-    let s = f.before.before in
-    let w = fetched_processor f in
-    (few s, within_low 1 6 _ w, within_high 1 6 _ w, (from s.before).requires.indexed, q.point_parent.ensures.0)
+    let k = going c.args.users.now c.args.board.now c.args.n c.args.t c.args.to c.requires c.move_decided-r.ensures c.is_accepted.ensures (not-false c.is_accepted.result c.if-not-is_accepted.false-raw) in
+    let w : within 1 6 c.task_at-x.result.processor.0 ≡ true = rw c.task_at-x.ensures k.at_processor in
+    (k.few, within_low 1 6 _ w, within_high 1 6 _ w, c.requires.indexed, c.point_parent.ensures.0)
 
 pub returns : goal.returns
 returns c =
-    let l = c.before.before.before.before in
-    let q = l.before.before.before in
-    let p = q.before.before in
-    let f = fetch p.before in
-    let s = f.before.before in
-    let a = (from s.before).args in
+    let k = going c.args.users.now c.args.board.now c.args.n c.args.t c.args.to c.requires c.move_decided-r.ensures c.is_accepted.ensures (not-false c.is_accepted.result c.if-not-is_accepted.false-raw) in
+    let a = c.args in
     let e = processor_id a.to in
-    let gone = q.point_parent.new.board in
-    let v : judged (from s.before) ≡ Allowed (move_change a.t f.task_at-x.result e) =
-    move_accepted _ _ _ _ _ _ (accepted s) ∙ ap (λ (z : Task). Allowed (move_change a.t z e)) (sym f.task_at-x.ensures) in
+    let gone = c.point_parent.new.board in
+    let judged = judged_move a.n.tasks a.n.processors (tasks_on a.board.now) a.n.used a.t e in
+    let v : judged ≡ Allowed (move_change a.t c.task_at-x.result e) =
+    move_accepted _ _ _ _ _ _ k.accepted ∙ ap (λ (z : Task). Allowed (move_change a.t z e)) (sym c.task_at-x.ensures) in
     λ op on notes.
-    move_acted (senders_of a.users.now) (receivers_of a.users.now) a.hintprocessors.now a.hintmoves.now op on notes a.board.now p.put_task.new.board gone l.locate.new.hintprocessors l.locate.new.hintmoves c.depart.new.board a.t e
-    f.task_at-x.result p.departure.result (judged (from s.before)) p.departure.ensures v p.put_task.ensures.1 p.put_task.ensures.2 p.put_task.ensures.3
-    q.point_parent.ensures (l.locate.ensures op on notes gone q.point_parent.ensures.0) (c.depart.ensures op on notes)
-    s.move_decided-r.ensures
+    move_acted (senders_of a.users.now) (receivers_of a.users.now) a.hintprocessors.now a.hintmoves.now op on notes a.board.now c.put_task.new.board gone c.locate.new.hintprocessors c.locate.new.hintmoves c.depart.new.board a.t e
+    c.task_at-x.result c.departure.result judged c.departure.ensures v c.put_task.ensures.1 c.put_task.ensures.2 c.put_task.ensures.3
+    c.point_parent.ensures (c.locate.ensures op on notes gone c.point_parent.ensures.0) (c.depart.ensures op on notes)
+    c.move_decided-r.ensures

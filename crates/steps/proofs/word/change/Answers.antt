@@ -14,5 +14,4 @@ put_task-requires c = search rules
 pub returns : goal.returns
 returns c =
     let e = c.put_task.ensures in
-    let w = c.before.before in
-    (e.0, e.1 ∙ ap (task_stored (tasks_on _) _) w.word_changed-y.ensures, e.2, e.3)
+    (e.0, e.1 ∙ ap (task_stored (tasks_on _) _) c.word_changed-y.ensures, e.2, e.3)

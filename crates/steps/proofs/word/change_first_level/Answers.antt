@@ -11,14 +11,12 @@ word_changed-y-requires c = search rules
 
 pub put_first_level-requires : goal.put_first_level-requires
 put_first_level-requires c =
-    let s = c.before.before in
-    let p = s.requires in
-    let x = s.args.x in
-    let i = s.args.i in
+    let p = c.requires in
+    let x = c.args.x in
+    let i = c.args.i in
     (p.0, p.1, p.3, rw (c.word_changed-y.ensures, ← p.5) (above_kept x i p.4), rw (c.word_changed-y.ensures, ← p.5) (standing_kept x i))
 
 pub returns : goal.returns
 returns c =
     let e = c.put_first_level.ensures in
-    let w = c.before.before in
-    (e.0, e.1 ∙ ap (task_stored (tasks_on _) _) w.word_changed-y.ensures, e.2, e.3)
+    (e.0, e.1 ∙ ap (task_stored (tasks_on _) _) c.word_changed-y.ensures, e.2, e.3)

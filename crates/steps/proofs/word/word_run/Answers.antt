@@ -40,7 +40,7 @@ abbrev fetch : Else-not-is_in → After-task_at-x
 fetch c = c.before.before
 
 abbrev third : Else-not-is_in → Else-not-is_within
-third c = (fetch c).before.before
+third c = (fetch c).before
 
 abbrev from4 : Else-not-is_in → Start
 from4 c = from3 (third c)
@@ -60,7 +60,7 @@ next s = next_at (given s) (tasks_on s.args.board.now) (named s)
 
 -- what a test that is passed says
 counted : (c : Else-not-is_within) → within 1 (from3 c).args.n.tasks (from3 c).args.s.task ≡ true
-counted c = sym (tested c.before.is_Within.ensures c.wide8.ensures c.wide8-2.ensures) ∙ not-false c.before.is_Within.result c.if-not-is_within.false-raw
+counted c = sym (tested c.is_within.ensures c.wide8.ensures c.wide8-2.ensures) ∙ not-false c.is_within.result c.if-not-is_within.false-raw
 
 few : (c : Else-not-is_within) → (from3 c).args.s.task ≤ 64
 few c =
@@ -97,7 +97,7 @@ pub returns-then-not-is_within : goal.returns-then-not-is_within
 returns-then-not-is_within c = ((λ e. refl), (λ e. never e))
 
 pub task_at-x-requires : goal.task_at-x-requires
-task_at-x-requires c = few c.before
+task_at-x-requires c = few c
 
 pub is_in-requires : goal.is_in-requires
 is_in-requires c = search rules
@@ -130,8 +130,8 @@ changed o board' e =
     ap (λ (z : Task). word_changed z i.instruction_in-i.result) (fetch r).task_at-x.ensures ∙ ap (λ (z : Instruction). word_changed (found s) z) (next_is i) in
     let high : 6 ≤ (next s).opcode = subst (λ (z : Instruction). 6 ≤ z.opcode) (next_is i) (omega (arith, o.if-i-lt-SET.false)) in
     let z = second (third r) in
-    let kind : a.s.kind ≡ 1 = omega (arith, z.if-s-ne1.left) in
-    let none : a.s.number ≡ 0 = omega (arith, z.if-s-ne0.left) in (
+    let kind : a.s.kind ≡ 1 = omega (arith, z.if-s-ne1.false) in
+    let none : a.s.number ≡ 0 = omega (arith, z.if-s-ne0.false) in (
       (λ q. never (sym q)),
       (λ q numbers users hp hm op on notes.
           let f = facts_in a.n.tasks a.codes.now numbers users in

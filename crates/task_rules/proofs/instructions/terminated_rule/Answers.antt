@@ -36,7 +36,7 @@ returns-then-points_on c =
     let q = p.before.before in
     let lives = sym q.has_child.ensures ∙ not-false q.has_child.result q.if-not-has_child.false-raw in
     let away = sym p.is_at.ensures ∙ p.if-is_at.false in
-    let on = sym c.before.Points-on.ensures ∙ c.if-points_on.true in
+    let on = sym c.before.points_on.ensures ∙ c.if-points_on.true in
     simp (lives, away, on)
 
 pub holding_child-held-requires : goal.holding_child-held-requires
@@ -49,5 +49,5 @@ returns c =
     let q = p.before.before in
     let lives = sym q.has_child.ensures ∙ not-false q.has_child.result q.if-not-has_child.false-raw in
     let away = sym p.is_at.ensures ∙ p.if-is_at.false in
-    let on = sym c.before.before.Points-on.ensures ∙ c.if-points_on.false in
+    let on = sym c.before.before.points_on.ensures ∙ c.if-points_on.false in
     simp (lives, away, on, c.holding_child-held.ensures)

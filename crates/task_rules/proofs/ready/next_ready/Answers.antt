@@ -18,7 +18,7 @@ overflow_add-result c = search rules
 pub returns-then-below-m : goal.returns-then-below-m
 returns-then-below-m c =
     let a = c.args in
-    sym (next_later a.m a.new a.s (omega arith) (omega arith) (ap (count_trailing_zeros 64) c.above-later.ensures) refl (omega arith))
+    sym (next_later a.m a.last a.s (omega arith) (omega arith) (ap (count_trailing_zeros 64) c.above-later.ensures) refl (omega arith))
 
 pub overflow_cast-result-then-first-last : goal.overflow_cast-result-then-first-last
 overflow_cast-result-then-first-last c = search rules
@@ -29,9 +29,9 @@ overflow_add-result-then-first-last c = search rules
 pub returns-then-first-last : goal.returns-then-first-last
 returns-then-first-last c =
     let a = c.args in
-    sym (next_round a.m a.new a.s (omega arith) (omega arith) (ap (count_trailing_zeros 64) c.above-later.ensures) refl (omega arith) (omega arith))
+    sym (next_round a.m a.last a.s (omega arith) (omega arith) (ap (count_trailing_zeros 64) c.above-later.ensures) refl (omega arith) (omega arith))
 
 pub returns : goal.returns
 returns c =
     let a = c.args in
-    sym (next_none a.m a.new a.s (omega arith) (omega arith) (ap (count_trailing_zeros 64) c.above-later.ensures) refl (omega arith) (omega arith))
+    sym (next_none a.m a.last a.s (omega arith) (omega arith) (ap (count_trailing_zeros 64) c.above-later.ensures) refl (omega arith) (omega arith))

@@ -16,18 +16,6 @@ returns-then-left-ge42 c =
     let a = c.args in
     sym (le-leb (length (decimal a.k ++ fields (a.a ∷ []))) a.left (omega (arith, two_length a.k a.a, five_digits a.k c.requires.0, five_digits a.a c.requires.1)))
 
-pub digits-requires : goal.digits-requires
-digits-requires c = search rules
-
-pub digits-requires-2 : goal.digits-requires-2
-digits-requires-2 c = search rules
-
-pub overflow_add-result : goal.overflow_add-result
-overflow_add-result c = search rules
-
-pub overflow_add-result-2 : goal.overflow_add-result-2
-overflow_add-result-2 c = search rules
-
 pub returns : goal.returns
 returns c =
     let a = c.args in

@@ -6,11 +6,5 @@ use borrow.Author.Rules.{rules}
 use Rattle.rules.specs.Trace.{decimal}
 use Rattle.trace.proofs.direct.level_digits.Goals as goal
 
-pub wide16-requires : goal.wide16-requires
-wide16-requires c = search rules
-
-pub digits-requires : goal.digits-requires
-digits-requires c = search rules
-
 pub returns : goal.returns
 returns c = (c.digits.ensures.0 ∙ ap (λ (n : ℕ). length (decimal n)) c.wide16.ensures, c.digits.ensures.1)

@@ -5,12 +5,6 @@ use Rattle.trace.proofs.Putting.{put_length, put_space}
 use borrow.Author.Rules.{rules}
 use Rattle.trace.proofs.direct.put_field.Goals as goal
 
-pub bounds-out-at : goal.bounds-out-at
-bounds-out-at c = search rules
-
-pub overflow_add-at : goal.overflow_add-at
-overflow_add-at c = search rules
-
 pub put_number-requires : goal.put_number-requires
 put_number-requires c = (search rules, simp length-set (omega arith))
 

@@ -15,8 +15,5 @@ put_field-requires c =
     let a = b.args in
     (search rules, omega (arith, head_length a.k a.a, b.put_number-end.ensures.end, put_length b.put_number-end.ensures.put))
 
-pub shape_of-rest : goal.shape_of-rest
-shape_of-rest c = search rules
-
 pub returns : goal.returns
 returns c = put_to_more c.put_number-end.ensures c.put_field.ensures

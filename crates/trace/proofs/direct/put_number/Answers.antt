@@ -10,12 +10,6 @@ put_one-requires c =
     let long = one_digit n (omega arith) in
     (search rules, omega arith)
 
-pub overflow_add-result : goal.overflow_add-result
-overflow_add-result c = search rules
-
-pub shape_of-out-then-n-lt10 : goal.shape_of-out-then-n-lt10
-shape_of-out-then-n-lt10 c = search rules
-
 pub returns-then-n-lt10 : goal.returns-then-n-lt10
 returns-then-n-lt10 c =
     let b = c.before.before in
@@ -27,12 +21,6 @@ put_two-requires c =
     let n = c.args.n in
     let long = digits_are 0 n (omega arith) (omega arith) in
     (search rules, search rules, omega arith)
-
-pub overflow_add-result-then-n-lt100 : goal.overflow_add-result-then-n-lt100
-overflow_add-result-then-n-lt100 c = search rules
-
-pub shape_of-out-then-n-lt100 : goal.shape_of-out-then-n-lt100
-shape_of-out-then-n-lt100 c = search rules
 
 pub returns-then-n-lt100 : goal.returns-then-n-lt100
 returns-then-n-lt100 c =
@@ -46,12 +34,6 @@ put_three-requires c =
     let long = digits_are 1 n (omega arith) (omega arith) in
     (search rules, search rules, omega arith)
 
-pub overflow_add-result-then-n-lt1000 : goal.overflow_add-result-then-n-lt1000
-overflow_add-result-then-n-lt1000 c = search rules
-
-pub shape_of-out-then-n-lt1000 : goal.shape_of-out-then-n-lt1000
-shape_of-out-then-n-lt1000 c = search rules
-
 pub returns-then-n-lt1000 : goal.returns-then-n-lt1000
 returns-then-n-lt1000 c =
     let b = c.before.before in
@@ -64,12 +46,6 @@ put_four-requires c =
     let long = digits_are 2 n (omega arith) (omega arith) in
     (search rules, search rules, omega arith)
 
-pub overflow_add-result-then-n-lt10000 : goal.overflow_add-result-then-n-lt10000
-overflow_add-result-then-n-lt10000 c = search rules
-
-pub shape_of-out-then-n-lt10000 : goal.shape_of-out-then-n-lt10000
-shape_of-out-then-n-lt10000 c = search rules
-
 pub returns-then-n-lt10000 : goal.returns-then-n-lt10000
 returns-then-n-lt10000 c =
     let b = c.before.before in
@@ -81,12 +57,6 @@ put_five-requires c =
     let n = c.args.n in
     let long = digits_are 3 n (omega arith) (omega arith) in
     (search rules, search rules, omega arith)
-
-pub overflow_add-result-2 : goal.overflow_add-result-2
-overflow_add-result-2 c = search rules
-
-pub shape_of-out : goal.shape_of-out
-shape_of-out c = search rules
 
 pub returns : goal.returns
 returns c =

@@ -5,21 +5,6 @@ use Rattle.trace.proofs.Putting.{one_digit, put_digit}
 use borrow.Author.Rules.{rules}
 use Rattle.trace.proofs.direct.put_two.Goals as goal
 
-pub put_one-requires : goal.put_one-requires
-put_one-requires c = search rules
-
-pub digit-requires : goal.digit-requires
-digit-requires c = search rules
-
-pub overflow_add-out : goal.overflow_add-out
-overflow_add-out c = search rules
-
-pub bounds-out-at : goal.bounds-out-at
-bounds-out-at c = search rules
-
-pub shape_of-out : goal.shape_of-out
-shape_of-out c = search rules
-
 pub returns : goal.returns
 returns c =
     let b = c.before.before.before in

@@ -20,33 +20,9 @@ returns-then-left-ge42 c =
     let k = five_digits a.k p.0 in
     let n = five_digits a.a p.1 in
     let h = five_digits a.c p.2 in
-    let g = c.well-formed in
+    let g = c.well_formed in
     let w = levels_short a.w (omega (arith, g)) (omega (arith, g)) (omega (arith, g)) (omega (arith, g)) in
     sym (le-leb (length (decimal a.k ++ fields (a.a ∷ a.c ∷ word_numbers a.w))) a.left (omega arith))
-
-pub digits-requires : goal.digits-requires
-digits-requires c = search rules
-
-pub digits-requires-2 : goal.digits-requires-2
-digits-requires-2 c = search rules
-
-pub overflow_add-result : goal.overflow_add-result
-overflow_add-result c = search rules
-
-pub digits-requires-3 : goal.digits-requires-3
-digits-requires-3 c = search rules
-
-pub overflow_add-result-2 : goal.overflow_add-result-2
-overflow_add-result-2 c = search rules
-
-pub levels_length-requires : goal.levels_length-requires
-levels_length-requires c = search rules
-
-pub overflow_add-result-3 : goal.overflow_add-result-3
-overflow_add-result-3 c = search rules
-
-pub overflow_add-result-4 : goal.overflow_add-result-4
-overflow_add-result-4 c = search rules
 
 pub returns : goal.returns
 returns c =

@@ -1,5 +1,4 @@
 use mathlib.Core.List.{[]}
-use Prim.Native.Nat.{◌-◌}
 use native.Mathlib.Omega.{arith}
 use borrow.Author.Rules.{rules}
 use Rattle.board.proofs.sweeps.Walking.{stored_none, stored_next, walked_first, walked_next, walked_less, walked_end}

@@ -16,7 +16,7 @@ unfolding offer_rule
 returns-then-points_on c =
     let l = c.before in
     let p = l.before in
-    let on = sym p.Points-on.ensures ∙ l.if-points_on.true in
+    let on = sym p.points_on.ensures ∙ l.if-points_on.true in
     simp (c.kept.ensures, p.requires, on, and_false)
 
 pub holding-held-requires : goal.holding-held-requires
@@ -30,5 +30,5 @@ unfolding offer_rule
 returns c =
     let l = c.before.before in
     let p = l.before in
-    let stays = sym p.Points-on.ensures ∙ l.if-points_on.false in
+    let stays = sym p.points_on.ensures ∙ l.if-points_on.false in
     simp (c.kept-2.ensures, c.holding-held.ensures, p.requires, stays, and_false)

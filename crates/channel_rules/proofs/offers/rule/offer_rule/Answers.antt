@@ -1,20 +1,9 @@
 -- An offer where the receiver is: dropped, answered or carried.
-use mathlib.Core.Bool.{true}
-use mathlib.Core.Path.{◌≡◌, sym, ◌∙◌}
+use mathlib.Core.Path.{sym, ◌∙◌}
 use borrow.Author.Tests.{not-true, not-false}
-use Rattle.rules.specs.Cells.{counts}
-use Rattle.rules.specs.Tasks.{is_at}
 use borrow.Author.Rules.{rules}
 use Rattle.channel_rules.proofs.offers.Cases.{dropped, answers, carries}
 use Rattle.channel_rules.proofs.offers.rule.offer_rule.Goals as goal
-use Rattle.channel_rules.proofs.offers.rule.offer_rule.Goals.{Else-not-counts, Else-not-is_at}
-
--- what is known where the two tests have passed
-here : (c : Else-not-is_at) → is_at c.args.h.processor c.args.x.receiver ≡ true
-here c = sym c.is_at.ensures ∙ not-false c.is_at.result c.if-not-is_at.false-raw
-
-counted : (c : Else-not-counts) → counts c.args.x.cell c.args.o ≡ true
-counted c = sym c.counts.ensures ∙ not-false c.counts.result c.if-not-counts.false-raw
 
 pub is_at-requires : goal.is_at-requires
 is_at-requires c = search rules
@@ -33,10 +22,10 @@ untouched-requires c = search rules
 
 pub returns-then-not-counts : goal.returns-then-not-counts
 returns-then-not-counts c =
-    let l = c.before.before in
-    let g = l.args in
+    let g = c.args in
+    let here = sym c.is_at.ensures ∙ not-false c.is_at.result c.if-not-is_at.false-raw in
     rw c.untouched.ensures
-    (dropped g.x g.c g.o g.h (here l.before) (sym l.counts.ensures ∙ not-true l.counts.result c.if-not-counts.true-raw))
+    (dropped g.x g.c g.o g.h here (sym c.counts.ensures ∙ not-true c.counts.result c.if-not-counts.true-raw))
 
 pub is_uncalled-requires : goal.is_uncalled-requires
 is_uncalled-requires c = search rules
@@ -46,10 +35,10 @@ answered-requires c = search rules
 
 pub returns-then-is_uncalled : goal.returns-then-is_uncalled
 returns-then-is_uncalled c =
-    let u = c.before.before in
-    let g = u.args in
-    rw c.answered.ensures
-    (answers g.x g.c g.o g.h (here u.before.before.before) (counted u.before) (sym u.is_uncalled.ensures ∙ c.if-is_uncalled.true))
+    let g = c.args in
+    let here = sym c.is_at.ensures ∙ not-false c.is_at.result c.if-not-is_at.false-raw in
+    let counted = sym c.counts.ensures ∙ not-false c.counts.result c.if-not-counts.false-raw in
+    rw c.answered.ensures (answers g.x g.c g.o g.h here counted (sym c.is_uncalled.ensures ∙ c.if-is_uncalled.true))
 
 pub carrying-carried-requires : goal.carrying-carried-requires
 carrying-carried-requires c = search rules
@@ -59,8 +48,8 @@ kept-requires c = search rules
 
 pub returns : goal.returns
 returns c =
-    let l = c.before.before in
-    let u = l.before in
-    let g = u.args in
+    let g = c.args in
+    let here = sym c.is_at.ensures ∙ not-false c.is_at.result c.if-not-is_at.false-raw in
+    let counted = sym c.counts.ensures ∙ not-false c.counts.result c.if-not-counts.false-raw in
     rw (c.kept.ensures, c.carrying-carried.ensures)
-    (carries g.x g.c g.o g.h (here u.before.before.before) (counted u.before) (sym u.is_uncalled.ensures ∙ l.if-is_uncalled.false))
+    (carries g.x g.c g.o g.h here counted (sym c.is_uncalled.ensures ∙ c.if-is_uncalled.false))

@@ -21,7 +21,7 @@ note-requires c =
     let m = c.before.before.before in
     let else1 = m.before.before.before in
     let start = else1.before.before.before in
-    (start.requires.0, omega (arith, noted_room _ start.args.progress.now _ start.requires.0 else1.if-progress-ne0.false start.requires.1 m.emit_bytes-written.ensures, start.well-formed.0))
+    (start.requires.0, omega (arith, noted_room _ start.args.progress.now _ start.requires.0 else1.if-progress-ne0.false start.requires.1 m.emit_bytes-written.ensures, start.well_formed.0))
 
 pub shape_of-out : goal.shape_of-out
 shape_of-out c = search rules

@@ -19,7 +19,7 @@ abbrev begin : Else-not-is_within → Start
 begin c = c.before.before.before.before
 
 processors : (c : Else-not-is_within) → within 1 6 (begin c).args.processors ≡ true
-processors c = let i = c.before.is_Within in sym i.ensures ∙ not-false i.result c.if-not-is_within.false-raw
+processors c = let i = c.before.is_within in sym i.ensures ∙ not-false i.result c.if-not-is_within.false-raw
 
 abbrev within-limits : After-open-opened → Else-not-is_within
 within-limits c = c.before.before.before.before.before
@@ -41,7 +41,7 @@ pub is_within-requires : goal.is_within-requires
 is_within-requires c = search rules
 
 pub returns-then-not-is_within : goal.returns-then-not-is_within
-returns-then-not-is_within c = let i = c.before.is_Within in processors_refused _ _ _ (sym i.ensures ∙ not-true i.result c.if-not-is_within.true-raw)
+returns-then-not-is_within c = let i = c.before.is_within in processors_refused _ _ _ (sym i.ensures ∙ not-true i.result c.if-not-is_within.true-raw)
 
 pub open-opened-requires : goal.open-opened-requires
 open-opened-requires c = (refl, refl, refl, refl)

@@ -1,15 +1,17 @@
-use Prim.Native.Nat.{ℕ, ◌+◌, ◌*◌, ◌-◌, ◌≤◌}
+use mathlib.Core.List.{List}
+use Prim.Native.Nat.{ℕ, ◌+◌, ◌*◌, ◌≤◌, ◌<◌}
 use mathlib.Core.Path.{◌≡◌, sym, ◌∙◌, ap}
-use mathlib.Core.Logic.{◌≢◌, ⊎_elim}
+use mathlib.Core.Logic.{◌≢◌}
 use native.Mathlib.Omega.{arith}
 use lib.ListN.{get_or}
 use borrow.Author.Rules.{rules}
 use Rattle.plan.specs.declared.Instruction.{Instruction}
 use Rattle.plan.specs.Kinds.{op_send}
 use Rattle.plan_value.specs.Slots.{slot_in}
+use Rattle.plan_index.specs.ends.Numbers.{SendsFit}
 use Rattle.plan_index.proofs.ends.Numbering.{sent_none, numbers_none, sent_same, numbers_same, sent_more, number_few, numbers_more}
 use Rattle.plan_index.proofs.ends.numbers.number_task.Goals as goal
-use Rattle.plan_index.proofs.ends.numbers.number_task.Goals.{After-of-x, After-wide16-c, At-loop-i}
+use Rattle.plan_index.proofs.ends.numbers.number_task.Goals.{then-x-eq-SEND, else-x-eq-SEND}
 
 pub loop-i-init : goal.loop-i-init
 loop-i-init c =
@@ -28,50 +30,39 @@ offset_bounds-codes-s c = omega arith
 pub bounds-codes-s : goal.bounds-codes-s
 bounds-codes-s c = omega arith
 
-pub of-x-requires : goal.of-x-requires
-of-x-requires c = search rules
-
 -- what is read: a send, or another instruction, with its argument
-module _ (f : After-of-x) where
-  abbrev at : At-loop-i
-  at = f.before.before.before
+module _ {r x : Instruction} (e : r ≡ x) where
+  kind : r.opcode ≡ x.opcode
+  kind = ap (λ (i : Instruction). i.opcode) e
 
-  abbrev x : Instruction
-  x = slot_in at.args.codes.now (64 * at.args.k + at.loop-i.i)
+  on : {c : ℕ} → c ≡ r.operand → c ≡ x.operand
+  on h = h ∙ ap (λ (i : Instruction). i.operand) e
 
-  kind : f.of-x.result.opcode ≡ x.opcode
-  kind = ap (λ (i : Instruction). i.opcode) f.of-x.ensures
-
-  on : {c : ℕ} → c ≡ f.of-x.result.operand → c ≡ x.operand
-  on e = e ∙ ap (λ (i : Instruction). i.operand) f.of-x.ensures
-
-pub wide16-c-requires : goal.wide16-c-requires
-wide16-c-requires c = search rules
-
--- a send's channel, where it was read
-channel_fits : (c : After-wide16-c) → c.wide16-c.result ≤ 128
-channel_fits c =
-    let f = c.before.before.before in
-    let l = at f in
-    omega (arith, l.requires.3 l.loop-i.i (omega arith) (sym (kind f) ∙ c.if-x-eq-SEND.true), on f c.wide16-c.ensures)
+-- a send's channel
+channel_fits : (codes : List ℕ) (k count : ℕ) → SendsFit codes k count → (i : ℕ) → i < count → {r : Instruction} → r ≡ slot_in codes (64 * k + i)
+    → r.opcode ≡ op_send → {c : ℕ} → c ≡ r.operand → c ≤ 128
+channel_fits codes k count fit i l e send h = omega (arith, fit i l (sym (kind e) ∙ send), on e h)
 
 pub bounds-sent-c : goal.bounds-sent-c
-bounds-sent-c c = omega (arith, channel_fits c)
+bounds-sent-c c =
+    let few = channel_fits c.args.codes.now c.args.k c.args.count c.requires.3 c.loop-i.i (omega arith) c.of-x.ensures c.if-x-eq-SEND.true c.wide16-c.ensures in
+    omega arith
 
 pub overflow_add-n : goal.overflow_add-n
 overflow_add-n c =
-    let w = c.before in
-    let f = w.before.before.before in
-    let l = at f in
-    let a = l.args in
-    let send = sym (kind f) ∙ w.if-x-eq-SEND.true in
-    let channel = on f w.wide16-c.ensures in
-    let unsent : get_or a.sent.now w.wide16-c.result 0 ≡ 0 = rw channel (l.requires.5 l.loop-i.i (omega arith) send) in
-    let few = number_few a.codes.now a.k l.loop-i.i send w.wide16-c.result channel (channel_fits w) a.sent.now unsent l.loop-i.sent l.loop-i.invariant.1 in
+    let a = c.args in
+    let i = c.loop-i.i in
+    let send = sym (kind c.of-x.ensures) ∙ c.if-x-eq-SEND.true in
+    let channel = on c.of-x.ensures c.wide16-c.ensures in
+    let fits = channel_fits c.args.codes.now c.args.k c.args.count c.requires.3 c.loop-i.i (omega arith) c.of-x.ensures c.if-x-eq-SEND.true c.wide16-c.ensures in
+    let unsent : get_or a.sent.now c.wide16-c.result 0 ≡ 0 = rw channel (c.requires.5 i (omega arith) send) in
+    let few = number_few a.codes.now a.k i send c.wide16-c.result channel fits a.sent.now unsent c.loop-i.sent c.loop-i.invariant.1 in
     omega arith
 
 pub bounds-sent-c-then-x-eq-SEND : goal.bounds-sent-c-then-x-eq-SEND
-bounds-sent-c-then-x-eq-SEND c = omega (arith, channel_fits c.before)
+bounds-sent-c-then-x-eq-SEND c =
+    let few = channel_fits c.args.codes.now c.args.k c.args.count c.requires.3 c.loop-i.i (omega arith) c.of-x.ensures c.if-x-eq-SEND.true c.wide16-c.ensures in
+    omega arith
 
 pub bounds-numbers-s : goal.bounds-numbers-s
 bounds-numbers-s c = omega arith
@@ -84,25 +75,24 @@ loop-i-smaller c = omega arith
 
 pub loop-i-preserved : goal.loop-i-preserved
 loop-i-preserved c =
-    let f = c.before.before in
-    let l = at f in
-    let a = l.args in
+    let a = c.args in
     let o = a.codes.now in
-    let i = l.loop-i.i in
-    let inv = l.loop-i.invariant in
-    ⊎_elim
-    (λ w.
-    let send = sym (kind f) ∙ w.0.taken in
-    let channel = on f w.1.ensures in
-    let fits = l.requires.3 i (omega arith) send in
-    let unsent : get_or a.sent.now w.1.result 0 ≡ 0 = rw channel (l.requires.5 i (omega arith) send) in
-    let sent = sent_more o a.k i send w.1.result channel (omega arith) a.sent.now unsent l.loop-i.sent inv.1 in
-    let numbers = numbers_more o a.k i send w.1.result channel (omega arith) a.sent.now unsent l.loop-i.sent inv.1 (omega arith) (omega arith) a.numbers.now l.loop-i.numbers inv.2 in
-    (omega arith, w.3 ∙ sent, w.4 ∙ numbers))
-    (λ w.
-    let other : (x f).opcode ≢ op_send = λ e. w.0.left (kind f ∙ e) in
-    (omega arith, w.1 ∙ inv.1 ∙ sent_same o a.k i other a.sent.now, w.2 ∙ inv.2 ∙ numbers_same o a.k i other a.numbers.now))
-    c.if-x-eq-SEND.branch
+    let i = c.loop-i.i in
+    let inv = c.loop-i.invariant in
+    elim c.if-x-eq-SEND.branch [
+      | then-x-eq-SEND w ↦
+          let send = sym (kind c.of-x.ensures) ∙ w.if-x-eq-SEND.true in
+          let n = w.wide16-c.result in
+          let channel = on c.of-x.ensures w.wide16-c.ensures in
+          let fits = c.requires.3 i (omega arith) send in
+          let unsent : get_or a.sent.now n 0 ≡ 0 = rw channel (c.requires.5 i (omega arith) send) in
+          let sent = sent_more o a.k i send n channel (omega arith) a.sent.now unsent c.loop-i.sent inv.1 in
+          let numbers = numbers_more o a.k i send n channel (omega arith) a.sent.now unsent c.loop-i.sent inv.1 (omega arith) (omega arith) a.numbers.now c.loop-i.numbers inv.2 in
+          (omega arith, w.sent-is ∙ sent, w.numbers-is ∙ numbers)
+      | else-x-eq-SEND w ↦
+          let other : (slot_in o (64 * a.k + i)).opcode ≢ op_send = λ e. w.if-x-eq-SEND.false (kind c.of-x.ensures ∙ e) in
+          (omega arith, w.sent-is ∙ inv.1 ∙ sent_same o a.k i other a.sent.now, w.numbers-is ∙ inv.2 ∙ numbers_same o a.k i other a.numbers.now)
+    ]
 
 pub returns : goal.returns
 returns c =

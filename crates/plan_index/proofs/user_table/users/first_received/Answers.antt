@@ -3,25 +3,9 @@ use mathlib.Core.Path.{sym}
 use Prim.Native.Nat.{◌+◌, ◌*◌}
 use native.Mathlib.Omega.{arith}
 use lib.ListN.{get_or}
-use borrow.Author.Rules.{rules}
 use Rattle.base.proofs.Tables.{get_d_table}
 use Rattle.plan_index.specs.user_table.Users.{firsts_received}
 use Rattle.plan_index.proofs.user_table.users.first_received.Goals as goal
-
-pub wide8-requires : goal.wide8-requires
-wide8-requires c = search rules
-
-pub overflow_mul-result : goal.overflow_mul-result
-overflow_mul-result c = search rules
-
-pub overflow_add-result : goal.overflow_add-result
-overflow_add-result c = search rules
-
-pub overflow_add-result-2 : goal.overflow_add-result-2
-overflow_add-result-2 c = search rules
-
-pub bounds-users-wide8 : goal.bounds-users-wide8
-bounds-users-wide8 c = search rules
 
 pub returns : goal.returns
 unfolding firsts_received

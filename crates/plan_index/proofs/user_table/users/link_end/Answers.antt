@@ -4,30 +4,8 @@ use mathlib.Core.List.{List}
 use Prim.Native.Nat.{ℕ, ◌+◌, ◌≤◌}
 use native.Mathlib.Omega.{arith}
 use lib.ListN.{set}
-use borrow.Author.Rules.{rules}
 use Rattle.plan_index.proofs.user_table.Building.{end_apart, end_none}
 use Rattle.plan_index.proofs.user_table.users.link_end.Goals as goal
-
-pub overflow_mul-users : goal.overflow_mul-users
-overflow_mul-users c = search rules
-
-pub overflow_add-users : goal.overflow_add-users
-overflow_add-users c = search rules
-
-pub bounds-users-c : goal.bounds-users-c
-bounds-users-c c = search rules
-
-pub overflow_mul-users-then-t-eq0 : goal.overflow_mul-users-then-t-eq0
-overflow_mul-users-then-t-eq0 c = search rules
-
-pub overflow_add-users-then-t-eq0 : goal.overflow_add-users-then-t-eq0
-overflow_add-users-then-t-eq0 c = search rules
-
-pub bounds-users-c-then-t-eq0 : goal.bounds-users-c-then-t-eq0
-bounds-users-c-then-t-eq0 c = search rules
-
-pub overflow_cast-result : goal.overflow_cast-result
-overflow_cast-result c = search rules
 
 pub returns-then-t-eq0 : goal.returns-then-t-eq0
 returns-then-t-eq0 c =
@@ -35,9 +13,6 @@ returns-then-t-eq0 c =
     let a = s.args in
     let z : a.t ≡ 0 = c.if-t-eq0.true in
     rw z (end_none a.users.now a.c a.none a.end a.first a.next (rw z at s.requires.0) s.requires.1)
-
-pub put_end-requires : goal.put_end-requires
-put_end-requires c = search rules
 
 pub returns : goal.returns
 returns c =

@@ -1,31 +1,11 @@
 use mathlib.Core.Path.{◌≡◌, ◌∙◌, ap}
-use Prim.Native.Nat.{◌-◌}
 use native.Mathlib.Omega.{arith}
-use borrow.Author.Rules.{rules}
 use Rattle.plan_index.specs.user_table.Built.{with_parents}
 use Rattle.plan_index.proofs.user_table.Parents.{parents_none, parents_more}
 use Rattle.plan_index.proofs.user_table.users.put_parents.Goals as goal
 
 pub loop-t-init : goal.loop-t-init
 loop-t-init c = (omega arith, parents_none c.args.parents.now c.args.users.now)
-
-pub bounds-parents-t : goal.bounds-parents-t
-bounds-parents-t c = search rules
-
-pub overflow_mul-users : goal.overflow_mul-users
-overflow_mul-users c = search rules
-
-pub overflow_add-users : goal.overflow_add-users
-overflow_add-users c = search rules
-
-pub bounds-users-t : goal.bounds-users-t
-bounds-users-t c = search rules
-
-pub overflow_add-t : goal.overflow_add-t
-overflow_add-t c = search rules
-
-pub loop-t-smaller : goal.loop-t-smaller
-loop-t-smaller c = search rules
 
 pub loop-t-preserved : goal.loop-t-preserved
 loop-t-preserved c =

@@ -3,20 +3,10 @@ use mathlib.Core.Path.{ap, sym}
 use Prim.Native.Nat.{◌*◌}
 use native.Mathlib.Omega.{arith}
 use lib.ListN.{get_or}
-use borrow.Author.Rules.{rules}
 use Rattle.base.proofs.Tables.{get_d_table}
 use Rattle.plan.specs.Numbers.{task_id}
 use Rattle.plan_index.specs.user_table.Users.{senders_of}
 use Rattle.plan_index.proofs.user_table.users.sender.Goals as goal
-
-pub wide8-requires : goal.wide8-requires
-wide8-requires c = search rules
-
-pub overflow_mul-t : goal.overflow_mul-t
-overflow_mul-t c = search rules
-
-pub bounds-users-wide8 : goal.bounds-users-wide8
-bounds-users-wide8 c = search rules
 
 pub returns : goal.returns
 unfolding senders_of

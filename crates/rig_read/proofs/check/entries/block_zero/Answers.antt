@@ -3,38 +3,16 @@ use Prim.Native.Nat.{◌+◌, ◌*◌, ◌-◌}
 use native.Mathlib.Omega.{arith}
 use lib.ListN.{get_or}
 use Rattle.rig_read.proofs.Zeros.{zeros_none, zeros_more}
-use borrow.Author.Rules.{rules}
 use Rattle.rig_read.proofs.check.entries.block_zero.Goals as goal
-
-pub overflow_mul-first : goal.overflow_mul-first
-overflow_mul-first c = search rules
-
-pub overflow_add-first : goal.overflow_add-first
-overflow_add-first c = search rules
 
 pub loop-k-init : goal.loop-k-init
 loop-k-init c = (omega arith, zeros_none (λ i. get_or c.args.board.now (320 + 32 * c.args.b + i) 0))
-
-pub overflow_add-any : goal.overflow_add-any
-overflow_add-any c = search rules
-
-pub offset_bounds-board-first : goal.offset_bounds-board-first
-offset_bounds-board-first c = search rules
-
-pub bounds-board-first : goal.bounds-board-first
-bounds-board-first c = search rules
-
-pub overflow_add-k : goal.overflow_add-k
-overflow_add-k c = search rules
-
-pub loop-k-smaller : goal.loop-k-smaller
-loop-k-smaller c = search rules
 
 pub loop-k-preserved : goal.loop-k-preserved
 loop-k-preserved c =
     let l = c.loop-k in
     let a = c.args in
-    (omega arith, zeros_more (λ i. get_or a.board.now (320 + 32 * a.b + i) 0) l.k l.any-1 l.invariant.1)
+    (omega arith, zeros_more (λ i. get_or a.board.now (320 + 32 * a.b + i) 0) l.k l.any l.invariant.1)
 
 pub returns : goal.returns
 returns c =

@@ -1,7 +1,6 @@
 use mathlib.Core.Path.{◌≡◌, refl}
 use Prim.Native.Nat.{◌-◌, ◌^◌}
 use native.Mathlib.Omega.{arith}
-use borrow.Author.Rules.{rules}
 use borrow.Author.Tests.{lt-ltb}
 use lib.Pow.{pow_pos}
 use Rattle.rig_read.proofs.check.entries.parent_ok.Goals as goal
@@ -11,9 +10,3 @@ returns-then-held-eq0 c =
     let v : c.args.v ≡ 0 = omega arith in
     let s : c.args.held ≡ 0 = omega arith in
     rw (v, s, lt-ltb 0 (2 ^ c.args.m) (pow_pos c.args.m)) refl
-
-pub full_parent_ok-requires : goal.full_parent_ok-requires
-full_parent_ok-requires c = search rules
-
-pub returns : goal.returns
-returns c = search rules

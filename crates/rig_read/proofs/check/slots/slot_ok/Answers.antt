@@ -1,17 +1,7 @@
 use mathlib.Core.Path.{◌∙◌}
 use native.Mathlib.Omega.{arith}
 use Rattle.rig_read.proofs.Slots.{offered_slot, advert_slot, call_slot, word_slot, ended_slot, mover_slot, empty_slot}
-use borrow.Author.Rules.{rules}
 use Rattle.rig_read.proofs.check.slots.slot_ok.Goals as goal
-
-pub offered_ok-requires : goal.offered_ok-requires
-offered_ok-requires c = search rules
-
-pub advert_ok-requires : goal.advert_ok-requires
-advert_ok-requires c = search rules
-
-pub call_ok-requires : goal.call_ok-requires
-call_ok-requires c = search rules
 
 pub returns-in-1 : goal.returns-in-1
 returns-in-1 c =
@@ -32,15 +22,6 @@ pub returns-in_default : goal.returns-in_default
 returns-in_default c =
     let a = c.args in
     empty_slot a.n a.m a.v a.w (omega arith) (λ q. omega arith) (λ q. omega arith) (λ q. omega arith) (λ q. omega arith) (λ q. omega arith) (λ q. omega arith)
-
-pub word_ok-requires : goal.word_ok-requires
-word_ok-requires c = search rules
-
-pub ended_ok-requires : goal.ended_ok-requires
-ended_ok-requires c = search rules
-
-pub mover_ok-requires : goal.mover_ok-requires
-mover_ok-requires c = search rules
 
 pub returns-in-4 : goal.returns-in-4
 returns-in-4 c =

@@ -3,7 +3,6 @@ use mathlib.Core.Bool.{Bool}
 use Prim.Native.Nat.{ℕ, ◌-◌}
 use native.Mathlib.Omega.{arith}
 use lib.ListN.{get_or}
-use borrow.Author.Rules.{rules}
 use Rattle.rig_read.proofs.Zeros.{tests_none, tests_more}
 use Rattle.rules.specs.Numbers.{processor_id}
 use Rattle.rules.specs.Cells.{hint}
@@ -16,42 +15,17 @@ loop-k-init c =
     let a = c.args in
     (omega arith, tests_none (λ i. hint_ok a.n (hint (processor_id (get_or a.processors.now i 0)) (get_or a.moves.now i 0))))
 
-pub bounds-processors-k : goal.bounds-processors-k
-bounds-processors-k c = search rules
-
-pub offset_bounds-moves-k : goal.offset_bounds-moves-k
-offset_bounds-moves-k c = search rules
-
-pub bounds-moves-k : goal.bounds-moves-k
-bounds-moves-k c = search rules
-
-pub wide16-requires : goal.wide16-requires
-wide16-requires c = search rules
-
-pub entry_ok-ok-requires : goal.entry_ok-ok-requires
-entry_ok-ok-requires c = search rules
-
-pub fault-any-requires : goal.fault-any-requires
-fault-any-requires c = search rules
-
-pub overflow_add-k : goal.overflow_add-k
-overflow_add-k c = search rules
-
-pub loop-k-smaller : goal.loop-k-smaller
-loop-k-smaller c = search rules
-
 pub loop-k-preserved : goal.loop-k-preserved
 loop-k-preserved c =
     let l = c.loop-k in
     let a = c.args in
     let p : ℕ → Bool = λ i. hint_ok a.n (hint (processor_id (get_or a.processors.now i 0)) (get_or a.moves.now i 0)) in
     let e : c.entry_ok-ok.result ≡ p l.k = c.entry_ok-ok.ensures ∙ rw c.wide16.ensures refl in
-    (omega arith, tests_more p l.k l.entry_ok-arg-1 l.invariant.1 e c.fault-any.ensures)
+    (omega arith, tests_more p l.k l.any l.invariant.1 e c.fault-any.ensures)
 
 pub returns : goal.returns
 returns c =
     let l = c.loop-k in
-    let s = c.before.before in
     let e : l.k ≡ 768 = omega arith in
     (rw e at l.invariant.1)
-    ∙ sym (every_entries (λ d k. hint_ok s.args.n (hint (processor_id d) k)) 768 s.args.processors.now s.args.moves.now 0 0 s.requires.0 s.requires.1)
+    ∙ sym (every_entries (λ d k. hint_ok c.args.n (hint (processor_id d) k)) 768 c.args.processors.now c.args.moves.now 0 0 c.requires.0 c.requires.1)

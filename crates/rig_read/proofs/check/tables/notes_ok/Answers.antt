@@ -4,25 +4,12 @@ use Prim.Native.Nat.{ℕ, ◌-◌}
 use native.Mathlib.Omega.{arith}
 use lib.Dec.{leb}
 use lib.ListN.{get_or}
-use borrow.Author.Rules.{rules}
 use Rattle.rig_read.proofs.Zeros.{tests_none, tests_more}
 use Rattle.rig_read.proofs.Passing.{every_entry}
 use Rattle.rig_read.proofs.check.tables.notes_ok.Goals as goal
 
 pub loop-k-init : goal.loop-k-init
 loop-k-init c = (omega arith, tests_none (λ i. leb (get_or c.args.notes.now i 0) c.args.n))
-
-pub bounds-notes-k : goal.bounds-notes-k
-bounds-notes-k c = search rules
-
-pub fault-any-requires : goal.fault-any-requires
-fault-any-requires c = search rules
-
-pub overflow_add-k : goal.overflow_add-k
-overflow_add-k c = search rules
-
-pub loop-k-smaller : goal.loop-k-smaller
-loop-k-smaller c = search rules
 
 pub loop-k-preserved : goal.loop-k-preserved
 loop-k-preserved c =
@@ -34,6 +21,5 @@ loop-k-preserved c =
 pub returns : goal.returns
 returns c =
     let l = c.loop-k in
-    let s = c.before.before in
     let e : l.k ≡ 768 = omega arith in
-    (rw e at l.invariant.1) ∙ sym (every_entry (λ d. leb d s.args.n) 768 s.args.notes.now 0 s.requires)
+    (rw e at l.invariant.1) ∙ sym (every_entry (λ d. leb d c.args.n) 768 c.args.notes.now 0 c.requires)

@@ -5,33 +5,11 @@ use lib.ListN.{get_or}
 use Rattle.rig_read.specs.Passing.{task_tidy, tasks_tidy}
 use Rattle.rig_read.proofs.Zeros.{tests_none, tests_more}
 use Rattle.rig_read.proofs.Tidy.{tidy_on}
-use borrow.Author.Rules.{rules}
 use Rattle.rig_read.proofs.check.tasks.tasks_tidy.Invariants.{tidy_at}
 use Rattle.rig_read.proofs.check.tasks.tasks_tidy.Goals as goal
 
 pub loop-k-init : goal.loop-k-init
 loop-k-init c = (omega arith, tests_none (tidy_at c.args.board.now))
-
-pub overflow_mul-k : goal.overflow_mul-k
-overflow_mul-k c = search rules
-
-pub overflow_add-k : goal.overflow_add-k
-overflow_add-k c = search rules
-
-pub offset_bounds-board-k : goal.offset_bounds-board-k
-offset_bounds-board-k c = search rules
-
-pub bounds-board-k : goal.bounds-board-k
-bounds-board-k c = search rules
-
-pub untidy-any-requires : goal.untidy-any-requires
-untidy-any-requires c = search rules
-
-pub overflow_add-k-in-loop-k : goal.overflow_add-k-in-loop-k
-overflow_add-k-in-loop-k c = search rules
-
-pub loop-k-smaller : goal.loop-k-smaller
-loop-k-smaller c = search rules
 
 pub loop-k-preserved : goal.loop-k-preserved
 loop-k-preserved c =

@@ -3,23 +3,10 @@ use Prim.Native.Nat.{◌+◌, ◌-◌}
 use native.Mathlib.Omega.{arith}
 use lib.ListN.{get_or}
 use Rattle.rig_read.proofs.Zeros.{zeros_none, zeros_more}
-use borrow.Author.Rules.{rules}
 use Rattle.rig_read.proofs.check.zeros.zeros_at.Goals as goal
 
 pub loop-k-init : goal.loop-k-init
 loop-k-init c = (omega arith, zeros_none (λ i. get_or c.args.b.now (c.args.first + i) 0))
-
-pub overflow_add-any : goal.overflow_add-any
-overflow_add-any c = search rules
-
-pub bounds-b-first : goal.bounds-b-first
-bounds-b-first c = search rules
-
-pub overflow_add-k : goal.overflow_add-k
-overflow_add-k c = search rules
-
-pub loop-k-smaller : goal.loop-k-smaller
-loop-k-smaller c = search rules
 
 pub loop-k-preserved : goal.loop-k-preserved
 loop-k-preserved c =

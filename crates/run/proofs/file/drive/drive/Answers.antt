@@ -71,18 +71,6 @@ known c = rig c (begin (tabled (boarded c)).before).requires.0.begins
 pub build-requires : goal.build-requires
 build-requires c = (refl, few_users c.requires.0.begins)
 
-pub no_tables-tables-requires : goal.no_tables-tables-requires
-no_tables-tables-requires c = search rules
-
-pub start_board-requires : goal.start_board-requires
-start_board-requires c = search rules
-
-pub locate-requires : goal.locate-requires
-locate-requires c = search rules
-
-pub no_messages-network-requires : goal.no_messages-network-requires
-no_messages-network-requires c = search rules
-
 pub run_steps-network-requires : goal.run_steps-network-requires
 run_steps-network-requires c =
     let after-no-messages = c.before.before.before.before.before.before.before.before.before in
@@ -123,15 +111,6 @@ emit_last-requires c =
     let h = after-run-steps.run_steps-network.ensures.0 in
     let lines = after-emit-marks.emit_marks.ensures in
     (rig_messages (ran_rig (known (with-no-messages after-run-steps)) _ h), lines.long ∙ h.two, lines.room (written_room h.lines))
-
-pub bounds-progress-0 : goal.bounds-progress-0
-bounds-progress-0 c = search rules
-
-pub bounds-progress-1 : goal.bounds-progress-1
-bounds-progress-1 c = search rules
-
-pub shape_of-out : goal.shape_of-out
-shape_of-out c = search rules
 
 pub returns : goal.returns
 returns c p b =

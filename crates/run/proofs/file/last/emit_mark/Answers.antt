@@ -24,26 +24,11 @@ unmarked c = c.before.before.before.before
 abbrev tested : Else-not-x → After-task_at-x
 tested c = c.before.before
 
-pub bounds-progress-1 : goal.bounds-progress-1
-bounds-progress-1 c = search rules
-
 pub returns-then-progress-ne0 : goal.returns-then-progress-ne0
 returns-then-progress-ne0 c = next_stopped _ _ _ c.if-progress-ne0.true
 
-pub task_at-x-requires : goal.task_at-x-requires
-task_at-x-requires c = search rules
-
 pub returns-then-not-x : goal.returns-then-not-x
 returns-then-not-x c = rw (mark c.before.before ∙ not-true _ c.if-not-x.true) (next_none _ _)
-
-pub bounds-progress-0 : goal.bounds-progress-0
-bounds-progress-0 c = search rules
-
-pub wide8-requires : goal.wide8-requires
-wide8-requires c = search rules
-
-pub emit_over-written-requires : goal.emit_over-written-requires
-emit_over-written-requires c = search rules
 
 pub note-requires : goal.note-requires
 note-requires c =
@@ -51,9 +36,6 @@ note-requires c =
     let else1 = (tested (unmarked m)).before in
     let start = else1.before.before.before in
     (start.requires.1, omega (arith, noted_room _ start.args.progress.now _ start.requires.1 else1.if-progress-ne0.left start.requires.2 m.emit_over-written.ensures, start.good.0))
-
-pub shape_of-out : goal.shape_of-out
-shape_of-out c = search rules
 
 pub returns : goal.returns
 returns c =

@@ -44,12 +44,6 @@ numbered c = c.before.before.before.before.before
 abbrev passed : After-numbers-1 → Else-not-steps_ok
 passed c = c.before.before.before.before
 
-pub is_within-requires : goal.is_within-requires
-is_within-requires c = search rules
-
-pub refused-requires : goal.refused-requires
-refused-requires c = search rules
-
 pub returns-then-not-is_within : goal.returns-then-not-is_within
 returns-then-not-is_within c =
     let i = c.before.before.is_Within in
@@ -57,21 +51,6 @@ returns-then-not-is_within c =
 
 pub open-opened-requires : goal.open-opened-requires
 open-opened-requires c = (refl, refl, refl, refl)
-
-pub enum_known-answer : goal.enum_known-answer
-enum_known-answer c = search rules
-
-pub refused-requires-in-Refused : goal.refused-requires-in-Refused
-refused-requires-in-Refused c = search rules
-
-pub enum_told-1 : goal.enum_told-1
-enum_told-1 c = search rules
-
-pub steps_ok-requires : goal.steps_ok-requires
-steps_ok-requires c = search rules
-
-pub refused-requires-then-not-steps_ok : goal.refused-requires-then-not-steps_ok
-refused-requires-then-not-steps_ok c = search rules
 
 pub returns-then-not-steps_ok : goal.returns-then-not-steps_ok
 returns-then-not-steps_ok c =
@@ -97,9 +76,6 @@ drive-d-requires c =
     let k = opened t in
     (record { plan = _; begins = opened_begins k.open-opened.ensures t.in-Accepted.is _ (processors (within-limits k)) n.put_numbers.ensures }, steps_few _ (steps p))
 
-pub shape_of-out-then-d : goal.shape_of-out-then-d
-shape_of-out-then-d c = search rules
-
 pub returns-then-d : goal.returns-then-d
 returns-then-d c =
     let d = c.before.before.before in
@@ -116,9 +92,6 @@ returns-in-Refused c =
     let k = c.before.before in
     rw c.refused-in-Refused.ensures
     (file_refused _ _ _ _ (processors (within-limits k)) _ (sym k.open-opened.ensures.answered ∙ c.in-Refused.is))
-
-pub shape_of-out : goal.shape_of-out
-shape_of-out c = search rules
 
 pub returns-else-d : goal.returns-else-d
 returns-else-d c =

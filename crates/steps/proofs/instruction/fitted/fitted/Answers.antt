@@ -11,10 +11,10 @@ pub refused-requires : goal.refused-requires
 refused-requires c = search rules
 
 pub returns-then-not-fits : goal.returns-then-not-fits
-returns-then-not-fits c = λ k s. rw (sym c.before.before.fits2.ensures, not-true c.before.before.fits2.result c.if-not-fits.true-raw) c.refused.ensures
+returns-then-not-fits c = λ k s. rw (sym c.fits.ensures, not-true c.fits.result c.if-not-fits.true-raw) c.refused.ensures
 
 pub accepted-requires : goal.accepted-requires
 accepted-requires c = search rules
 
 pub returns : goal.returns
-returns c = λ k s. rw (sym c.before.before.fits2.ensures, not-false c.before.before.fits2.result c.if-not-fits.false-raw) c.accepted.ensures
+returns c = λ k s. rw (sym c.fits.ensures, not-false c.fits.result c.if-not-fits.false-raw) c.accepted.ensures

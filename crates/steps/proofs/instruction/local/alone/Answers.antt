@@ -21,5 +21,5 @@ unfolding task_stored
 returns c ss rs hp hm op on notes d =
     let a = c.args in
     let put = c.put_task in
-    two_acted ss rs a.t (task_id 0) d a.y no_task NoPosting Nothing (lent hp hm op on notes a.board.now) (lent hp hm op on notes put.new.0)
+    two_acted ss rs a.t (task_id 0) d a.y no_task NoPosting Nothing (lent hp hm op on notes a.board.now) (lent hp hm op on notes put.new.board)
     put.ensures.0 c.posted.ensures put.ensures.1 (rw put.ensures.2 refl) put.ensures.3

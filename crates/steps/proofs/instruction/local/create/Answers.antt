@@ -25,8 +25,7 @@ put_task-requires-2 c = search rules
 
 pub point_parent-requires : goal.point_parent-requires
 point_parent-requires c =
-    let s = c.before.before.before.before.before.before.before.before in
-    let can = s.requires.2 in
+    let can = c.requires.2 in
     (record { processor_low = can.processor_low; processor = can.processor; task = can.child }, c.put_task-2.ensures.0)
 
 pub locate-requires : goal.locate-requires
@@ -37,24 +36,18 @@ posted-requires c = search rules
 
 pub returns : goal.returns
 returns c ss op on notes =
-    let found = c.before in
-    let point = found.before.before.before in
-    let second = point.before.before in
-    let first = second.before.before in
-    let child = first.before.before in
-    let made = child.before in
-    let a = made.args in
+    let a = c.args in
     let x = a.x in
     let d = x.processor in
-    let one = first.put_task in
-    let two = second.put_task-2 in
-    let put = point.point_parent in
-    let at = found.locate in
-    let now = put.new.0 in
+    let one = c.put_task in
+    let two = c.put_task-2 in
+    let put = c.point_parent in
+    let at = c.locate in
+    let now = put.new.board in
     two_acted ss (receivers_of a.users.now) a.t a.u d (create_rule x a.u) (born d (hint d x.moves)) NoPosting (Birth a.u d)
-    (lent a.hintprocessors.now a.hintmoves.now op on notes a.board.now) (lent at.new.1.0 at.new.1.1.0 op on notes now)
+    (lent a.hintprocessors.now a.hintmoves.now op on notes a.board.now) (lent at.new.hintprocessors at.new.hintmoves op on notes now)
     put.ensures.0
     c.posted.ensures
-    (put.ensures.2 ∙ two.ensures.1 ∙ rw (one.ensures.1, made.create_rule-y.ensures, child.birth-child.ensures) refl)
+    (put.ensures.2 ∙ two.ensures.1 ∙ rw (one.ensures.1, c.create_rule-y.ensures, c.birth-child.ensures) refl)
     ((at.ensures op on notes now put.ensures.0).store ∙ rw (put.ensures.3, two.ensures.2, one.ensures.2) refl)
     (put.ensures.1 ∙ rw (two.ensures.3, one.ensures.3) refl)

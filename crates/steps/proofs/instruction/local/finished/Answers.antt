@@ -12,7 +12,7 @@ task_at-a-requires c = rw c.parent-u.ensures c.requires.parent
 pub parent_at-e-requires : goal.parent_at-e-requires
 parent_at-e-requires c =
     let can = c.requires in
-    record { processor_low = can.processor_low; processor = can.processor; task = rw c.parent-u.ensures can.parent-u }
+    record { processor_low = can.processor_low; processor = can.processor; task = rw c.parent-u.ensures can.parent }
 
 pub finish_rule-requires : goal.finish_rule-requires
 finish_rule-requires c = search rules

@@ -23,11 +23,11 @@ use Rattle.steps.proofs.instruction.next.next_of.Goals.{After-instruction_in-i, 
 abbrev start : Else-not-is_within → Start
 start c = c.before.before.before.before
 
-within_is : (c : After-is_within) → c.is_Within.result ≡ within 1 c.args.count c.args.t.0
-within_is c = rw (c.wide8.ensures, c.wide8-2.ensures) at c.is_Within.ensures
+within_is : (c : After-is_within) → c.is_within.result ≡ within 1 c.args.count c.args.t.0
+within_is c = rw (c.wide8.ensures, c.wide8-2.ensures) at c.is_within.ensures
 
 counted : (c : Else-not-is_within) → within 1 (start c).args.count (start c).args.t.0 ≡ true
-counted c = sym (within_is c.before) ∙ not-false c.before.is_Within.result c.if-not-is_within.false-raw
+counted c = sym (within_is c.before) ∙ not-false c.before.is_within.result c.if-not-is_within.false-raw
 
 -- the task, which is ready, and its next instruction
 abbrev task : Else-not-is_within → Task
@@ -75,7 +75,7 @@ is_within-requires c = search rules
 pub returns-then-not-is_within : goal.returns-then-not-is_within
 returns-then-not-is_within c =
     let a = c.args in
-    no_task_lem a.codes.now a.count (tasks_on a.board.now) a.t (sym (within_is c.before) ∙ not-true c.before.is_Within.result c.if-not-is_within.true-raw)
+    no_task_lem a.codes.now a.count (tasks_on a.board.now) a.t (sym (within_is c.before) ∙ not-true c.before.is_within.result c.if-not-is_within.true-raw)
 
 pub task_at-x-requires : goal.task_at-x-requires
 task_at-x-requires c = omega (arith, c.requires.few, within_high 1 c.args.count c.args.t.0 (counted c))

@@ -11,25 +11,6 @@ use borrow.Author.Rules.{rules}
 use Rattle.rig_parts.specs.declared.sweep.Sweep.TheVariants.{Nothing}
 use Rattle.rules.specs.Systems.{task_in}
 use Rattle.steps.proofs.instruction.receive.receive.Goals as goal
-use Rattle.steps.proofs.instruction.receive.receive.Goals.{After-receive_outcome-o, After-sender-u, Else-not-fits, Start}
-
--- where it began
-abbrev start : After-receive_outcome-o → Start
-start c = c.before.before.before
-
--- the letters fit
-abbrev fit : After-sender-u → Else-not-fits
-fit c = c.before.before.before.before.before.before.before.before
-
--- what the rule leaves
-abbrev ruled : After-sender-u → After-receive_outcome-o
-ruled c = (fit c).before.before
-
--- the receiver is where it was
-processor : (c : After-receive_outcome-o) → let s = (start c).args in c.receive_outcome-o.result.receiver.processor ≡ (task_in (tasks_on s.board.now) s.t).processor
-processor c =
-    let s = (start c).args in
-    receive_processor s.codes.now s.numbers.now (senders_of s.users.now) s.notes.now s.board.now s.t s.c (start c).requires.1.receivable.at.channel_low c.receive_outcome-o.ensures
 
 pub receive_outcome-o-requires : goal.receive_outcome-o-requires
 receive_outcome-o-requires c = search rules
@@ -42,62 +23,58 @@ refused-requires c = search rules
 
 pub returns-then-not-fits : goal.returns-then-not-fits
 returns-then-not-fits c =
-    let tested = c.before.before in
-    let fits = tested.fits2 in
-    let x = tested.before in
-    let s = (start x).args in
-    let g = (start x).requires.1.receivable in
+    let s = c.args in
+    let g = c.requires.1.receivable in
     let k = receive_scope (senders_of s.users.now) (tasks_on s.board.now) s.t s.c in
     λ receivers hp hm op on.
     none_fits s.n.processors s.n.used k (senders_of s.users.now) receivers
-    (receive_kept s.codes.now s.numbers.now (senders_of s.users.now) s.notes.now s.board.now s.t s.c g.at.channel_low hp hm op on x.receive_outcome-o.ensures)
-    fits.ensures Nothing (not-true fits.result c.if-not-fits.true-raw) c.refused.ensures (start x).requires.0
+    (receive_kept s.codes.now s.numbers.now (senders_of s.users.now) s.notes.now s.board.now s.t s.c g.at.channel_low hp hm op on c.receive_outcome-o.ensures)
+    c.fits.ensures Nothing (not-true c.fits.result c.if-not-fits.true-raw) c.refused.ensures c.requires.0
 
 pub sender-u-requires : goal.sender-u-requires
 sender-u-requires c = search rules
 
 pub put_task-requires : goal.put_task-requires
-put_task-requires c = let u = c.before in (rw u.sender-u.ensures (start (ruled u)).requires.1.receivable.sender, (start (ruled u)).requires.0)
+put_task-requires c = (rw c.sender-u.ensures c.requires.1.receivable.sender, c.requires.0)
 
 pub put_task-requires-2 : goal.put_task-requires-2
 put_task-requires-2 c = search rules
 
 pub put_note-requires : goal.put_note-requires
-put_note-requires c = let x = ruled c.before.before.before.before.before in rw (processor x) (start x).requires.1.receivable.at
+put_note-requires c =
+    -- the receiver is where it was
+    let s = c.args in
+    let g = c.requires.1.receivable in
+    let stays : c.receive_outcome-o.result.receiver.processor ≡ (task_in (tasks_on s.board.now) s.t).processor =
+    receive_processor s.codes.now s.numbers.now (senders_of s.users.now) s.notes.now s.board.now s.t s.c g.at.channel_low c.receive_outcome-o.ensures in
+    rw stays g.at
 
 pub put_channel-requires : goal.put_channel-requires
-put_channel-requires c =
-    let second = c.before.before.before in
-    let g = (start (ruled second.before.before.before.before)).requires.1.receivable.at in
-    (g.channel_low, g.channel, second.put_task-2.ensures.0)
+put_channel-requires c = let g = c.requires.1.receivable.at in (g.channel_low, g.channel, c.put_task-2.ensures.0)
 
 pub accepted-requires : goal.accepted-requires
 accepted-requires c = search rules
 
 pub returns : goal.returns
 returns c =
-    let noted = c.before.before.before in
-    let second = noted.before.before in
-    let first = second.before.before in
-    let u = first.before.before in
-    let x = ruled u in
-    let s = (start x).args in
-    let g = (start x).requires.1.receivable in
+    let s = c.args in
+    let g = c.requires.1.receivable in
+    let stays : c.receive_outcome-o.result.receiver.processor ≡ (task_in (tasks_on s.board.now) s.t).processor =
+    receive_processor s.codes.now s.numbers.now (senders_of s.users.now) s.notes.now s.board.now s.t s.c g.at.channel_low c.receive_outcome-o.ensures in
     let k = receive_scope (senders_of s.users.now) (tasks_on s.board.now) s.t s.c in
-    let fits = (fit u).before.fits2 in
-    let one = first.put_task.ensures in
-    let two = second.put_task-2 in
+    let one = c.put_task.ensures in
+    let two = c.put_task-2 in
     let own = c.put_channel in
-    let note = rw (processor x) at noted.put_note.ensures in
+    let note = rw stays at c.put_note.ensures in
     λ receivers hp hm op on.
     let before = lent hp hm op on s.notes.now s.board.now in
-    let after = lent hp hm op on noted.put_note.new.notes own.new.0 in
+    let after = lent hp hm op on c.put_note.new.notes own.new.board in
     all_stored s.n.processors s.n.used k (senders_of s.users.now) receivers
-    (receive_kept s.codes.now s.numbers.now (senders_of s.users.now) s.notes.now s.board.now s.t s.c g.at.channel_low hp hm op on x.receive_outcome-o.ensures)
-    fits.ensures before after g.at.channel_low (not-false fits.result (fit u).if-not-fits.false-raw) own.ensures.0
-    (own.ensures.2 ∙ both_stored (tasks_on s.board.now) x.receive_outcome-o.result u.sender-u.ensures refl one.1 two.ensures.1)
-    (note_stored hp hm op on s.notes.now s.board.now two.new.0 own.new.0
-    k.processor s.c x.receive_outcome-o.result.cell
+    (receive_kept s.codes.now s.numbers.now (senders_of s.users.now) s.notes.now s.board.now s.t s.c g.at.channel_low hp hm op on c.receive_outcome-o.ensures)
+    c.fits.ensures before after g.at.channel_low (not-false c.fits.result c.if-not-fits.false-raw) own.ensures.0
+    (own.ensures.2 ∙ both_stored (tasks_on s.board.now) c.receive_outcome-o.result c.sender-u.ensures refl one.1 two.ensures.1)
+    (note_stored hp hm op on s.notes.now s.board.now two.new.board own.new.board
+    k.processor s.c c.receive_outcome-o.result.cell
     note (two.ensures.2 ∙ one.2) own.ensures.1)
     (own.ensures.3 ∙ two.ensures.3 ∙ one.3)
     c.accepted.ensures

@@ -16,11 +16,10 @@ fitted-requires c = search rules
 
 pub returns : goal.returns
 returns c =
-    let x = c.before in
-    let s = x.args in
-    let some = x.requires.receivable.at.channel_low in
+    let s = c.args in
+    let some = c.requires.receivable.at.channel_low in
     let k = receive_scope (senders_of s.users.now) (tasks_on s.board.now) s.t s.c in
     λ hp hm op on.
-    decided s.n.processors s.n.used k x.receive_outcome-o.result
-    (receive_kept s.codes.now s.numbers.now (senders_of s.users.now) s.notes.now s.board.now s.t s.c some hp hm op on x.receive_outcome-o.ensures)
+    decided s.n.processors s.n.used k c.receive_outcome-o.result
+    (receive_kept s.codes.now s.numbers.now (senders_of s.users.now) s.notes.now s.board.now s.t s.c some hp hm op on c.receive_outcome-o.ensures)
     (c.fitted.ensures k Nothing)

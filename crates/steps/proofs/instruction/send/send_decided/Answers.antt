@@ -16,11 +16,10 @@ fitted-requires c = search rules
 
 pub returns : goal.returns
 returns c =
-    let x = c.before in
-    let s = x.args in
-    let some = x.requires.sendable.at.channel_low in
+    let s = c.args in
+    let some = c.requires.sendable.at.channel_low in
     let k = send_scope (receivers_of s.users.now) (tasks_on s.board.now) s.t s.c in
     λ notes.
-    decided s.n.processors s.n.used k x.send_outcome-o.result
-    (send_noted s.codes.now s.numbers.now (receivers_of s.users.now) s.hintprocessors.now s.hintmoves.now s.heldprocessors.now s.heldnumbers.now s.board.now s.t s.c some notes x.send_outcome-o.ensures)
+    decided s.n.processors s.n.used k c.send_outcome-o.result
+    (send_noted s.codes.now s.numbers.now (receivers_of s.users.now) s.hintprocessors.now s.hintmoves.now s.heldprocessors.now s.heldnumbers.now s.board.now s.t s.c some notes c.send_outcome-o.ensures)
     (c.fitted.ensures k Nothing)

@@ -1,19 +1,13 @@
 -- An advert. What it leaves is stored.
-use mathlib.Core.Path.{refl, sym, ◌∙◌}
+use mathlib.Core.Path.{sym, ◌∙◌}
 use Rattle.board.specs.Lent.{lent, tasks_on}
-use Rattle.steps.proofs.message.Others.{no_other}
-use Rattle.steps.proofs.message.Bounds.{Bounded, advert_bounded, sender_in, receiver_in}
+use Rattle.steps.proofs.message.Bounds.{advert_bounded, sender_in, receiver_in}
 use Rattle.steps.proofs.message.Rules.{advert_kind}
 use Rattle.steps.proofs.message.Tasks.{both_own}
 use Rattle.board.proofs.Stores.{note_stored}
 use Rattle.steps.proofs.message.Sites.{opened}
 use borrow.Author.Rules.{rules}
 use Rattle.steps.proofs.message.advert.advert.Goals as goal
-use Rattle.steps.proofs.message.advert.advert.Goals.{In-Advert-2}
-
--- the channel and the desk that the letter names
-abbrev bounds : (c : In-Advert-2) → Bounded c.args.users.now c.args.board.now c.in-Advert.c c.in-Advert.d
-bounds c = advert_bounded c.requires.1.holds.holds.holds.holds c.in-Advert.is
 
 pub enum_known-m : goal.enum_known-m
 enum_known-m c = search rules
@@ -21,17 +15,14 @@ enum_known-m c = search rules
 pub posted-requires : goal.posted-requires
 posted-requires c = search rules
 
-pub returns-in_default : goal.returns-in_default
-returns-in_default c = absurd (no_other 2 c.requires.0.is refl tt c.in_default.in_default-own.keys2)
-
 pub advert_outcome-o-requires : goal.advert_outcome-o-requires
 advert_outcome-o-requires c = rw c.in-Advert.is at c.requires
 
 pub put_note-requires : goal.put_note-requires
-put_note-requires c = (bounds c.before.before.before.before.before.before.before).cell
+put_note-requires c = (advert_bounded c.requires.1.holds.holds.holds.holds c.in-Advert.is).cell
 
 pub put_channel-requires : goal.put_channel-requires
-put_channel-requires c = let b = bounds c.before.before.before.before.before.before.before.before.before in (b.cell.channel_low, b.cell.channel, b.whole)
+put_channel-requires c = let b = advert_bounded c.requires.1.holds.holds.holds.holds c.in-Advert.is in (b.cell.channel_low, b.cell.channel, b.whole)
 
 pub accepted-requires : goal.accepted-requires
 accepted-requires c = search rules
@@ -39,16 +30,14 @@ accepted-requires c = search rules
 pub returns : goal.returns
 returns c =
     let s = c.args in
-    let k = c.before.before.before.before.before.before.before.before.before.before.before in
-    let x = k.m-1.given.0 in
     let from = c.advert_outcome-o in
     let own = c.put_channel in
     λ hintprocessors hintmoves heldprocessors heldnumbers.
-    opened (advert_kind x.0 x.1.0 x.1.1.0) k.in-Advert.is s.codes.now s.users.now
-    (lent hintprocessors hintmoves heldprocessors heldnumbers s.notes.now s.board.now) (bounds k).cell.channel_low
-    (lent hintprocessors hintmoves heldprocessors heldnumbers c.put_note.new.notes own.new.0)
+    opened (advert_kind c.in-Advert.c c.in-Advert.d c.in-Advert.field-2) c.in-Advert.is s.codes.now s.users.now
+    (lent hintprocessors hintmoves heldprocessors heldnumbers s.notes.now s.board.now) (advert_bounded c.requires.1.holds.holds.holds.holds c.in-Advert.is).cell.channel_low
+    (lent hintprocessors hintmoves heldprocessors heldnumbers c.put_note.new.notes own.new.board)
     (from.ensures hintprocessors hintmoves heldprocessors heldnumbers) c.accepted.ensures
     own.ensures.0
-    (own.ensures.2 ∙ sym (both_own (tasks_on s.board.now) (sender_in s.users.now x.0) (receiver_in s.users.now x.0)))
-    (note_stored hintprocessors hintmoves heldprocessors heldnumbers s.notes.now s.board.now x.1.0 x.0 from.result.cell.entry.noted from.result.cell.channel own.new.0 c.put_note.ensures own.ensures.1)
+    (own.ensures.2 ∙ sym (both_own (tasks_on s.board.now) (sender_in s.users.now c.in-Advert.c) (receiver_in s.users.now c.in-Advert.c)))
+    (note_stored hintprocessors hintmoves heldprocessors heldnumbers s.notes.now s.board.now c.in-Advert.d c.in-Advert.c from.result.cell.entry.noted from.result.cell.channel own.new.board c.put_note.ensures own.ensures.1)
     own.ensures.3

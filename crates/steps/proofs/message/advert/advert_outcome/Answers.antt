@@ -1,17 +1,11 @@
 -- An advert. The rule is asked at what it sees of the site.
 use mathlib.Core.Path.{refl}
 use Rattle.board.specs.Lent.{lent}
-use Rattle.steps.proofs.message.Others.{no_other}
-use Rattle.steps.proofs.message.Bounds.{Bounded, advert_bounded}
+use Rattle.steps.proofs.message.Bounds.{advert_bounded}
 use Rattle.steps.proofs.message.Rules.{advert_kind}
 use Rattle.steps.proofs.message.Sites.{found}
 use borrow.Author.Rules.{rules}
 use Rattle.steps.proofs.message.advert.advert_outcome.Goals as goal
-use Rattle.steps.proofs.message.advert.advert_outcome.Goals.{In-Advert-2}
-
--- the channel and the desk that the letter names
-abbrev bounds : (c : In-Advert-2) → Bounded c.args.users.now c.args.board.now c.in-Advert.c c.in-Advert.d
-bounds c = advert_bounded c.requires.1.holds.holds.holds.holds c.in-Advert.is
 
 pub enum_known-m : goal.enum_known-m
 enum_known-m c = search rules
@@ -19,14 +13,11 @@ enum_known-m c = search rules
 pub unopened-requires : goal.unopened-requires
 unopened-requires c = search rules
 
-pub returns-in_default : goal.returns-in_default
-returns-in_default c = absurd (no_other 2 c.requires.0.is refl tt c.in_default.in_default-own.keys2)
-
 pub note_at-noted-requires : goal.note_at-noted-requires
-note_at-noted-requires c = (bounds c.before).cell
+note_at-noted-requires c = (advert_bounded c.requires.1.holds.holds.holds.holds c.in-Advert.is).cell
 
 pub channel_at-channel-requires : goal.channel_at-channel-requires
-channel_at-channel-requires c = let b = bounds c.before.before in (b.cell.channel_low, b.cell.channel)
+channel_at-channel-requires c = let b = advert_bounded c.requires.1.holds.holds.holds.holds c.in-Advert.is in (b.cell.channel_low, b.cell.channel)
 
 pub unknown-unknown-requires : goal.unknown-unknown-requires
 unknown-unknown-requires c = search rules
@@ -38,19 +29,17 @@ pub cell_of-cell-requires : goal.cell_of-cell-requires
 cell_of-cell-requires c = search rules
 
 pub at_receiver-x-requires : goal.at_receiver-x-requires
-at_receiver-x-requires c = let b = bounds c.before.before.before.before.before.before in (b.cell.channel, b.receiver, b.receiver_place)
+at_receiver-x-requires c = let b = advert_bounded c.requires.1.holds.holds.holds.holds c.in-Advert.is in (b.cell.channel, b.receiver, b.receiver_place)
 
 pub advert-requires : goal.advert-requires
-advert-requires c = rw (c.at_receiver-x.ensures, c.cell_of-cell.ensures, c.channel_at-channel.ensures) (bounds c.before.before.before.before.before.before.before).called
+advert-requires c = rw (c.at_receiver-x.ensures, c.cell_of-cell.ensures, c.channel_at-channel.ensures) (advert_bounded c.requires.1.holds.holds.holds.holds c.in-Advert.is).called
 
 pub returns : goal.returns
 returns c =
     let s = c.args in
-    let k = c.before.before.before.before.before.before.before.before in
-    let x = k.m-1.given.0 in
     λ hintprocessors hintmoves heldprocessors heldnumbers.
-    found (advert_kind x.0 x.1.0 x.1.1.0) k.in-Advert.is s.codes.now s.users.now
-    (lent hintprocessors hintmoves heldprocessors heldnumbers s.notes.now s.board.now) (bounds k).cell.channel_low
+    found (advert_kind c.in-Advert.c c.in-Advert.d c.in-Advert.field-2) c.in-Advert.is s.codes.now s.users.now
+    (lent hintprocessors hintmoves heldprocessors heldnumbers s.notes.now s.board.now) (advert_bounded c.requires.1.holds.holds.holds.holds c.in-Advert.is).cell.channel_low
     (rw (
       c.at_receiver-x.ensures,
       c.cell_of-cell.ensures,

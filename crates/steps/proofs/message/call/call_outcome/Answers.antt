@@ -1,17 +1,11 @@
 -- A call. The rule is asked at what it sees of the site.
 use mathlib.Core.Path.{refl}
 use Rattle.board.specs.Lent.{lent}
-use Rattle.steps.proofs.message.Others.{no_other}
-use Rattle.steps.proofs.message.Bounds.{Bounded, call_bounded}
+use Rattle.steps.proofs.message.Bounds.{call_bounded}
 use Rattle.steps.proofs.message.Rules.{call_kind}
 use Rattle.steps.proofs.message.Sites.{found}
 use borrow.Author.Rules.{rules}
 use Rattle.steps.proofs.message.call.call_outcome.Goals as goal
-use Rattle.steps.proofs.message.call.call_outcome.Goals.{In-ReadyToReceive-2}
-
--- the channel and the desk that the letter names
-abbrev bounds : (c : In-ReadyToReceive-2) → Bounded c.args.users.now c.args.board.now c.in-ReadyToReceive.c c.in-ReadyToReceive.d
-bounds c = call_bounded c.requires.1.holds.holds.holds c.in-ReadyToReceive.is
 
 pub enum_known-m : goal.enum_known-m
 enum_known-m c = search rules
@@ -19,20 +13,17 @@ enum_known-m c = search rules
 pub unopened-requires : goal.unopened-requires
 unopened-requires c = search rules
 
-pub returns-in_default : goal.returns-in_default
-returns-in_default c = absurd (no_other 3 c.requires.0.is refl tt c.in_default.in_default-own.keys2)
-
 pub sender-u-requires : goal.sender-u-requires
-sender-u-requires c = (bounds c.before).cell.channel
+sender-u-requires c = (call_bounded c.requires.1.holds.holds.holds c.in-ReadyToReceive.is).cell.channel
 
 pub task_at-a-requires : goal.task_at-a-requires
-task_at-a-requires c = rw c.sender-u.ensures (bounds c.before.before).sender-u
+task_at-a-requires c = rw c.sender-u.ensures (call_bounded c.requires.1.holds.holds.holds c.in-ReadyToReceive.is).sender
 
 pub is_on-sending-requires : goal.is_on-sending-requires
-is_on-sending-requires c = let b = bounds c.before.before.before in (rw c.sender-u.ensures b.sender-u, rw (c.task_at-a.ensures, c.sender-u.ensures) b.sender_place)
+is_on-sending-requires c = let b = call_bounded c.requires.1.holds.holds.holds c.in-ReadyToReceive.is in (rw c.sender-u.ensures b.sender, rw (c.task_at-a.ensures, c.sender-u.ensures) b.sender_place)
 
 pub hint_at-hint-requires : goal.hint_at-hint-requires
-hint_at-hint-requires c = (bounds c.before.before.before.before).cell
+hint_at-hint-requires c = (call_bounded c.requires.1.holds.holds.holds c.in-ReadyToReceive.is).cell
 
 pub no_cell-none-requires : goal.no_cell-none-requires
 no_cell-none-requires c = search rules
@@ -49,11 +40,9 @@ call-requires c = search rules
 pub returns : goal.returns
 returns c =
     let s = c.args in
-    let k = c.before.before.before.before.before.before.before.before.before in
-    let x = k.m-1.given.0 in
     λ heldprocessors heldnumbers notes.
-    found (call_kind x.0 x.1.0 x.1.1.0) k.in-ReadyToReceive.is s.codes.now s.users.now
-    (lent s.hintprocessors.now s.hintmoves.now heldprocessors heldnumbers notes s.board.now) (bounds k).cell.channel_low
+    found (call_kind c.in-ReadyToReceive.c c.in-ReadyToReceive.d c.in-ReadyToReceive.field-2) c.in-ReadyToReceive.is s.codes.now s.users.now
+    (lent s.hintprocessors.now s.hintmoves.now heldprocessors heldnumbers notes s.board.now) (call_bounded c.requires.1.holds.holds.holds c.in-ReadyToReceive.is).cell.channel_low
     (rw (
       c.no_task-nobody.ensures,
       c.with_hint-cell.ensures,

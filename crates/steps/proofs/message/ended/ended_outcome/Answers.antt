@@ -11,7 +11,7 @@ task_at-a-requires c = rw c.parent-u.ensures c.requires.parent
 pub parent_at-e-requires : goal.parent_at-e-requires
 parent_at-e-requires c =
     let can = c.requires in
-    record { processor_low = can.processor_low; processor = can.processor; task = rw c.parent-u.ensures can.parent-u }
+    record { processor_low = can.processor_low; processor = can.processor; task = rw c.parent-u.ensures can.parent }
 
 pub terminated_rule-requires : goal.terminated_rule-requires
 terminated_rule-requires c = let can = c.requires in (can.child_low, can.child)

@@ -1,17 +1,11 @@
 -- An offer. The rule is asked at what it sees of the site.
 use mathlib.Core.Path.{refl}
 use Rattle.board.specs.Lent.{lent}
-use Rattle.steps.proofs.message.Others.{no_other}
-use Rattle.steps.proofs.message.Bounds.{Bounded, offer_bounded}
+use Rattle.steps.proofs.message.Bounds.{offer_bounded}
 use Rattle.steps.proofs.message.Rules.{offer_kind}
 use Rattle.steps.proofs.message.Sites.{found}
 use borrow.Author.Rules.{rules}
 use Rattle.steps.proofs.message.offer.offer_outcome.Goals as goal
-use Rattle.steps.proofs.message.offer.offer_outcome.Goals.{In-Offered-2}
-
--- the channel and the desk that the letter names
-abbrev bounds : (c : In-Offered-2) → Bounded c.args.users.now c.args.board.now c.in-Offered.c c.in-Offered.h.processor
-bounds c = offer_bounded c.requires.1.holds c.in-Offered.is
 
 pub enum_known-m : goal.enum_known-m
 enum_known-m c = search rules
@@ -19,35 +13,30 @@ enum_known-m c = search rules
 pub unopened-requires : goal.unopened-requires
 unopened-requires c = search rules
 
-pub returns-in_default : goal.returns-in_default
-returns-in_default c = absurd (no_other 1 c.requires.0.is refl tt c.in_default.in_default-own.keys2)
-
 pub hint_at-hint-requires : goal.hint_at-hint-requires
-hint_at-hint-requires c = (bounds c.before.before).cell
+hint_at-hint-requires c = (offer_bounded c.requires.1.holds c.in-Offered.is).cell
 
 pub held_at-held-requires : goal.held_at-held-requires
-held_at-held-requires c = (bounds c.before.before.before).cell
+held_at-held-requires c = (offer_bounded c.requires.1.holds c.in-Offered.is).cell
 
 pub channel_at-channel-requires : goal.channel_at-channel-requires
-channel_at-channel-requires c = let b = bounds c.before.before.before.before in (b.cell.channel_low, b.cell.channel)
+channel_at-channel-requires c = let b = offer_bounded c.requires.1.holds c.in-Offered.is in (b.cell.channel_low, b.cell.channel)
 
 pub cell_of-cell-requires : goal.cell_of-cell-requires
 cell_of-cell-requires c = search rules
 
 pub at_receiver-x-requires : goal.at_receiver-x-requires
-at_receiver-x-requires c = let b = bounds c.before.before.before.before.before.before in (b.cell.channel, b.receiver, b.receiver_place)
+at_receiver-x-requires c = let b = offer_bounded c.requires.1.holds c.in-Offered.is in (b.cell.channel, b.receiver, b.receiver_place)
 
 pub offer-requires : goal.offer-requires
-offer-requires c = rw (c.at_receiver-x.ensures, c.cell_of-cell.ensures, c.channel_at-channel.ensures) (bounds c.before.before.before.before.before.before.before).called
+offer-requires c = rw (c.at_receiver-x.ensures, c.cell_of-cell.ensures, c.channel_at-channel.ensures) (offer_bounded c.requires.1.holds c.in-Offered.is).called
 
 pub returns : goal.returns
 returns c =
     let s = c.args in
-    let k = c.before.before.before.before.before.before.before.before in
-    let x = k.m-1.given.0 in
     λ notes.
-    found (offer_kind x.0 x.1.0 x.1.1.0) k.in-Offered.is s.codes.now s.users.now
-    (lent s.hintprocessors.now s.hintmoves.now s.heldprocessors.now s.heldnumbers.now notes s.board.now) (bounds k).cell.channel_low
+    found (offer_kind c.in-Offered.c c.in-Offered.field-1 c.in-Offered.h) c.in-Offered.is s.codes.now s.users.now
+    (lent s.hintprocessors.now s.hintmoves.now s.heldprocessors.now s.heldnumbers.now notes s.board.now) (offer_bounded c.requires.1.holds c.in-Offered.is).cell.channel_low
     (rw (
       c.at_receiver-x.ensures,
       c.cell_of-cell.ensures,

@@ -1,23 +1,17 @@
 -- A word letter. What it leaves is stored.
-use mathlib.Core.Path.{refl, sym, ap, ◌∙◌}
+use mathlib.Core.Path.{sym, ap, ◌∙◌}
 use Prim.Native.Nat.{◌-◌}
 use Rattle.plan.specs.declared.TaskId.{TaskId}
 use Rattle.rules.specs.declared.system.Channels.{Channels}
 use Rattle.rules.specs.Systems.{write_channel, task_stored}
 use Rattle.board.specs.Lent.{lent, tasks_on}
-use Rattle.steps.proofs.message.Others.{no_other}
-use Rattle.steps.proofs.message.Bounds.{Bounded, word_bounded, sender_in, receiver_in}
+use Rattle.steps.proofs.message.Bounds.{word_bounded, sender_in, receiver_in}
 use Rattle.steps.proofs.message.Rules.{word_kind}
 use Rattle.steps.proofs.message.Tasks.{sender_own}
 use Rattle.steps.proofs.message.Stores.{own_stored}
 use Rattle.steps.proofs.message.Sites.{opened}
 use borrow.Author.Rules.{rules}
 use Rattle.steps.proofs.message.word.word.Goals as goal
-use Rattle.steps.proofs.message.word.word.Goals.{In-Data-2}
-
--- the channel and the desk that the letter names
-abbrev bounds : (c : In-Data-2) → Bounded c.args.users.now c.args.board.now c.in-Data.c c.in-Data.field-1
-bounds c = word_bounded c.requires.1.holds.holds.holds.holds.holds c.in-Data.is
 
 pub enum_known-m : goal.enum_known-m
 enum_known-m c = search rules
@@ -25,20 +19,17 @@ enum_known-m c = search rules
 pub posted-requires : goal.posted-requires
 posted-requires c = search rules
 
-pub returns-in_default : goal.returns-in_default
-returns-in_default c = absurd (no_other 4 c.requires.0.is refl tt c.in_default.in_default-own.keys2)
-
 pub word_outcome-o-requires : goal.word_outcome-o-requires
 word_outcome-o-requires c = rw c.in-Data.is at c.requires
 
 pub receiver-u-requires : goal.receiver-u-requires
-receiver-u-requires c = (bounds c.before.before.before).cell.channel
+receiver-u-requires c = (word_bounded c.requires.1.holds.holds.holds.holds.holds c.in-Data.is).cell.channel
 
 pub put_task-requires : goal.put_task-requires
-put_task-requires c = let b = bounds c.before.before.before.before.before.before.before in (rw c.receiver-u.ensures b.receiver-u, b.whole)
+put_task-requires c = let b = word_bounded c.requires.1.holds.holds.holds.holds.holds c.in-Data.is in (rw c.receiver-u.ensures b.receiver, b.whole)
 
 pub put_channel-requires : goal.put_channel-requires
-put_channel-requires c = let b = bounds c.before.before.before.before.before.before.before.before.before in (b.cell.channel_low, b.cell.channel, c.put_task.ensures.0)
+put_channel-requires c = let b = word_bounded c.requires.1.holds.holds.holds.holds.holds c.in-Data.is in (b.cell.channel_low, b.cell.channel, c.put_task.ensures.0)
 
 pub accepted-requires : goal.accepted-requires
 accepted-requires c = search rules
@@ -46,19 +37,17 @@ accepted-requires c = search rules
 pub returns : goal.returns
 returns c =
     let s = c.args in
-    let k = c.before.before.before.before.before.before.before.before.before.before.before in
-    let x = k.m-1.given.0 in
     let from = c.word_outcome-o in
     let task = c.put_task in
     let own = c.put_channel in
     λ hintprocessors hintmoves heldprocessors heldnumbers notes.
-    opened (word_kind x.0 x.1.0 x.1.1.0) k.in-Data.is s.codes.now s.users.now
-    (lent hintprocessors hintmoves heldprocessors heldnumbers notes s.board.now) (bounds k).cell.channel_low
-    (lent hintprocessors hintmoves heldprocessors heldnumbers notes own.new.0)
+    opened (word_kind c.in-Data.c c.in-Data.field-1 c.in-Data.field-2) c.in-Data.is s.codes.now s.users.now
+    (lent hintprocessors hintmoves heldprocessors heldnumbers notes s.board.now) (word_bounded c.requires.1.holds.holds.holds.holds.holds c.in-Data.is).cell.channel_low
+    (lent hintprocessors hintmoves heldprocessors heldnumbers notes own.new.board)
     (from.ensures hintprocessors hintmoves heldprocessors heldnumbers notes) c.accepted.ensures
     own.ensures.0
     (own.ensures.2 ∙ task.ensures.1 ∙ ap (λ (u : TaskId). task_stored (tasks_on s.board.now) u from.result.receiver) c.receiver-u.ensures
-    ∙ sym (sender_own (tasks_on s.board.now) (sender_in s.users.now x.0) (receiver_in s.users.now x.0) from.result.receiver))
-    (own_stored hintprocessors hintmoves heldprocessors heldnumbers notes s.board.now x.1.0 x.0 from.result.cell.channel own.new.0
-    (own.ensures.1 ∙ ap (λ (y : Channels). write_channel y (x.0.0 - 1) from.result.cell.channel) task.ensures.2))
+    ∙ sym (sender_own (tasks_on s.board.now) (sender_in s.users.now c.in-Data.c) (receiver_in s.users.now c.in-Data.c) from.result.receiver))
+    (own_stored hintprocessors hintmoves heldprocessors heldnumbers notes s.board.now c.in-Data.field-1 c.in-Data.c from.result.cell.channel own.new.board
+    (own.ensures.1 ∙ ap (λ (y : Channels). write_channel y (c.in-Data.c.0 - 1) from.result.cell.channel) task.ensures.2))
     (own.ensures.3 ∙ task.ensures.3)

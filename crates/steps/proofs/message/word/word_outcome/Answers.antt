@@ -1,17 +1,11 @@
 -- A word letter. The rule is asked at what it sees of the site.
 use mathlib.Core.Path.{refl}
 use Rattle.board.specs.Lent.{lent}
-use Rattle.steps.proofs.message.Others.{no_other}
-use Rattle.steps.proofs.message.Bounds.{Bounded, word_bounded}
+use Rattle.steps.proofs.message.Bounds.{word_bounded}
 use Rattle.steps.proofs.message.Rules.{word_kind}
 use Rattle.steps.proofs.message.Sites.{found}
 use borrow.Author.Rules.{rules}
 use Rattle.steps.proofs.message.word.word_outcome.Goals as goal
-use Rattle.steps.proofs.message.word.word_outcome.Goals.{In-Data-2}
-
--- the channel and the desk that the letter names
-abbrev bounds : (c : In-Data-2) → Bounded c.args.users.now c.args.board.now c.in-Data.c c.in-Data.field-1
-bounds c = word_bounded c.requires.1.holds.holds.holds.holds.holds c.in-Data.is
 
 pub enum_known-m : goal.enum_known-m
 enum_known-m c = search rules
@@ -19,11 +13,8 @@ enum_known-m c = search rules
 pub unopened-requires : goal.unopened-requires
 unopened-requires c = search rules
 
-pub returns-in_default : goal.returns-in_default
-returns-in_default c = absurd (no_other 4 c.requires.0.is refl tt c.in_default.in_default-own.keys2)
-
 pub channel_at-channel-requires : goal.channel_at-channel-requires
-channel_at-channel-requires c = let b = bounds c.before in (b.cell.channel_low, b.cell.channel)
+channel_at-channel-requires c = let b = word_bounded c.requires.1.holds.holds.holds.holds.holds c.in-Data.is in (b.cell.channel_low, b.cell.channel)
 
 pub unknown-unknown-requires : goal.unknown-unknown-requires
 unknown-unknown-requires c = search rules
@@ -35,7 +26,7 @@ pub cell_of-cell-requires : goal.cell_of-cell-requires
 cell_of-cell-requires c = search rules
 
 pub at_receiver-x-requires : goal.at_receiver-x-requires
-at_receiver-x-requires c = let b = bounds c.before.before.before.before.before in (b.cell.channel, b.receiver, b.receiver_place)
+at_receiver-x-requires c = let b = word_bounded c.requires.1.holds.holds.holds.holds.holds c.in-Data.is in (b.cell.channel, b.receiver, b.receiver_place)
 
 pub data-requires : goal.data-requires
 data-requires c = search rules
@@ -43,11 +34,9 @@ data-requires c = search rules
 pub returns : goal.returns
 returns c =
     let s = c.args in
-    let k = c.before.before.before.before.before.before.before in
-    let x = k.m-1.given.0 in
     λ hintprocessors hintmoves heldprocessors heldnumbers notes.
-    found (word_kind x.0 x.1.0 x.1.1.0) k.in-Data.is s.codes.now s.users.now
-    (lent hintprocessors hintmoves heldprocessors heldnumbers notes s.board.now) (bounds k).cell.channel_low
+    found (word_kind c.in-Data.c c.in-Data.field-1 c.in-Data.field-2) c.in-Data.is s.codes.now s.users.now
+    (lent hintprocessors hintmoves heldprocessors heldnumbers notes s.board.now) (word_bounded c.requires.1.holds.holds.holds.holds.holds c.in-Data.is).cell.channel_low
     (rw (
       c.at_receiver-x.ensures,
       c.cell_of-cell.ensures,

@@ -24,9 +24,6 @@ bounds-rest-1 c = simp length-set (omega (arith, three c))
 pub bounds-rest-2 : goal.bounds-rest-2
 bounds-rest-2 c = simp length-set (omega (arith, three c))
 
-pub shape_of-rest-then-finishes : goal.shape_of-rest-then-finishes
-shape_of-rest-then-finishes c = search rules
-
 pub returns-then-finishes : goal.returns-then-finishes
 returns-then-finishes c =
     let o = c.args.rest.now in
@@ -42,9 +39,6 @@ bounds-rest-0-2 c = omega (arith, two c)
 
 pub bounds-rest-1-2 : goal.bounds-rest-1-2
 bounds-rest-1-2 c = simp length-set (omega (arith, two c))
-
-pub shape_of-rest : goal.shape_of-rest
-shape_of-rest c = search rules
 
 pub returns : goal.returns
 returns c =
