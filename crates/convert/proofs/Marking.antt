@@ -45,19 +45,27 @@ module _ (g z : Program) (x : Instruction) (m : Marks) (k : Marked g (x ∷ z) m
   end_length : is_repeat_end x ≡ true → (b : Bool) → m.inside ≡ b → m.paired && b ≡ true → m.length + length (written_from false z) ≡ length (written_out g)
   unfolding waiting written_from body_of
   end_length e true f h =
-      let said = rw (f, e, mul-zero m.rounds) at (k.length (and_left m.paired true h)) in
-      omega (arith, said)
+      let none : m.rounds * 0 + length (written_from false z) ≡ length (written_from false z) = omega (arith, mul-zero m.rounds) in
+      let left : waiting m (x ∷ z) ≡ length (written_from false z) =
+      ap (λ (t : Bool). pick t (m.rounds * length (body_of (x ∷ z)) + length (written_from true (x ∷ z))) (length (written_from false (x ∷ z)))) f
+      ∙ ap (λ (t : Bool). m.rounds * length (pick t [] (x ∷ body_of z)) + length (written_from (not t) z)) e
+      ∙ none in
+      ap (λ (n : ℕ). m.length + n) (sym left) ∙ k.length (and_left m.paired true h)
   end_length e false f h = absurd (true≢false (sym (and_right m.paired false h)))
 
   plain_length : is_repeat x ≡ false → is_repeat_end x ≡ false → (b : Bool) → m.inside ≡ b → m.paired ≡ true
       → m.length + m.rounds + pick b (m.rounds * length (body_of z) + length (written_from true z)) (length (written_from false z)) ≡ length (written_out g)
   unfolding waiting written_from body_of
   plain_length d e true f h =
-      let said = rw (f, e, mul-suc m.rounds (length (body_of z))) at (k.length h) in
-      omega (arith, said)
+      let left : waiting m (x ∷ z) ≡ m.rounds * suc (length (body_of z)) + length (written_from true z) =
+      ap (λ (t : Bool). pick t (m.rounds * length (body_of (x ∷ z)) + length (written_from true (x ∷ z))) (length (written_from false (x ∷ z)))) f
+      ∙ ap (λ (t : Bool). m.rounds * length (pick t [] (x ∷ body_of z)) + length (written_from (not t) z)) e in
+      omega (arith, k.length h, left, mul-suc m.rounds (length (body_of z)))
   plain_length d e false f h =
-      let said = rw (f, d) at (k.length h) in
-      omega (arith, said, k.once f)
+      let left : waiting m (x ∷ z) ≡ suc (length (written_from false z)) =
+      ap (λ (t : Bool). pick t (m.rounds * length (body_of (x ∷ z)) + length (written_from true (x ∷ z))) (length (written_from false (x ∷ z)))) f
+      ∙ ap (λ (t : Bool). length (pick t (times x.operand (body_of z) ++ written_from true z) (x ∷ written_from false z))) d in
+      omega (arith, k.length h, left, k.once f)
 
   at_repeat : is_repeat x ≡ true → Marked g z (next_marks m x)
   unfolding next_marks paired_from creates_from waiting

@@ -1,9 +1,7 @@
 use mathlib.Core.Path.{◌≡◌, refl, ◌∙◌}
-use mathlib.Core.List.{List}
-use Prim.Native.Nat.{ℕ, ◌+◌, ◌-◌, ◌*◌, ◌≤◌, ◌<◌}
+use Prim.Native.Nat.{◌≤◌, ◌<◌}
 use native.Mathlib.Omega.{arith}
-use borrow.Author.Rules.{rules}
-use lib.ListN.{length, get_or}
+use lib.ListN.{length}
 use Rattle.plan.specs.Programs.{program_at}
 use Rattle.plan_value.proofs.Sized.{few_tasks, count_few}
 use Rattle.plan_file.specs.Code.{programs_in}
@@ -12,19 +10,14 @@ use Rattle.convert.specs.Tasks.{task_in}
 use Rattle.convert.proofs.Slots.{task_is}
 use Rattle.convert.proofs.Finding.{found_none, found_more, found_all}
 use Rattle.convert.proofs.find.find.Goals as goal
-use Rattle.convert.proofs.find.find.Goals.{After-both-short, After-find_task-m, After-wide8-count, At-loop-k, Start}
-
-pub wide8-n-requires : goal.wide8-n-requires
-wide8-n-requires c = search rules
 
 pub loop-k-init : goal.loop-k-init
 loop-k-init c =
-    let s = c.before.before in
-    let a = s.args in
+    let a = c.args in
     let n = c.wide8-n.ensures in (
       omega arith,
       n,
-      rw n (few_tasks a.tasks a.lengths.now s.requires.sizes),
+      rw n (few_tasks a.tasks a.lengths.now c.requires.sizes),
       place_first a.lengths.now,
       found_none (programs_in a.file.now a.tasks a.lengths.now),
     )
@@ -32,64 +25,25 @@ loop-k-init c =
 pub bounds-lengths-k : goal.bounds-lengths-k
 bounds-lengths-k c = omega arith
 
-pub wide8-count-requires : goal.wide8-count-requires
-wide8-count-requires c = search rules
-
--- the task that is looked at
-module _ (c : After-wide8-count) where
-  abbrev l : At-loop-k
-  l = c.before.before.before
-
-  abbrev start : Start goal.the-invariant-loop-k goal.the-decreases-loop-k
-  start = l.before.before.before
-
-  abbrev lengths : List ℕ
-  lengths = start.args.lengths.now
-
-  abbrev k : ℕ
-  k = l.loop-k.k
-
-  task : k < start.args.tasks
-  task = omega arith
-
-  count : c.wide8-count.result ≡ get_or lengths k 0
-  count = c.wide8-count.ensures
-
-  few : c.wide8-count.result ≤ 64
-  few = rw count (count_few start.args.tasks lengths start.requires.sizes k task)
-
-  -- its instructions are in the file
-  bytes : l.loop-k.at + 4 * c.wide8-count.result ≤ length start.args.file.now
-  bytes = omega (arith, count, l.loop-k.invariant.3, start.requires.bytes, place_below lengths start.args.tasks k task)
-
 pub find_task-m-requires : goal.find_task-m-requires
-find_task-m-requires c = (few c, bytes c)
-
-pub both-requires : goal.both-requires
-both-requires c = search rules
-
-pub both-paired-requires : goal.both-paired-requires
-both-paired-requires c = search rules
-
-pub both-creates-requires : goal.both-creates-requires
-both-creates-requires c = search rules
-
-pub both-short-requires : goal.both-short-requires
-both-short-requires c = search rules
-
--- the count, seen from the end of the round
-module _ (c : After-both-short) where
-  abbrev found : After-find_task-m
-  found = c.before.before.before.before.before.before
-
-  abbrev read : After-wide8-count
-  read = found.before
+find_task-m-requires c =
+    let a = c.args in
+    let task : c.loop-k.k < a.tasks = omega arith in
+    let few : c.wide8-count.result ≤ 64 = rw c.wide8-count.ensures (count_few a.tasks a.lengths.now c.requires.sizes c.loop-k.k task) in
+    (few, omega (arith, c.wide8-count.ensures, c.loop-k.invariant.3, c.requires.bytes, place_below a.lengths.now a.tasks c.loop-k.k task))
 
 pub overflow_mul-at : goal.overflow_mul-at
-overflow_mul-at c = omega (arith, few (read c))
+overflow_mul-at c =
+    let a = c.args in
+    let task : c.loop-k.k < a.tasks = omega arith in
+    let few : c.wide8-count.result ≤ 64 = rw c.wide8-count.ensures (count_few a.tasks a.lengths.now c.requires.sizes c.loop-k.k task) in
+    omega (arith, few)
 
 pub overflow_add-at : goal.overflow_add-at
-overflow_add-at c = omega (arith, bytes (read c))
+overflow_add-at c =
+    let a = c.args in
+    let task : c.loop-k.k < a.tasks = omega arith in
+    omega (arith, c.wide8-count.ensures, c.loop-k.invariant.3, c.requires.bytes, place_below a.lengths.now a.tasks c.loop-k.k task)
 
 pub overflow_add-k : goal.overflow_add-k
 overflow_add-k c = omega arith
@@ -99,18 +53,18 @@ loop-k-smaller c = omega arith
 
 pub loop-k-preserved : goal.loop-k-preserved
 loop-k-preserved c =
-    let w = read c in
-    let o = l w in
-    let a = (start w).args in
+    let a = c.args in
+    let k = c.loop-k.k in
+    let inv = c.loop-k.invariant in
+    let count = c.wide8-count.ensures in
     let m = programs_in a.file.now a.tasks a.lengths.now in
-    let is : task_in a.file.now o.loop-k.at w.wide8-count.result ≡ program_at m (k w) =
-    task_is a.file.now a.tasks a.lengths.now (k w) (task w) o.loop-k.invariant.3 (count w) in
-    let marks = rw is at (found c).find_task-m.ensures in (
+    let is : task_in a.file.now c.loop-k.at c.wide8-count.result ≡ program_at m k = task_is a.file.now a.tasks a.lengths.now k (omega arith) inv.3 count in
+    let marks = rw is at c.find_task-m.ensures in (
       omega arith,
-      o.loop-k.invariant.1,
-      o.loop-k.invariant.2,
-      omega (arith, o.loop-k.invariant.3, count w, place_row a.lengths.now (k w)),
-      found_more m (k w) o.loop-k.invariant.4 marks
+      inv.1,
+      inv.2,
+      omega (arith, inv.3, count, place_row a.lengths.now k),
+      found_more m k inv.4 marks
           (c.both-paired.ensures ∙ rw c.both.ensures refl)
           c.both-creates.ensures
           c.both-short.ensures,
@@ -118,8 +72,7 @@ loop-k-preserved c =
 
 pub returns : goal.returns
 returns c =
-    let o = c.before in
-    let a = o.args in
+    let a = c.args in
     let m = programs_in a.file.now a.tasks a.lengths.now in
-    let e : o.loop-k.k ≡ length m = omega (arith, code_tasks a.file.now a.tasks a.lengths.now) in
-    found_all m (rw e at o.loop-k.invariant.4)
+    let e : c.loop-k.k ≡ length m = omega (arith, code_tasks a.file.now a.tasks a.lengths.now) in
+    found_all m (rw e at c.loop-k.invariant.4)

@@ -1,13 +1,9 @@
 use mathlib.Core.Path.{◌≡◌}
 use Prim.Native.Nat.{◌+◌, ◌-◌, ◌*◌, ◌≤◌}
 use native.Mathlib.Omega.{arith}
-use borrow.Author.Rules.{rules}
 use Rattle.convert.specs.Tasks.{task_in}
 use Rattle.convert.proofs.Finding.{marks_start, marks_more, marks_bound, marks_end}
 use Rattle.convert.proofs.find.find_task.Goals as goal
-
-pub new-m-requires : goal.new-m-requires
-new-m-requires c = search rules
 
 pub loop-i-init : goal.loop-i-init
 loop-i-init c =
@@ -35,21 +31,17 @@ loop-i-smaller c = omega arith
 
 pub loop-i-preserved : goal.loop-i-preserved
 loop-i-preserved c =
-    let f = c.before in
-    let l = f.before.before in
-    let known = l.before.before in
-    let a = known.args in
-    let i = l.loop-i.i in
-    let e = f.fetch-x.ensures in
-    let operand : f.fetch-x.result.operand ≤ 65535 =
-    rw e (omega (arith, known.shared_slice_known-1.given (a.at + 4 * i + 2), known.shared_slice_known-1.given (a.at + 4 * i + 2 + 1))) in
-    let (rounds, size) = marks_bound l.loop-i.m f.fetch-x.result i l.loop-i.invariant.1 operand l.loop-i.invariant.2 in
+    let a = c.args in
+    let i = c.loop-i.i in
+    let e = c.fetch-x.ensures in
+    let operand : c.fetch-x.result.operand ≤ 65535 =
+    rw e (omega (arith, c.type_inv.file (a.at + 4 * i + 2), c.type_inv.file (a.at + 4 * i + 2 + 1))) in
+    let (rounds, size) = marks_bound c.loop-i.m c.fetch-x.result i c.loop-i.invariant.1 operand c.loop-i.invariant.2 in
     rw c.next-m.ensures
-    (omega arith, rounds, size, marks_more a.file.now a.at a.count i l.loop-i.m f.fetch-x.result (omega arith) l.loop-i.invariant.3 e)
+    (omega arith, rounds, size, marks_more a.file.now a.at a.count i c.loop-i.m c.fetch-x.result (omega arith) c.loop-i.invariant.3 e)
 
 pub returns : goal.returns
 returns c =
-    let l = c.before in
-    let a = l.args in
-    let e : l.loop-i.i ≡ a.count = omega arith in
-    marks_end a.file.now a.at a.count l.loop-i.m (rw e at l.loop-i.invariant.3)
+    let a = c.args in
+    let e : c.loop-i.i ≡ a.count = omega arith in
+    marks_end a.file.now a.at a.count c.loop-i.m (rw e at c.loop-i.invariant.3)

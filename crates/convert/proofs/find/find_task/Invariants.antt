@@ -7,7 +7,7 @@ use Rattle.convert.proofs.find.find_task.Given as goal
 
 abbrev pub invariant-loop-i : goal.invariant-loop-i
 invariant-loop-i l =
- (l.i ≤ l.count) × (l.m.rounds ≤ 65535) × (l.m.length ≤ 65535 * l.i) × Marked (task_in l.file l.at l.count) (drop l.i (task_in l.file l.at l.count)) l.m
+    (l.i ≤ l.count) × (l.m.rounds ≤ 65535) × (l.m.length ≤ 65535 * l.i) × Marked (task_in l.file l.at l.count) (drop l.i (task_in l.file l.at l.count)) l.m
 
 abbrev pub decreases-loop-i : goal.decreases-loop-i
 decreases-loop-i l = l.count - l.i

@@ -2,7 +2,6 @@ use Prim.Native.Nat.{◌-◌}
 use mathlib.Core.Path.{◌≡◌, sym}
 use mathlib.Core.Bool.{false}
 use native.Mathlib.Omega.{arith}
-use borrow.Author.Rules.{rules}
 use borrow.Author.Tests.{le-leb, lt-leb}
 use lib.Dec.{leb}
 use lib.ListN.{get_or}
@@ -10,9 +9,6 @@ use Rattle.base.specs.Range.{below}
 use Rattle.base.proofs.Tests.{below_none, below_more, below_fails}
 use Rattle.convert.proofs.out.none_empty.Invariants.{some}
 use Rattle.convert.proofs.out.none_empty.Goals as goal
-
-pub wide8-n-requires : goal.wide8-n-requires
-wide8-n-requires c = search rules
 
 pub loop-k-init : goal.loop-k-init
 loop-k-init c = (omega arith, c.wide8-n.ensures, below_none (some c.args.counts.now))
@@ -22,11 +18,10 @@ bounds-counts-k c = omega arith
 
 pub returns-then-counts-k-eq0 : goal.returns-then-counts-k-eq0
 returns-then-counts-k-eq0 c =
-    let l = c.before.before.before in
-    let counts = l.args.counts.now in
+    let counts = c.args.counts.now in
     let p = some counts in
-    let e : p l.loop-k.k ≡ false = lt-leb 1 (get_or counts l.loop-k.k 0) (omega arith) in
-    sym (below_fails p _ l.loop-k.k (omega arith) e)
+    let e : p c.loop-k.k ≡ false = lt-leb 1 (get_or counts c.loop-k.k 0) (omega arith) in
+    sym (below_fails p _ c.loop-k.k (omega arith) e)
 
 pub overflow_add-k : goal.overflow_add-k
 overflow_add-k c = omega arith
@@ -36,12 +31,10 @@ loop-k-smaller c = omega arith
 
 pub loop-k-preserved : goal.loop-k-preserved
 loop-k-preserved c =
-    let l = c.before.before.before in
-    let counts = l.args.counts.now in
-    (omega arith, l.loop-k.invariant.1, below_more (some counts) l.loop-k.k l.loop-k.invariant.2 (le-leb 1 (get_or counts l.loop-k.k 0) (omega arith)))
+    let counts = c.args.counts.now in
+    (omega arith, c.loop-k.invariant.1, below_more (some counts) c.loop-k.k c.loop-k.invariant.2 (le-leb 1 (get_or counts c.loop-k.k 0) (omega arith)))
 
 pub returns : goal.returns
 returns c =
-    let l = c.before in
-    let e : l.loop-k.k ≡ l.args.tasks = omega arith in
-    sym (rw e at l.loop-k.invariant.2)
+    let e : c.loop-k.k ≡ c.args.tasks = omega arith in
+    sym (rw e at c.loop-k.invariant.2)
