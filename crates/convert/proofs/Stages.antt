@@ -7,26 +7,23 @@ use Prim.Native.Nat.{ℕ, ◌≤◌, ◌<◌, ◌/◌, ◌%◌}
 use native.Mathlib.Decide.{dec_lt}
 use native.Mathlib.Omega.{arith}
 use lib.Dec.{leb}
-use lib.ListN.{length, get_or, drop, take, length-map, get_or-eq_default}
-use Rattle.base.specs.Choice.{unless}
+use lib.ListN.{length, get_or, drop, length-map, get_or-eq_default}
 use Rattle.base.specs.Range.{below}
 use Rattle.base.specs.Lists.{every}
 use Rattle.base.proofs.Folds.{fold_same}
 use Rattle.base.proofs.Tables.{get_d_table}
 use Rattle.base.proofs.Tests.{every_at}
-use Rattle.plan.specs.declared.Plan.{Plan}
-use Rattle.plan.specs.declared.PlanAnswer.{PlanAnswer}
-use Rattle.plan.specs.declared.PlanAnswer.TheVariants.{Accepted, Refused}
+use Rattle.plan.specs.declared.PlanAnswer.TheVariants.{Refused}
 use Rattle.plan.specs.declared.Refusal.{Refusal}
 use Rattle.plan.specs.declared.Refusal.TheVariants.{BadLayout, BadInstruction, BadFinish, BadRepeat, RepeatedCreate, TooLong}
 use Rattle.plan.specs.declared.WriteAnswer.{WriteAnswer}
-use Rattle.plan.specs.declared.WriteAnswer.TheVariants.{Written, Unwritten}
+use Rattle.plan.specs.declared.WriteAnswer.TheVariants.{Unwritten}
 use Rattle.plan.specs.Kinds.{no_instruction}
-use Rattle.plan.specs.Programs.{Program, Programs, program_at, instruction_at, in_slot, programs, canonical}
-use Rattle.plan.specs.Layout.{layout, count_of}
+use Rattle.plan.specs.Programs.{Programs, program_at, instruction_at, programs, canonical}
+use Rattle.plan.specs.Layout.{count_of}
 use Rattle.plan.specs.Refusals.{size_ok, instruction_ok, instructions_ok, structure_answer, plan_answer}
 use Rattle.plan.specs.Files.{layout_ok, file_programs}
-use Rattle.plan.specs.Outcomes.{write_answer, write_output, write_answer_after, output_after, WritePlan}
+use Rattle.plan.specs.Outcomes.{write_answer, write_output, WritePlan}
 use Rattle.plan.specs.Repeats.{written_out, written_out_plan}
 use Rattle.plan.specs.RepeatRefusals.{new_instructions_ok, paired_ok, repeated_ok, lengths_ok, repeats_answer}
 use Rattle.plan.specs.Conversions.{convert_answer, convert_output, Converted}

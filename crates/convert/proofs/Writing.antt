@@ -1,9 +1,9 @@
 -- The instructions of a task written out, one after the other.
-use mathlib.Core.Path.{◌≡◌, refl, sym, ap, subst, ◌∙◌}
+use mathlib.Core.Path.{◌≡◌, refl, sym, ap, ◌∙◌}
 use mathlib.Core.Bool.{true, false}
-use mathlib.Core.List.{List, [], ◌∷◌, ◌++◌, map}
+use mathlib.Core.List.{List, ◌∷◌, map}
 use mathlib.Core.Logic.{by_cases}
-use Prim.Native.Nat.{ℕ, zero, suc, ◌+◌, ◌≤◌, ◌<◌}
+use Prim.Native.Nat.{ℕ, suc, ◌+◌, ◌≤◌, ◌<◌}
 use native.Mathlib.Decide.{dec_lt}
 use native.Mathlib.Numerals.{add-one}
 use native.Mathlib.Omega.{arith}
@@ -14,7 +14,7 @@ use Rattle.plan.specs.Kinds.{no_instruction}
 use Rattle.plan.specs.Programs.{Program, instruction_at, code_of}
 use Rattle.plan.specs.Repeats.{written_out}
 use Rattle.plan.specs.RepeatPlaces.{behind_repeat, go_on}
-use Rattle.repeat_laws.specs.Left.{left_from, goings, Stands, is_mark, said_by, On}
+use Rattle.repeat_laws.specs.Left.{left_from, goings, Stands, is_mark, On}
 use Rattle.repeat_laws.proofs.Going.{goes_on, starts, left_start, left_end}
 use Rattle.convert.specs.declared.spot.Spot.{Spot}
 use Rattle.convert.specs.Spots.{start_spot, next_spot, place_of, Knows}

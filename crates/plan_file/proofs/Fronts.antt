@@ -5,7 +5,6 @@ use Prim.Native.Nat.{ℕ, ◌+◌}
 use native.Mathlib.Nat.{zero-add}
 use lib.ListN.{drop}
 use Rattle.std.specs.Borrow.{Bor}
-use Rattle.plan.specs.declared.PlanRead.{PlanRead}
 use Rattle.plan.specs.Outcomes.{plan_read}
 use Rattle.plan_file.specs.declared.header.Header.{Header}
 use Rattle.plan_file.specs.declared.reader.PlanReader.{PlanReader}

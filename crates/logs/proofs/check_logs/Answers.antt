@@ -1,7 +1,6 @@
 -- `check_logs`.
 use mathlib.Core.Path.{refl, sym, ap₂, ◌∙◌}
 use mathlib.Core.Bool.{◌&&◌}
-use borrow.Author.Rules.{rules}
 use borrow.Author.Tests.{not-true, not-false}
 use Rattle.base.proofs.Tests.{and_left, and_right}
 use Rattle.rules.specs.LogFiles.{log_length_ok, logs_answer}

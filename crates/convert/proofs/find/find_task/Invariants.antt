@@ -1,6 +1,6 @@
 -- `find::find_task` looks at one instruction after the other. The loop's invariant: what is kept is that of the first i.
 use Prim.Native.Nat.{◌-◌, ◌*◌, ◌≤◌}
-use lib.ListN.{length, drop}
+use lib.ListN.{drop}
 use Rattle.convert.specs.Marks.{Marked}
 use Rattle.convert.specs.Tasks.{task_in}
 use Rattle.convert.proofs.find.find_task.Given as goal

@@ -1,5 +1,4 @@
 -- `out::write_task` goes through a task as its rules say, and writes what it comes to. The loop's invariant is `Put`.
-use Prim.Native.Nat.{◌-◌}
 use Rattle.repeat_laws.specs.Left.{goings}
 use Rattle.convert.specs.Spots.{place_of}
 use Rattle.convert.specs.Tasks.{task_in, Put}

@@ -1,5 +1,5 @@
 -- `link`. The loop's invariant: what stands behind the first `place` records is linked.
-use Prim.Native.Nat.{◌-◌, ◌≤◌}
+use Prim.Native.Nat.{◌≤◌}
 use Rattle.logs.proofs.Linking.{Stage}
 use Rattle.logs.proofs.links.link.Given as goal
 

@@ -1,6 +1,5 @@
 -- `length_ok`.
 use Rattle.rules.specs.LogFiles.{log_length_ok}
-use borrow.Author.Rules.{rules}
 use Rattle.logs.proofs.records.length_ok.Goals as goal
 
 pub returns : goal.returns

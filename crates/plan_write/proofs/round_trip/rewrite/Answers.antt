@@ -5,5 +5,5 @@ use Rattle.plan_write.proofs.round_trip.rewrite.Goals as goal
 
 pub returns : goal.returns
 returns c =
-    let known = c.shared_slice_known-1.given in
+    let known = c.type_inv.file in
     rewritten _ _ _ _ _ (λ i. omega (arith, known i)) c.read_plan-read.ensures c.write_plan.ensures
