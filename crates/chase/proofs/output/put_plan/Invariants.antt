@@ -8,7 +8,7 @@ use Rattle.chase.proofs.output.put_plan.Given as goal
 
 abbrev pub invariant-loop-k : goal.invariant-loop-k
 invariant-loop-k l =
- (l.k ≤ 32) × (length l.out ≡ length l.initial.out) × (l.out ≡ overlay l.initial.out 0 (take l.k chase_plan))
+    (l.k ≤ 32) × (length l.out ≡ length l.initial.out) × (l.out ≡ overlay l.initial.out 0 (take l.k chase_plan))
 
 abbrev pub decreases-loop-k : goal.decreases-loop-k
 decreases-loop-k l = 32 - l.k

@@ -9,7 +9,7 @@ use Rattle.chase.proofs.output.put_rounds.Given as goal
 
 abbrev pub invariant-loop-k : goal.invariant-loop-k
 invariant-loop-k l =
- (l.k ≤ l.m) × (length l.out ≡ length l.initial.out) × (l.out ≡ overlay l.initial.out 12 (step_file (joined l.k round)))
+    (l.k ≤ l.m) × (length l.out ≡ length l.initial.out) × (l.out ≡ overlay l.initial.out 12 (step_file (joined l.k round)))
 
 abbrev pub decreases-loop-k : goal.decreases-loop-k
 decreases-loop-k l = l.m - l.k

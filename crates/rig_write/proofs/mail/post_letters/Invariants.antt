@@ -7,7 +7,7 @@ use Rattle.rig_write.proofs.mail.post_letters.Given as goal
 
 abbrev pub invariant-loop-j : goal.invariant-loop-j
 invariant-loop-j l =
- (l.j ≤ l.rounds) × (length l.mail ≡ length l.initial.mail) × Rounds l.x l.initial.mail l.used l.j l.free l.mail
+    (l.j ≤ l.rounds) × (length l.mail ≡ length l.initial.mail) × Rounds l.x l.initial.mail l.used l.j l.free l.mail
 
 abbrev pub decreases-loop-j : goal.decreases-loop-j
 decreases-loop-j l = l.rounds - l.j

@@ -7,7 +7,7 @@ use Rattle.rig_write.proofs.mail.take_letter.Given as goal
 
 abbrev pub invariant-loop-j : goal.invariant-loop-j
 invariant-loop-j l =
- (l.j ≤ l.n) × (length l.mail ≡ length l.initial.mail) × (l.mail ≡ shifted l.initial.mail l.at 16 l.j)
+    (l.j ≤ l.n) × (length l.mail ≡ length l.initial.mail) × (l.mail ≡ shifted l.initial.mail l.at 16 l.j)
 
 abbrev pub decreases-loop-j : goal.decreases-loop-j
 decreases-loop-j l = l.n - l.j

@@ -7,7 +7,7 @@ use Rattle.rig_write.proofs.numbers.put_bytes.Given as goal
 
 abbrev pub invariant-loop-k : goal.invariant-loop-k
 invariant-loop-k l =
- (l.k ≤ length l.xs) × (length l.b ≡ length l.initial.b) × (l.b ≡ overlay l.initial.b l.at (take l.k l.xs))
+    (l.k ≤ length l.xs) × (length l.b ≡ length l.initial.b) × (l.b ≡ overlay l.initial.b l.at (take l.k l.xs))
 
 abbrev pub decreases-loop-k : goal.decreases-loop-k
 decreases-loop-k l = length l.xs - l.k

@@ -7,7 +7,7 @@ use Rattle.rig_write.proofs.numbers.put_zeros.Given as goal
 
 abbrev pub invariant-loop-k : goal.invariant-loop-k
 invariant-loop-k l =
- (l.k ≤ l.n) × (length l.b ≡ length l.initial.b) × (l.b ≡ overlay l.initial.b l.at (replicate l.k 0))
+    (l.k ≤ l.n) × (length l.b ≡ length l.initial.b) × (l.b ≡ overlay l.initial.b l.at (replicate l.k 0))
 
 abbrev pub decreases-loop-k : goal.decreases-loop-k
 decreases-loop-k l = l.n - l.k

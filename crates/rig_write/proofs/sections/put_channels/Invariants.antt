@@ -10,7 +10,7 @@ use Rattle.rig_write.proofs.sections.put_channels.Given as goal
 
 abbrev pub invariant-loop-k : goal.invariant-loop-k
 invariant-loop-k l =
- (l.k ≤ 128) × (length l.rig ≡ length l.initial.rig) × (l.rig ≡ overlay l.initial.rig 16664 (numbers_bytes 8 (table l.k (channel_at l.board))))
+    (l.k ≤ 128) × (length l.rig ≡ length l.initial.rig) × (l.rig ≡ overlay l.initial.rig 16664 (numbers_bytes 8 (table l.k (channel_at l.board))))
 
 abbrev pub decreases-loop-k : goal.decreases-loop-k
 decreases-loop-k l = 128 - l.k

@@ -9,7 +9,7 @@ use Rattle.rig_write.proofs.sections.put_moves.Given as goal
 
 abbrev pub invariant-loop-k : goal.invariant-loop-k
 invariant-loop-k l =
- (l.k ≤ length l.moves) × (length l.rig ≡ length l.initial.rig) × (l.rig ≡ overlay l.initial.rig l.at (numbers_bytes 2 (table l.k (λ j. get_or l.moves j 0))))
+    (l.k ≤ length l.moves) × (length l.rig ≡ length l.initial.rig) × (l.rig ≡ overlay l.initial.rig l.at (numbers_bytes 2 (table l.k (λ j. get_or l.moves j 0))))
 
 abbrev pub decreases-loop-k : goal.decreases-loop-k
 decreases-loop-k l = length l.moves - l.k

@@ -10,7 +10,7 @@ use Rattle.rig_write.proofs.sections.put_parents.Given as goal
 
 abbrev pub invariant-loop-k : goal.invariant-loop-k
 invariant-loop-k l =
- (l.k ≤ 384) × (length l.rig ≡ length l.initial.rig) × (l.rig ≡ overlay l.initial.rig 19224 (numbers_bytes 8 (joined l.k (parent_at l.board))))
+    (l.k ≤ 384) × (length l.rig ≡ length l.initial.rig) × (l.rig ≡ overlay l.initial.rig 19224 (numbers_bytes 8 (joined l.k (parent_at l.board))))
 
 abbrev pub decreases-loop-k : goal.decreases-loop-k
 decreases-loop-k l = 384 - l.k

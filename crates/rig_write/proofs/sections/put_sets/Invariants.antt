@@ -10,7 +10,7 @@ use Rattle.rig_write.proofs.sections.put_sets.Given as goal
 
 abbrev pub invariant-loop-k : goal.invariant-loop-k
 invariant-loop-k l =
- (l.k ≤ 6) × (length l.rig ≡ length l.initial.rig) × (l.rig ≡ overlay l.initial.rig 25368 (numbers_bytes 8 (table l.k (set_on l.board))))
+    (l.k ≤ 6) × (length l.rig ≡ length l.initial.rig) × (l.rig ≡ overlay l.initial.rig 25368 (numbers_bytes 8 (table l.k (set_on l.board))))
 
 abbrev pub decreases-loop-k : goal.decreases-loop-k
 decreases-loop-k l = 6 - l.k

@@ -23,8 +23,8 @@ loop-t-preserved c =
     d.ensures ∙ rw (← c.wide8-k.ensures) c.ready_desk.ensures in (
       omega arith,
       elim c.if-both.branch [
-        then-both w ↦ rw w.sets-is (sets_joined x (omega arith) c.loop-t.invariant.1 e (sym c.both.ensures ∙ w.if-both.true) w.insert-more.ensures)
-      | else-both w ↦ rw w.sets-is (sets_left x (omega arith) c.loop-t.invariant.1 e (sym c.both.ensures ∙ w.if-both.false))
+        | then-both w ↦ rw w.sets-is (sets_joined x (omega arith) c.loop-t.invariant.1 e (sym c.both.ensures ∙ w.if-both.true) w.insert-more.ensures)
+        | else-both w ↦ rw w.sets-is (sets_left x (omega arith) c.loop-t.invariant.1 e (sym c.both.ensures ∙ w.if-both.false))
       ],
     )
 
