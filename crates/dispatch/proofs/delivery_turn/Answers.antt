@@ -9,14 +9,11 @@ earliest-p-requires c = search rules
 
 pub returns-then-p-eq0 : goal.returns-then-p-eq0
 returns-then-p-eq0 c =
-    let s = c.before.before.before in
-    no_delivery s.args.r s.args.d (sym c.earliest-p.ensures ∙ c.if-p-eq0.true)
+    no_delivery c.args.r c.args.d (sym c.earliest-p.ensures ∙ c.if-p-eq0.true)
 
 pub made-requires : goal.made-requires
 made-requires c = search rules
 
 pub returns : goal.returns
 returns c =
-    let i = c.before in
-    let s = i.before.before.before in
-    some_delivery s.args.r s.args.d i.earliest-p.ensures i.if-p-eq0.false c.made.result c.made.ensures
+    some_delivery c.args.r c.args.d c.earliest-p.ensures c.if-p-eq0.false c.made.result c.made.ensures

@@ -10,6 +10,5 @@ step-q-requires c = search rules
 
 pub returns : goal.returns
 returns c =
-    let q = c.before.before in
-    let s = q.args.s in
-    record { turn = ap (λ (o : Stepped). Made s o.report-1) q.step-q.ensures; system = ap (λ (o : Stepped). o.system-1) q.step-q.ensures }
+    let s = c.args.s in
+    record { turn = ap (λ (o : Stepped). Made s o.report) c.step-c.ensures; system = ap (λ (o : Stepped). o.system) c.step-c.ensures }

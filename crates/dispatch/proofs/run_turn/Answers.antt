@@ -23,19 +23,16 @@ bounds-tasks-k c = search rules
 
 pub next_ready-t-requires : goal.next_ready-t-requires
 next_ready-t-requires c =
-    let w = c.before.before.before in
-    let s = w.before.before in
-    (s.requires.2, rw w.wide8-k.ensures s.requires.3)
+    (c.requires.2, rw c.wide8-k.ensures c.requires.3)
 
 -- the task that was found
-found : (c : After-next_ready-t) → let a = c.args in c.next_ready-t.result ≡ choice a.t1 a.d
+found : (c : After-next_ready-t) → let a = c.args in c.next_ready-t.result ≡ choice a.r a.d
 unfolding choice
 found c = rw c.wide8-k.ensures at c.next_ready-t.ensures
 
 pub returns-then-t-eq0 : goal.returns-then-t-eq0
 returns-then-t-eq0 c =
-    let s = c.before.before.before.before.before.before.before in
-    no_run s.args.t1 s.args.d (sym (found c.before) ∙ c.if-t-eq0.true)
+    no_run c.args.r c.args.d (sym (found c.before) ∙ c.if-t-eq0.true)
 
 pub choosing-requires : goal.choosing-requires
 choosing-requires c = search rules
@@ -44,9 +41,6 @@ pub made-requires : goal.made-requires
 made-requires c = search rules
 
 pub returns : goal.returns
+unfolding choice
 returns c =
-    let i = c.before.before in
-    let n = i.before in
-    let w = n.before.before.before.before in
-    let s = w.before.before in
-    some_run s.args.t1 s.args.d (found n) i.if-t-eq0.false c.made.result (rw (c.choosing.ensures, w.wide8-k.ensures) at c.made.ensures)
+    some_run c.args.r c.args.d (rw c.wide8-k.ensures at c.next_ready-t.ensures) c.if-t-eq0.false c.made.result (rw (c.choosing.ensures, c.wide8-k.ensures) at c.made.ensures)

@@ -15,24 +15,24 @@ shaped c =
     let parents = f.1.1.1.1.1.0.1.1 in
     let network = f.1.1.1.1.1.1.0.1.1 in
     record {
-      tasks = simp length-map at tasks.0.1.0.1;
-      ready = simp length-map at tasks.1.0.1.0.1;
-      chosen = simp length-map at f.1.1.1.1.1.1.1.0.1.0.1;
-      hintprocessors = simp length-map at tables.0.1.0.1;
-      hintmoves = simp length-map at tables.1.0.1.0.1;
-      heldprocessors = simp length-map at tables.1.1.0.1.0.1;
-      heldnumbers = simp length-map at tables.1.1.1.0.1.0.1;
-      notes = simp length-map at tables.1.1.1.1.0.1.0.1;
-      granted = simp length-map at channels.0.1.0.1;
-      awaiting = simp length-map at channels.1.0.1.0.1;
-      carriedprocessors = simp length-map at channels.1.1.0.1.0.1;
-      carriednumbers = simp length-map at channels.1.1.1.0.1.0.1;
-      travellingprocessors = simp length-map at channels.1.1.1.1.0.1.0.1;
-      travellingmoves = simp length-map at channels.1.1.1.1.1.0.1.0.1;
-      parentprocessors = simp length-map at parents.0.1.0.1;
-      parentmoves = simp length-map at parents.1.0.1.0.1;
-      parentheld = simp length-map at parents.1.1.0.1.0.1;
-      slots = simp length-map at network.0.1.0.1;
+      tasks = tasks.0.1.0.1;
+      ready = tasks.1.0.1.0.1;
+      chosen = f.1.1.1.1.1.1.1.0.1.0.1;
+      hintprocessors = tables.0.1.0.1;
+      hintmoves = tables.1.0.1.0.1;
+      heldprocessors = tables.1.1.0.1.0.1;
+      heldnumbers = tables.1.1.1.0.1.0.1;
+      notes = tables.1.1.1.1.0.1.0.1;
+      granted = channels.0.1.0.1;
+      awaiting = channels.1.0.1.0.1;
+      carriedprocessors = channels.1.1.0.1.0.1;
+      carriednumbers = channels.1.1.1.0.1.0.1;
+      travellingprocessors = channels.1.1.1.1.0.1.0.1;
+      travellingmoves = channels.1.1.1.1.1.0.1.0.1;
+      parentprocessors = parents.0.1.0.1;
+      parentmoves = parents.1.0.1.0.1;
+      parentheld = parents.1.1.0.1.0.1;
+      slots = network.0.1.0.1;
     }
 
 pub system_ok-requires : goal.system_ok-requires

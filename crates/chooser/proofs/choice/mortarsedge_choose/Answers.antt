@@ -15,17 +15,15 @@ run_number-number-requires c = search rules
 
 pub packed-requires : goal.packed-requires
 packed-requires c =
-    let f = c.before.before.before in
-    let a = f.args in
-    (c.run_number-number.ensures.1, omega (arith, f.choose_file-o.ensures.count, choose_few a.processors a.plan.now a.out-1.now))
+    let a = c.args in
+    (c.run_number-number.ensures.1, omega (arith, c.choose_file-o.ensures.count, choose_few a.processors a.plan.now a.out.now))
 
 pub shape_of-out : goal.shape_of-out
 shape_of-out c = search rules
 
 pub returns : goal.returns
 returns c =
-    let f = c.before.before.before.before in
-    let r = f.choose_file-o.ensures in
+    let r = c.choose_file-o.ensures in
     record {
       outcome = c.packed.ensures ∙ ap₂ packed (c.run_number-number.ensures.0 ∙ ap run_number r.answered) r.count;
       bytes = r.bytes;

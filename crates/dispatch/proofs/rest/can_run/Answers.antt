@@ -15,6 +15,4 @@ is_accepted-requires c = search rules
 
 pub returns : goal.returns
 returns c =
-    let q = c.before.before in
-    let a = q.args in
-    c.is_accepted.ensures ∙ ap is_accepted (ap (λ (o : Stepped). o.report-1.answer) q.step-q.ensures ∙ step_answer_lem a.r (run_step a.t))
+    c.is_accepted.ensures ∙ ap is_accepted (ap (λ (o : Stepped). o.report.answer) c.step-q.ensures ∙ step_answer_lem c.args.r (run_step c.args.t))

@@ -15,13 +15,13 @@ use Rattle.dispatch.proofs.rest.rests.Goals as goal
 
 -- a letter, none of the tasks can run, or one can
 module _ (r : System) where
-  a_letter : (r.network-1.used ≡ 0 → ⊥) → quiescent r ≡ false
+  a_letter : (r.network.used ≡ 0 → ⊥) → quiescent r ≡ false
   unfolding quiescent
-  a_letter ne = rw (ne_eqb r.network-1.used 0 ne) refl
+  a_letter ne = rw (ne_eqb r.network.used 0 ne) refl
 
-  all_stuck : r.network-1.used ≡ 0 → quiescent r ≡ below r.plan.tasks (stuck r)
+  all_stuck : r.network.used ≡ 0 → quiescent r ≡ below r.plan.tasks (stuck r)
   unfolding quiescent
-  all_stuck e = rw (eq-eqb r.network-1.used 0 e) refl
+  all_stuck e = rw (eq-eqb r.network.used 0 e) refl
 
   run_of : (t : ℕ) {b : Bool} → b ≡ is_accepted (step_answer r (run_step (t + 1))) → stuck r t ≡ not b
   run_of t e = rw (e, add-one t) refl
@@ -40,23 +40,20 @@ can_run-requires c = search rules
 
 pub returns-then-can_run : goal.returns-then-can_run
 returns-then-can_run c =
-    let l = c.before.before.before in
-    let r = l.args.r in
-    let q = run_of r l.loop-t.t c.can_run.ensures ∙ ap not c.if-can_run.true in
-    sym (all_stuck r l.if-network-ne0.false ∙ below_fails (stuck r) r.plan.tasks l.loop-t.t (omega arith) q)
+    let r = c.args.r in
+    let q = run_of r c.loop-t.t c.can_run.ensures ∙ ap not c.if-can_run.true in
+    sym (all_stuck r c.if-network-ne0.false ∙ below_fails (stuck r) r.plan.tasks c.loop-t.t (omega arith) q)
 
 pub loop-t-smaller : goal.loop-t-smaller
 loop-t-smaller c = omega arith
 
 pub loop-t-preserved : goal.loop-t-preserved
 loop-t-preserved c =
-    let l = c.before.before.before in
-    let r = l.args.r in
-    (omega arith, below_more _ l.loop-t.t l.loop-t.invariant.1 (run_of r l.loop-t.t c.can_run.ensures ∙ ap not c.if-can_run.false))
+    let r = c.args.r in
+    (omega arith, below_more _ c.loop-t.t c.loop-t.invariant.1 (run_of r c.loop-t.t c.can_run.ensures ∙ ap not c.if-can_run.false))
 
 pub returns : goal.returns
 returns c =
-    let l = c.before in
-    let r = l.args.r in
-    let e : l.loop-t.t ≡ r.plan.tasks = omega arith in
-    sym (all_stuck r l.if-network-ne0.false ∙ (rw e at l.loop-t.invariant.1))
+    let r = c.args.r in
+    let e : c.loop-t.t ≡ r.plan.tasks = omega arith in
+    sym (all_stuck r c.if-network-ne0.false ∙ (rw e at c.loop-t.invariant.1))

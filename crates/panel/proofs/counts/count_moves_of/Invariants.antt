@@ -9,7 +9,7 @@ use Rattle.panel.proofs.counts.count_moves_of.Given as goal
 
 abbrev pub invariant-loop-k : goal.invariant-loop-k
 invariant-loop-k l =
-    (l.k ≤ l.n.processors) × ((l : ℕ) → Few l (counts_of l.initial.q) → Few (l + l.k) (counts_of l.q)) × ((r : System) → MovesAs (tasks_on l.board) l.n r → CountsMore r (moves_of l.t l.k) (counts_of l.initial.q) (counts_of l.q))
+    (l.k ≤ l.n.processors) × ((m : ℕ) → Few m (counts_of l.initial.q) → Few (m + l.k) (counts_of l.q)) × ((r : System) → MovesAs (tasks_on l.board) l.n r → CountsMore r (moves_of l.t l.k) (counts_of l.initial.q) (counts_of l.q))
 
 abbrev pub decreases-loop-k : goal.decreases-loop-k
 decreases-loop-k l = l.n.processors - l.k

@@ -39,8 +39,8 @@ loop-k-preserved c =
     let k = l.loop-k.k in
     let a = l.args in (
       omega arith,
-      length-set l.loop-k.out k (get_or a.t2 k 0) ∙ i.1,
-      λ h. ap (λ (o : List ℕ). set o k (get_or a.t2 k 0)) (i.2 h) ∙ put_next a.out.now a.t2 k (omega arith) (omega arith),
+      length-set l.loop-k.out k (get_or a.counts k 0) ∙ i.1,
+      λ h. ap (λ (o : List ℕ). set o k (get_or a.counts k 0)) (i.2 h) ∙ put_next a.out.now a.counts k (omega arith) (omega arith),
     )
 
 pub shape_of-out : goal.shape_of-out
@@ -50,6 +50,6 @@ pub returns : goal.returns
 returns c =
     let l = c.before in
     let s = l.before in
-    let long : length s.args.t2 ≡ 27 = s.well_formed.1.0.1.0.1 in
+    let long : length s.args.counts ≡ 27 = s.well_formed.1.0.1.0.1 in
     let all : l.loop-k.k ≡ 27 = omega arith in
-    (rw all at (l.loop-k.invariant.2 long)) ∙ ap (λ (t : List ℕ). t ++ drop 27 s.args.out.now) (take_all 27 s.args.t2 (omega arith))
+    (rw all at (l.loop-k.invariant.2 long)) ∙ ap (λ (t : List ℕ). t ++ drop 27 s.args.out.now) (take_all 27 s.args.counts (omega arith))

@@ -27,6 +27,6 @@ returns c =
     let put = c.before.before.before.before.before.before.before.before in
     let start = put.before.before in
     let a = start.args in
-        let left = lent c.other.new.hintprocessors c.other.new.hintmoves c.other.new.heldprocessors c.other.new.heldnumbers c.other.new.notes c.other.new.board in
+    let left = lent c.other.new.hintprocessors c.other.new.hintmoves c.other.new.heldprocessors c.other.new.heldnumbers c.other.new.notes c.other.new.board in
     subst (λ (z : List ℕ). OtherDone a.codes.now z a.users.now a.n a.s (here start) c.other.result left) put.put_numbers.ensures
     c.other.ensures

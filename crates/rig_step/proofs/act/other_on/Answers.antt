@@ -80,7 +80,7 @@ returns c =
     let else2 = c.before.before.before.before.before.before.before in
     let start = else2.before.before.before.before.before in
     let a = start.args in
-        let left = lent c.numbered.new.hintprocessors c.numbered.new.hintmoves c.numbered.new.heldprocessors c.numbered.new.heldnumbers c.numbered.new.notes c.numbered.new.board in
+    let left = lent c.numbered.new.hintprocessors c.numbered.new.hintmoves c.numbered.new.heldprocessors c.numbered.new.heldnumbers c.numbered.new.notes c.numbered.new.board in
     subst (λ (z : List ℕ). OtherDone a.codes.now (numbers start) a.users.now a.n a.s (with-board start z) c.numbered.result left)
     (word_kept else2)
     c.numbered.ensures

@@ -6,7 +6,7 @@ use Rattle.rig_step.proofs.pack.channels_on.Given as goal
 
 abbrev pub invariant-loop-k : goal.invariant-loop-k
 invariant-loop-k l =
-    (l.k ≤ 128) × AgreeOn l.k (record { l.granted = l.granted; l.awaiting = l.awaiting; l.carriedprocessors = l.carriedprocessors; l.carriednumbers = l.carriednumbers; l.travellingprocessors = l.travellingprocessors; l.travellingmoves = l.travellingmoves }) (channels_on l.board)
+    (l.k ≤ 128) × AgreeOn l.k (record { granted = l.granted; awaiting = l.awaiting; carriedprocessors = l.carriedprocessors; carriednumbers = l.carriednumbers; travellingprocessors = l.travellingprocessors; travellingmoves = l.travellingmoves }) (channels_on l.board)
 
 abbrev pub decreases-loop-k : goal.decreases-loop-k
 decreases-loop-k l = 128 - l.k

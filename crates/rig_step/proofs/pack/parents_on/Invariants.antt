@@ -6,7 +6,7 @@ use Rattle.rig_step.proofs.pack.parents_on.Given as goal
 
 abbrev pub invariant-loop-k : goal.invariant-loop-k
 invariant-loop-k l =
-    (l.k ≤ 384) × AgreeFor l.k (record { l.hintprocessors = l.hintprocessors; l.hintmoves = l.hintmoves; l.held = l.held }) (parents_on l.board)
+    (l.k ≤ 384) × AgreeFor l.k (record { hintprocessors = l.hintprocessors; hintmoves = l.hintmoves; held = l.held }) (parents_on l.board)
 
 abbrev pub decreases-loop-k : goal.decreases-loop-k
 decreases-loop-k l = 384 - l.k

@@ -40,11 +40,11 @@ returns c =
     let f = c.well_formed.1.0.1.1 in
     let long : Long c.args.channels =
     record {
-      granted = simp length-map at f.0.1.0.1;
-      awaiting = simp length-map at f.1.0.1.0.1;
-      carriedprocessors = simp length-map at f.1.1.0.1.0.1;
-      carriednumbers = simp length-map at f.1.1.1.0.1.0.1;
-      travellingprocessors = simp length-map at f.1.1.1.1.0.1.0.1;
-      travellingmoves = simp length-map at f.1.1.1.1.1.0.1.0.1;
+      granted = f.0.1.0.1;
+      awaiting = f.1.0.1.0.1;
+      carriedprocessors = f.1.1.0.1.0.1;
+      carriednumbers = f.1.1.1.0.1.0.1;
+      travellingprocessors = f.1.1.1.1.0.1.0.1;
+      travellingmoves = f.1.1.1.1.1.0.1.0.1;
     } in
     (i.1, channels_all (i.3 long) (omega arith), i.2)

@@ -55,8 +55,8 @@ returns c =
     let f = c.well_formed.1.0.1.1 in
     let long : LongFor c.args.parents =
     record {
-      hintprocessors = simp length-map at f.0.1.0.1;
-      hintmoves = simp length-map at f.1.0.1.0.1;
-      held = simp length-map at f.1.1.0.1.0.1;
+      hintprocessors = f.0.1.0.1;
+      hintmoves = f.1.0.1.0.1;
+      held = f.1.1.0.1.0.1;
     } in
     (i.1, parents_all (i.4 long) (omega arith), i.2, i.3)

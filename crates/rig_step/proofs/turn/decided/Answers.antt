@@ -25,10 +25,10 @@ overflow_sub-slot c = search rules
 abbrev start : After-position-p → Start
 start c = c.before
 
-at : (c : After-position-p) → c.position-p.result ≡ position_of (start c).args.t11.used (start c).args.s
+at : (c : After-position-p) → c.position-p.result ≡ position_of (start c).args.network.used (start c).args.s
 at c = c.position-p.ensures.0 ∙ ap (λ (u : ℕ). position_of u (start c).args.s) (start c).requires.messages
 
-few : (c : After-position-p) → (c.position-p.result ≤ (start c).args.t11.used) × (c.position-p.result ≤ 256)
+few : (c : After-position-p) → (c.position-p.result ≤ (start c).args.network.used) × (c.position-p.result ≤ 256)
 few c = omega (arith, c.position-p.ensures.1, (start c).requires.messages, used_few (start c).requires.rig.parts)
 
 pub offset_bounds-network-p : goal.offset_bounds-network-p
@@ -55,7 +55,7 @@ returns-then-p-ne0 c =
     let t = c.before.before in
     let a = (start t.before).args in
     let l = lent a.hintprocessors.now a.hintmoves.now a.heldprocessors.now a.heldnumbers.now a.notes.now a.board.now in
-    message_says (facts_in a.n.tasks a.codes.now a.numbers.now a.users.now) a.n.processors (tasks_of l) a.t11 (kept_of l) a.s
+    message_says (facts_in a.n.tasks a.codes.now a.numbers.now a.users.now) a.n.processors (tasks_of l) a.network (kept_of l) a.s
     t.position-p.result
     (at t.before)
     t.if-p-ne0.true
@@ -70,6 +70,6 @@ returns c =
     let a = (start t.before).args in
     let l = lent a.hintprocessors.now a.hintmoves.now a.heldprocessors.now a.heldnumbers.now a.notes.now a.board.now in
     let f = facts_in a.n.tasks a.codes.now a.numbers.now a.users.now in
-    other_says f a.n.processors (tasks_of l) a.t11 (kept_of l) a.s
+    other_says f a.n.processors (tasks_of l) a.network (kept_of l) a.s
     (sym (at t.before) ∙ t.if-p-ne0.false)
     (c.step_decided-r.ensures ∙ ap (λ (u : ℕ). act_of (step_verdict f a.n.processors (tasks_of l) (kept_of l) u a.s)) (start t.before).requires.messages)

@@ -3,7 +3,6 @@ use native.Mathlib.Omega.{arith}
 use borrow.Author.Rules.{rules}
 use Rattle.step_panel.proofs.Panels.{refused_panel, short_panel, shown_panel}
 use Rattle.step_panel.proofs.panel_counts.mortarsedge_panel_after.Goals as goal
-use Rattle.step_panel.proofs.panel_counts.mortarsedge_panel_after.Goals.{After-panel_file-s, After-run_number-number}
 
 pub panel_file-s-requires : goal.panel_file-s-requires
 panel_file-s-requires c = search rules
@@ -11,20 +10,11 @@ panel_file-s-requires c = search rules
 pub run_number-number-requires : goal.run_number-number-requires
 run_number-number-requires c = search rules
 
--- the number of the answer; before it the panel, and the start
-abbrev shown : After-run_number-number → After-panel_file-s
-shown c = c.before
-
 pub returns-then-number-ne0 : goal.returns-then-number-ne0
-returns-then-number-ne0 c =
-    let n = c.before in
-    refused_panel _ _ _ _ (shown n).panel_file-s.ensures n.run_number-number.ensures.0 c.if-number-ne0.true
+returns-then-number-ne0 c = refused_panel _ _ _ _ c.panel_file-s.ensures c.run_number-number.ensures.0 c.if-number-ne0.true
 
 pub returns-then-counts-lt27 : goal.returns-then-counts-lt27
-returns-then-counts-lt27 c =
-    let e = c.before in
-    let n = e.before in
-    short_panel _ _ _ _ (shown n).panel_file-s.ensures n.run_number-number.ensures.0 e.if-number-ne0.false c.if-counts-lt27.true
+returns-then-counts-lt27 c = short_panel _ _ _ _ c.panel_file-s.ensures c.run_number-number.ensures.0 c.if-number-ne0.false c.if-counts-lt27.true
 
 pub put_counts-requires : goal.put_counts-requires
 put_counts-requires c = omega arith
@@ -33,8 +23,4 @@ pub shape_of-counts : goal.shape_of-counts
 shape_of-counts c = search rules
 
 pub returns : goal.returns
-returns c =
-    let q = c.before.before in
-    let e = q.before.before.before.before in
-    let n = e.before in
-    shown_panel _ _ _ _ (shown n).panel_file-s.ensures n.run_number-number.ensures.0 e.if-number-ne0.false (omega arith) q.put_counts.ensures
+returns c = shown_panel _ _ _ _ c.panel_file-s.ensures c.run_number-number.ensures.0 c.if-number-ne0.false (omega arith) c.put_counts.ensures

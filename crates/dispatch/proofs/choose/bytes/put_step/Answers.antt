@@ -18,17 +18,11 @@ emit_bytes-written-requires c = search rules
 
 pub note-requires : goal.note-requires
 note-requires c =
-    let m = c.before.before.before in
-    let else1 = m.before.before.before in
-    let start = else1.before.before.before in
-    (start.requires.0, omega (arith, noted_room _ start.args.progress.now _ start.requires.0 else1.if-progress-ne0.false start.requires.1 m.emit_bytes-written.ensures, start.well_formed.0))
+    (c.requires.0, omega (arith, noted_room _ c.args.progress.now _ c.requires.0 c.if-progress-ne0.false c.requires.1 c.emit_bytes-written.ensures, c.well_formed.0))
 
 pub shape_of-out : goal.shape_of-out
 shape_of-out c = search rules
 
 pub returns : goal.returns
 returns c =
-    let m = c.before.before.before.before in
-    let else1 = m.before.before.before in
-    let start = else1.before.before.before in
-    rw c.note.ensures (next_noted _ _ _ start.requires.0 else1.if-progress-ne0.false start.requires.1 m.emit_bytes-written.ensures (omega arith))
+    rw c.note.ensures (next_noted _ _ _ c.requires.0 c.if-progress-ne0.false c.requires.1 c.emit_bytes-written.ensures (omega arith))

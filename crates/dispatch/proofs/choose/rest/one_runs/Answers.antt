@@ -29,11 +29,10 @@ is_accepted-requires c = search rules
 
 pub returns-then-is_accepted : goal.returns-then-is_accepted
 returns-then-is_accepted c e =
-    let q = c.before.before in
     let a = c.args in
-    let t = q.next_ready-t.result in
+    let t = c.next_ready-t.result in
     let ts = tasks_on a.board.now in
-    let runs : is_accepted (run_refusal a.codes.now a.count ts (task_id t)) ≡ true = sym (c.is_accepted.ensures ∙ ap is_accepted q.run_refusal-q.ensures) ∙ c.if-is_accepted.true in
+    let runs : is_accepted (run_refusal a.codes.now a.count ts (task_id t)) ≡ true = sym (c.is_accepted.ensures ∙ ap is_accepted c.run_refusal-q.ensures) ∙ c.if-is_accepted.true in
     let within = (run_passed a.codes.now a.count ts (task_id t) runs).0 in
     let low = within_low 1 a.count t within in
     let high = within_high 1 a.count t within in
