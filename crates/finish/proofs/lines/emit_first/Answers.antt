@@ -13,7 +13,7 @@ note-requires c =
     let m = c.before.before.before in
     let else1 = m.before.before.before in
     let start = else1.before.before.before in
-    (start.requires.1, omega (arith, noted_room _ start.args.progress.now _ start.requires.1 else1.if-progress-ne0.false start.requires.2 m.emit_verdict-written.ensures, start.well-formed.0))
+    (start.requires.1, omega (arith, noted_room _ start.args.progress.now _ start.requires.1 else1.if-progress-ne0.false start.requires.2 m.emit_verdict-written.ensures, start.well_formed.0))
 
 pub returns : goal.returns
 returns c =
