@@ -18,7 +18,7 @@ run_steps-network-requires c =
     let z = c.no_tables-tables in
     let on = c.start_board in
     let g = begun a.count a.codes.now a.numbers.now c.build.ensures c.requires.0.begins c.no_messages-network.ensures z.ensures on.ensures
-        (c.locate.ensures z.result.heldprocessors z.result.heldnumbers z.result.notes on.new.board on.ensures.whole) in
+    (c.locate.ensures z.result.heldprocessors z.result.heldnumbers z.result.notes on.new.board on.ensures.whole) in
     record { rig = g; whole = on.ensures.whole; indexed = c.build.ensures.indexed; few = c.requires.1; blank = refl }
 
 pub emit_marks-requires : goal.emit_marks-requires
@@ -27,7 +27,7 @@ emit_marks-requires c =
     let z = c.no_tables-tables in
     let on = c.start_board in
     let g = begun a.count a.codes.now a.numbers.now c.build.ensures c.requires.0.begins c.no_messages-network.ensures z.ensures on.ensures
-        (c.locate.ensures z.result.heldprocessors z.result.heldnumbers z.result.notes on.new.board on.ensures.whole) in
+    (c.locate.ensures z.result.heldprocessors z.result.heldnumbers z.result.notes on.new.board on.ensures.whole) in
     let h = c.run_steps-network.ensures.0 in
     (count_few (ran_rig g _ h).parts, h.two, written_room h.lines)
 
@@ -37,7 +37,7 @@ at_rest-rest-requires c =
     let z = c.no_tables-tables in
     let on = c.start_board in
     let g = begun a.count a.codes.now a.numbers.now c.build.ensures c.requires.0.begins c.no_messages-network.ensures z.ensures on.ensures
-        (c.locate.ensures z.result.heldprocessors z.result.heldnumbers z.result.notes on.new.board on.ensures.whole) in
+    (c.locate.ensures z.result.heldprocessors z.result.heldnumbers z.result.notes on.new.board on.ensures.whole) in
     placed (ran_rig g _ c.run_steps-network.ensures.0).parts
 
 pub emit_last-requires : goal.emit_last-requires
@@ -46,7 +46,7 @@ emit_last-requires c =
     let z = c.no_tables-tables in
     let on = c.start_board in
     let g = begun a.count a.codes.now a.numbers.now c.build.ensures c.requires.0.begins c.no_messages-network.ensures z.ensures on.ensures
-        (c.locate.ensures z.result.heldprocessors z.result.heldnumbers z.result.notes on.new.board on.ensures.whole) in
+    (c.locate.ensures z.result.heldprocessors z.result.heldnumbers z.result.notes on.new.board on.ensures.whole) in
     let h = c.run_steps-network.ensures.0 in
     let lines = c.emit_marks.ensures in
     (rig_messages (ran_rig g _ h), lines.long ∙ h.two, lines.room (written_room h.lines))
@@ -57,6 +57,6 @@ returns c p b =
     let z = c.no_tables-tables in
     let on = c.start_board in
     let g = begun a.count a.codes.now a.numbers.now c.build.ensures b c.no_messages-network.ensures z.ensures on.ensures
-        (c.locate.ensures z.result.heldprocessors z.result.heldnumbers z.result.notes on.new.board on.ensures.whole) in
+    (c.locate.ensures z.result.heldprocessors z.result.heldnumbers z.result.notes on.new.board on.ensures.whole) in
     let h = c.run_steps-network.ensures.0 in
     driven g _ h _ (c.at_rest-rest.ensures ∙ sym (rest_quiet (ran_rig g _ h).parts)) c.emit_marks.ensures c.emit_last.ensures
