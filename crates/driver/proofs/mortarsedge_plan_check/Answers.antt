@@ -20,12 +20,10 @@ started_if n p e = ap (λ (b : Bool). answer_number (unless b (Refused BadProces
 
 pub returns-then-not-is_within : goal.returns-then-not-is_within
 returns-then-not-is_within c =
-    let l = c.before.before in
-    let e = sym l.is_Within.ensures ∙ not-true l.is_Within.result c.if-not-is_within.true-raw in
+    let e = sym c.is_within.ensures ∙ not-true c.is_within.result c.if-not-is_within.true-raw in
     c.number.ensures ∙ sym (started_if _ _ e)
 
 pub returns : goal.returns
 returns c =
-    let l = c.before.before.before in
-    let e = sym l.is_Within.ensures ∙ not-false l.is_Within.result c.if-not-is_within.false-raw in
+    let e = sym c.is_within.ensures ∙ not-false c.is_within.result c.if-not-is_within.false-raw in
     c.number-2.ensures ∙ ap answer_number c.check_plan-answer.ensures ∙ sym (started_if _ _ e)

@@ -8,29 +8,22 @@ use Rattle.trace.proofs.Bound.{run_text_short}
 use Rattle.driver.proofs.Room.{room_enough}
 use Rattle.driver.proofs.Traced.{output_lines}
 use borrow.Author.Rules.{rules}
-use Rattle.driver.proofs.mortarsedge_run.Reads as reads
-use Rattle.driver.proofs.mortarsedge_run.Lts as lts
-use Rattle.driver.proofs.packed.Reads as packed-reads
-use Rattle.driver.proofs.run_number.Reads as run-number-reads
-use Rattle.run.proofs.file.run.run_file.Reads as run-file-reads
 use Rattle.driver.proofs.mortarsedge_run.Goals as goal
 
 pub packed-requires : goal.packed-requires
 packed-requires c =
-    let f = c.before.before.before in
-    let a = f.args in
-    (c.run_number-number.ensures.1, omega (arith, f.run_file-o.ensures.count, run_text_short a.processors a.plan.now a.steps.now a.out-1.now))
+    let a = c.args in
+    (c.run_number-number.ensures.1, omega (arith, c.run_file-o.ensures.count, run_text_short a.processors a.plan.now a.steps.now a.out.now))
 
 pub returns : goal.returns
 unfolding run_outcome
 returns c =
-    let f = c.before.before.before.before in
-    let a = f.args in
-    let r = f.run_file-o.ensures in
+    let a = c.args in
+    let r = c.run_file-o.ensures in
     record {
       outcome = c.packed.ensures ∙ ap₂ packed (c.run_number-number.ensures.0 ∙ ap run_number r.answered) r.count;
       bytes = r.bytes;
-      room = room_enough a.processors a.plan.now a.steps.now a.out-1.now;
+      room = room_enough a.processors a.plan.now a.steps.now a.out.now;
       demand_3 = λ h. demand_3_file a.processors a.plan.now h a.steps.now;
-      lines = λ h. r.bytes ∙ output_lines a.processors a.plan.now a.steps.now a.out-1.now h;
+      lines = λ h. r.bytes ∙ output_lines a.processors a.plan.now a.steps.now a.out.now h;
     }

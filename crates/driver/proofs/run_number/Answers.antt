@@ -2,9 +2,6 @@
 use mathlib.Core.Path.{refl, ◌∙◌}
 use Rattle.driver.proofs.Numbers.{refusal_few}
 use borrow.Author.Rules.{rules}
-use Rattle.driver.proofs.run_number.Reads as reads
-use Rattle.driver.proofs.run_number.Lts as lts
-use Rattle.plan.proofs.Refusal.number.Reads as number-reads
 use Rattle.driver.proofs.run_number.Goals as goal
 
 pub returns-in-Unstarted : goal.returns-in-Unstarted

@@ -16,7 +16,7 @@ use Rattle.rules_sound.proofs.Sound.{sound}
 use Rattle.rules_sound.proofs.Kept.{ruled_steps_lem}
 use Rattle.rig_parts.specs.Facts.{Facts}
 use Rattle.rig_parts.specs.Rests.{rest_in}
-use Rattle.rig_parts.specs.Turns.{Rig}
+use Rattle.rig_parts.specs.Turns.{Rig, turn_of}
 use Rattle.rig_parts.proofs.Rigs.{rig_turn, rig_next, rig_next_system, rig_rest}
 use Rattle.trace.specs.Lines.{end_text}
 use Rattle.trace.proofs.Lines.{end_of}
@@ -32,9 +32,10 @@ pub record Stood (f : Facts) (n : ℕ) (h : Turns) (w : History) : Type 0 where
 stood : (f : Facts) (n : ℕ) {ts : TaskTable} {k : Network} {s : Kept} (g : Rig f n ts k s) (xs : List Step)
     → Stood f n (turns_of f n ts k s xs) (ruled_steps g.parts.system xs)
 unfolding turns_of steps_by
-stood f n g [] = record { rig = g; system = refl; reports = refl }
-stood f n g (x ∷ xs) =
-    let i = stood f n (rig_next g x) xs in
+stood f n {ts = ts} {k = k} {s = s} g [] = record { rig = g; system = refl; reports = refl }
+stood f n {ts = ts} {k = k} {s = s} g (x ∷ xs) =
+    let t = turn_of f n ts k s x in
+    let i = stood f n {ts = t.tasks} {k = t.network} {s = t.kept} (rig_next g x) xs in
     let e = rig_next_system g x in
     record { rig = i.rig; system = i.system ∙ rw e refl; reports = rw (i.reports, e, rig_turn g x) refl }
 

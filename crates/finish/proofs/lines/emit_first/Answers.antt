@@ -10,14 +10,9 @@ returns-then-progress-ne0 c = next_stopped _ _ _ c.if-progress-ne0.true
 
 pub note-requires : goal.note-requires
 note-requires c =
-    let m = c.before.before.before in
-    let else1 = m.before.before.before in
-    let start = else1.before.before.before in
-    (start.requires.1, omega (arith, noted_room _ start.args.progress.now _ start.requires.1 else1.if-progress-ne0.false start.requires.2 m.emit_verdict-written.ensures, start.well-formed.0))
+    (c.requires.1, omega (arith, noted_room _ c.args.progress.now _ c.requires.1 c.if-progress-ne0.false c.requires.2 c.emit_verdict-written.ensures, c.well_formed.0))
 
 pub returns : goal.returns
 returns c =
-    let m = c.before.before.before.before in
-    let else1 = m.before.before.before in
-    let start = else1.before.before.before in
-    rw c.note.ensures (next_noted _ _ _ start.requires.1 else1.if-progress-ne0.false start.requires.2 m.emit_verdict-written.ensures (omega (arith, verdict_length start.args.all start.args.work)))
+    rw c.note.ensures
+    (next_noted _ _ _ c.requires.1 c.if-progress-ne0.false c.requires.2 c.emit_verdict-written.ensures (omega (arith, verdict_length c.args.all c.args.work)))

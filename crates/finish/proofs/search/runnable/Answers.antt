@@ -12,13 +12,12 @@ returns-then-t-ne0 c =
 
 pub returns : goal.returns
 returns c =
-    let else1 = c.before in
-    let last = else1.args.last in
+    let last = c.args.last in
     record {
-      some = λ ne. let (low, high, can) = c.search.ensures.some ne in (low, omega (arith, else1.requires.1), can);
+      some = λ ne. let (low, high, can) = c.search.ensures.some ne in (low, omega (arith, c.requires.1), can);
       none =
           λ e t low high.
           by_cases (dec_lt last t)
-          (λ l. else1.search-t.ensures.none else1.if-t-ne0.false t l high)
+          (λ l. c.search-t.ensures.none c.if-t-ne0.false t l high)
           (λ l. c.search.ensures.none e t low (omega arith));
     }

@@ -6,41 +6,35 @@ use native.Mathlib.Decide.{ℕ_discrete}
 use native.Mathlib.Omega.{arith}
 use borrow.Author.Rules.{rules}
 use Rattle.rules.specs.Answers.{is_accepted}
-use Rattle.board.specs.Lent.{tasks_on}
+use Rattle.rules.specs.declared.step.StepAnswer.{StepAnswer}
+use Rattle.rules.specs.declared.system.TaskTable.{TaskTable}
+use Rattle.rules.specs.Numbers.{task_id}
+use Rattle.rig_parts.specs.RunVerdicts.{run_refusal}
 use Rattle.finish.specs.Searches.{can_run}
 use Rattle.finish.proofs.search.search.Goals as goal
-use Rattle.finish.proofs.search.search.Goals.{After-is_accepted}
 
--- whether task k + 1 can run
-asked : (c : After-is_accepted)
-    → let l = c.before.before.before in
-    let a = l.args in
-    can_run a.codes.now a.count (tasks_on a.board.now) (l.loop-k.k + 1) ≡ c.is_accepted.result
-asked c = sym (c.is_accepted.ensures ∙ ap is_accepted c.run_refusal-q.ensures)
+-- whether a task can run, by what a run of it answers
+asked : {codes : List ℕ} {count : ℕ} {ts : TaskTable} {t : ℕ} {q : StepAnswer} {r : Bool}
+    → q ≡ run_refusal codes count ts (task_id t) → r ≡ is_accepted q → can_run codes count ts t ≡ r
+asked e h = sym (h ∙ ap is_accepted e)
 
 pub loop-k-init : goal.loop-k-init
 loop-k-init c = (omega arith, omega arith, λ t l h. absurd (omega arith))
 
-pub overflow_add-t : goal.overflow_add-t
-overflow_add-t c = omega arith
-
 pub returns-then-is_accepted : goal.returns-then-is_accepted
-returns-then-is_accepted c = record { some = λ ne. (omega arith, omega arith, asked c.before ∙ c.if-is_accepted.true); none = λ e. absurd (omega arith) }
-
-pub loop-k-smaller : goal.loop-k-smaller
-loop-k-smaller c = omega arith
+returns-then-is_accepted c =
+    record { some = λ ne. (omega arith, omega arith, asked c.run_refusal-q.ensures c.is_accepted.ensures ∙ c.if-is_accepted.true); none = λ e. absurd (omega arith) }
 
 pub loop-k-preserved : goal.loop-k-preserved
 loop-k-preserved c =
-    let l = c.before.before.before.before in
-    let k = l.loop-k.k in (
+    let k = c.loop-k.k in (
       omega arith,
       omega arith,
       λ t low high.
-          by_cases (ℕ_discrete t (k + 1)) (λ (e : t ≡ k + 1). rw e (asked c.before ∙ c.if-is_accepted.false)) (λ ne. l.loop-k.invariant.2 t low (omega arith)),
+          by_cases (ℕ_discrete t (k + 1))
+          (λ (e : t ≡ k + 1). rw e (asked c.run_refusal-q.ensures c.is_accepted.ensures ∙ c.if-is_accepted.false))
+          (λ ne. c.loop-k.invariant.2 t low (omega arith)),
     )
 
 pub returns : goal.returns
-returns c =
-    let l = c.before in
-    record { some = λ ne. absurd (omega arith); none = λ e t low high. l.loop-k.invariant.2 t low (omega arith) }
+returns c = record { some = λ ne. absurd (omega arith); none = λ e t low high. c.loop-k.invariant.2 t low (omega arith) }

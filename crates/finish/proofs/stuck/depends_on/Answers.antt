@@ -16,28 +16,20 @@ last_channel-c-requires c = c.requires (rw (sym c.is_in.ensures ∙ c.if-is_in.t
 pub returns-then-is_in : goal.returns-then-is_in
 unfolding depends_in
 returns-then-is_in c =
-    let l = c.before in
-    let t = l.before in
-    rw (sym t.is_in.ensures ∙ t.if-is_in.true)
-    (c.receiver.ensures ∙ ap (named_in (receivers_of t.args.users.now)) l.last_channel-c.ensures.0)
+    rw (sym c.is_in.ensures ∙ c.if-is_in.true)
+    (c.receiver.ensures ∙ ap (named_in (receivers_of c.args.users.now)) c.last_channel-c.ensures.0)
 
 pub last_channel-c-requires-then-is_in-2 : goal.last_channel-c-requires-then-is_in-2
 last_channel-c-requires-then-is_in-2 c =
-    let start = c.before.before.before.before in
-    start.requires (rw (sym c.is_in-2.ensures ∙ c.if-is_in-2.true) (or-true (is_in Sending start.args.x)))
+    c.requires (rw (sym c.is_in-2.ensures ∙ c.if-is_in-2.true) (or-true (is_in Sending c.args.x)))
 
 pub returns-then-is_in-2 : goal.returns-then-is_in-2
 unfolding depends_in
 returns-then-is_in-2 c =
-    let l = c.before in
-    let t = l.before in
-    let e = t.before.before in
-    rw (sym e.is_in.ensures ∙ e.if-is_in.false, sym t.is_in-2.ensures ∙ t.if-is_in-2.true)
-    (c.sender.ensures ∙ ap (named_in (senders_of e.args.users.now)) l.last_channel-c-then-is_in-2.ensures.0)
+    rw (sym c.is_in.ensures ∙ c.if-is_in.false, sym c.is_in-2.ensures ∙ c.if-is_in-2.true)
+    (c.sender.ensures ∙ ap (named_in (senders_of c.args.users.now)) c.last_channel-c-then-is_in-2.ensures.0)
 
 pub returns : goal.returns
 unfolding depends_in
 returns c =
-    let t = c.before in
-    let e = t.before.before in
-    rw (sym e.is_in.ensures ∙ e.if-is_in.false, sym t.is_in-2.ensures ∙ t.if-is_in-2.false) (ap task_id c.lowest_child.ensures)
+    rw (sym c.is_in.ensures ∙ c.if-is_in.false, sym c.is_in-2.ensures ∙ c.if-is_in-2.false) (ap task_id c.lowest_child.ensures)

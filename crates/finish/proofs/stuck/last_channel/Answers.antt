@@ -6,17 +6,13 @@ use borrow.Author.Rules.{rules}
 use Rattle.plan.specs.declared.Instruction.{Instruction}
 use Rattle.rig_parts.specs.Fetches.{instruction_in}
 use Rattle.finish.proofs.stuck.last_channel.Goals as goal
-use Rattle.finish.proofs.stuck.last_channel.Goals.{After-instruction_in-i}
 
 -- the channel, as it was read
-operand : (c : After-instruction_in-i) → let a = c.args in
-    (c.instruction_in-i.result.operand ≡ (instruction_in a.codes.now a.t (a.x.pc - 1)).operand) × (c.instruction_in-i.result.operand ≤ 128)
-operand c =
-    let e = ap (λ (i : Instruction). i.operand) c.instruction_in-i.ensures in
-    (e, omega (arith, e, c.requires.channel))
+operand : {i j : Instruction} → i ≡ j → j.operand ≤ 128 → (i.operand ≡ j.operand) × (i.operand ≤ 128)
+operand e h = let o = ap (λ (i : Instruction). i.operand) e in (o, omega (arith, o, h))
 
 pub overflow_cast-result : goal.overflow_cast-result
-overflow_cast-result c = omega (arith, operand c.before)
+overflow_cast-result c = omega (arith, operand c.instruction_in-i.ensures c.requires.channel)
 
 pub returns : goal.returns
-returns c = operand c.before
+returns c = operand c.instruction_in-i.ensures c.requires.channel

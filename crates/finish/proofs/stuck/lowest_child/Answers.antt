@@ -8,27 +8,18 @@ use Rattle.finish.proofs.stuck.lowest_child.Goals as goal
 pub loop-k-init : goal.loop-k-init
 loop-k-init c = (omega arith, lowest_none _)
 
-pub overflow_add-t : goal.overflow_add-t
-overflow_add-t c = omega arith
-
 pub has_child-requires : goal.has_child-requires
 has_child-requires c = (omega arith, omega arith)
 
 pub returns-then-has_child : goal.returns-then-has_child
 returns-then-has_child c =
-    let l = c.before.before.before in
-    sym (lowest_found 64 _ l.loop-k.k (omega arith) l.loop-k.invariant.1 (sym c.has_child.ensures ∙ c.if-has_child.true))
-
-pub loop-k-smaller : goal.loop-k-smaller
-loop-k-smaller c = omega arith
+    sym (lowest_found 64 _ c.loop-k.k (omega arith) c.loop-k.invariant.1 (sym c.has_child.ensures ∙ c.if-has_child.true))
 
 pub loop-k-preserved : goal.loop-k-preserved
 loop-k-preserved c =
-    let l = c.before.before.before in
-    (omega arith, lowest_more l.loop-k.k _ l.loop-k.invariant.1 (sym c.has_child.ensures ∙ c.if-has_child.false))
+    (omega arith, lowest_more c.loop-k.k _ c.loop-k.invariant.1 (sym c.has_child.ensures ∙ c.if-has_child.false))
 
 pub returns : goal.returns
 returns c =
-    let l = c.before in
-    let e : l.loop-k.k ≡ 64 = omega arith in
-    sym (rw e at l.loop-k.invariant.1)
+    let e : c.loop-k.k ≡ 64 = omega arith in
+    sym (rw e at c.loop-k.invariant.1)

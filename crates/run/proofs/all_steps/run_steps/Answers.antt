@@ -1,205 +1,161 @@
 -- `run_steps`: after k steps the parts are those that k turns leave, and their lines are written.
-use Rattle.run.proofs.all_steps.run_steps.Goals as goal
-
-mod Stages
-mod Networks
-
 use mathlib.Core.Path.{◌≡◌, refl, sym, ap, ◌∙◌, subst}
-
+use mathlib.Core.Bool.{true}
 use mathlib.Core.List.{List}
-
-use mathlib.Core.Logic.{⊎_elim}
-
-use Prim.Native.Nat.{ℕ, ◌+◌, ◌-◌, ◌/◌}
-
+use Prim.Native.Nat.{ℕ, ◌+◌, ◌-◌, ◌/◌, ◌≤◌, ◌<◌}
 use native.Mathlib.Omega.{arith}
-
 use borrow.Author.Rules.{rules}
-
 use borrow.Author.Tests.{not-true, not-false}
-
 use lib.ListN.{length, get_or, set, drop}
-
 use lib.Seq.{paste-zero}
-
 use Rattle.rules.specs.declared.message.Network.{Network}
-
+use Rattle.rules.specs.declared.message.Slot.{Slot}
 use Rattle.rules.specs.declared.rule.Posting.TheVariants.{Nothing}
-
-use Rattle.rules.specs.Networks.{no_slot, message_at}
-
+use Rattle.rules.specs.declared.step.Step.{Step}
+use Rattle.rules.specs.declared.system.TaskTable.{TaskTable}
+use Rattle.rules.specs.Networks.{slot, no_slot, message_at, dequeued, enqueued_all, messages_of}
 use Rattle.rules.specs.StepFiles.{file_steps}
-
-use Rattle.rig_parts.proofs.BoundsParts.{processors_few}
-
-use Rattle.rig_parts.specs.Turns.{turn_of}
-
+use Rattle.rig_parts.specs.declared.kept.Kept.{Kept}
+use Rattle.rig_parts.specs.Facts.{Facts, PartsOf}
+use Rattle.rig_parts.specs.Turns.{turn_of, Rig}
 use Rattle.rig_parts.proofs.Bounds.{message_ok_lem}
-
-use Rattle.network.proofs.Shift.{shift_more}
-
+use Rattle.rig_parts.proofs.BoundsParts.{processors_few, used_few}
 use Rattle.network.specs.Positions.{position_of}
-
+use Rattle.network.specs.Rounds.{is_message, rounds_of, message_of}
 use Rattle.network.proofs.Gaps.{holding}
+use Rattle.network.proofs.Shift.{shift_more}
+use Rattle.network.proofs.Posted.{after, after_none, after_room, few_rounds, posted_none, posted_one, rounds_all}
+use Rattle.plan_index.specs.user_table.Users.{Indexed}
+use Rattle.board.specs.declared.act.Act.{Act}
+use Rattle.board.specs.declared.act.Size.{Size}
+use Rattle.board.specs.Lent.{Lent, lent, Whole, tasks_of, kept_of}
+use Rattle.board.specs.Acted.{Acted, plain_act}
+use Rattle.board.specs.Rigs.{facts_in, RigOn}
+use Rattle.board.specs.Verdicts.{step_verdict}
+use Rattle.run.proofs.all_steps.Going.{going_start, going_length, going_done, going_more, going_room}
+use Rattle.run.proofs.all_steps.Mail.{joins, opened_posts, delivered_mail, round_posted, round_skipped}
+use Rattle.run.proofs.all_steps.Posts.{one_room}
+use Rattle.run.proofs.all_steps.Acting.{delivered_made, other_made, step_room}
+use Rattle.run.proofs.all_steps.run_steps.Goals as goal
+use Rattle.run.proofs.all_steps.run_steps.Goals.{then-not-skips, else-not-skips, then-posts, else-posts+else-loop-e-test}
 
-use Rattle.network.proofs.Posted.{after, after_none, few_rounds, posted_none}
+-- 256 letters at most, and 256 slots
+module _ {f : Facts} {n : ℕ} {ts : TaskTable} {k : Network} {s : Kept} (g : Rig f n ts k s) where
+  few : k.used ≤ 256
+  few = used_few g.parts
 
-use Rattle.board.specs.Lent.{lent, tasks_of, kept_of}
+  slots_full : length k.slots ≡ 256
+  slots_full = ap (λ (z : Network). length z.slots) g.network ∙ g.parts.shaped.slots
 
-use Rattle.board.specs.Acted.{plain_act}
+-- what is lent when a step begins is a rig with the index of its plan
+rig_on : (codes numbers users : List ℕ) (size : Size) (l : Lent) → Whole l.board
+    → PartsOf (facts_in size.tasks codes numbers users) size.processors (tasks_of l) (kept_of l) size.used → Indexed users
+    → RigOn codes numbers users size l
+rig_on codes numbers users size l w p i = record { whole = w; parts = p; indexed = i }
 
-use Rattle.board.specs.Rigs.{RigOn}
+-- nothing was carried out by a word's run, so the step was carried out on what was lent
+acted : (f : Facts) (n used : ℕ) (x : Step) (hp hm hd hn notes : List ℕ) {z b : List ℕ} {r : Act} {then : Lent} → z ≡ b
+    → (let l = lent hp hm hd hn notes z in Acted f.senders f.receivers (step_verdict f n (tasks_of l) (kept_of l) used x) l r then)
+    → (let l = lent hp hm hd hn notes b in Acted f.senders f.receivers (step_verdict f n (tasks_of l) (kept_of l) used x) l r then)
+acted f n used x hp hm hd hn notes {r = r} {then = then} e d =
+    subst (λ (z : List ℕ).
+    let l = lent hp hm hd hn notes z in
+    Acted f.senders f.receivers (step_verdict f n (tasks_of l) (kept_of l) used x) l r then)
+    e d
 
-use Rattle.run.proofs.all_steps.Going.{going_start, going_length, going_done, going_more}
+pub loop-k-init : goal.loop-k-init
+loop-k-init c = (omega arith, c.requires.whole, going_start _ _ _ _ _ _ _ _ c.requires.blank c.requires.rig)
 
-use Rattle.run.proofs.all_steps.Mail.{round_posted, round_skipped}
+pub step_at-s-requires : goal.step_at-s-requires
+step_at-s-requires c = (omega (arith, c.loop-k-test.true, c.requires.few), omega (arith, c.loop-k-test.true))
 
-use Rattle.run.proofs.all_steps.Acting.{delivered_made, other_made}
+pub offset_bounds-network-place : goal.offset_bounds-network-place
+offset_bounds-network-place c = omega (arith, c.position-p.ensures.1, few c.loop-k.invariant.2.rig, slots_full c.loop-k.invariant.2.rig)
 
-use Rattle.run.proofs.all_steps.run_steps.Statement.{statement}
+pub bounds-network-place : goal.bounds-network-place
+bounds-network-place c = omega (arith, c.position-p.ensures.1, few c.loop-k.invariant.2.rig, slots_full c.loop-k.invariant.2.rig)
 
-use Rattle.run.proofs.all_steps.run_steps.Tie as tie
-
-use Rattle.run.proofs.all_steps.run_steps.Answers.Stages.{Inv-loop2, μ-loop2, Inv-loop3, μ-loop3, Inv-loop, μ-loop, opened, tried, chosen, entered, begun, given, here, size-at, parts, rig_on, few, line_asks, with-board, message_there}
-
-use Rattle.run.proofs.all_steps.run_steps.Answers.Networks.{other-left, word_kept, other_acted, free_one, free, network_is, network_then}
-
-pub loop-k-init : goal.loop-k-init Inv-loop2 μ-loop2 Inv-loop3 μ-loop3 Inv-loop μ-loop
-loop-k-init c =
-    let start = c.before.before in
-    (omega arith, start.requires.whole, going_start _ _ _ _ _ _ _ _ start.requires.blank start.requires.rig)
-
-pub overflow_add-next : goal.overflow_add-next Inv-loop2 μ-loop2 Inv-loop3 μ-loop3 Inv-loop μ-loop
-overflow_add-next c = search rules
-
-pub step_at-s-requires : goal.step_at-s-requires Inv-loop2 μ-loop2 Inv-loop3 μ-loop3 Inv-loop μ-loop
-step_at-s-requires c = (omega (arith, c.loop-k-test.true, (begun c.before).requires.few), omega (arith, c.loop-k-test.true))
-
-pub position-p-requires : goal.position-p-requires Inv-loop2 μ-loop2 Inv-loop3 μ-loop3 Inv-loop μ-loop
-position-p-requires c = search rules
-
-pub overflow_sub-place : goal.overflow_sub-place Inv-loop2 μ-loop2 Inv-loop3 μ-loop3 Inv-loop μ-loop
-overflow_sub-place c = search rules
-
-pub offset_bounds-network-place : goal.offset_bounds-network-place Inv-loop2 μ-loop2 Inv-loop3 μ-loop3 Inv-loop μ-loop
-offset_bounds-network-place c = omega (arith, message_there c)
-
-pub bounds-network-place : goal.bounds-network-place Inv-loop2 μ-loop2 Inv-loop3 μ-loop3 Inv-loop μ-loop
-bounds-network-place c = omega (arith, message_there c)
-
-pub deliver-r-requires : goal.deliver-r-requires Inv-loop2 μ-loop2 Inv-loop3 μ-loop3 Inv-loop μ-loop
+pub deliver-r-requires : goal.deliver-r-requires
 deliver-r-requires c =
-    let then1 = c.before.before.before.before.before.before.before in
-    let after-position = then1.before in
-    let in-loop = entered after-position in
-    let at-loop = in-loop.before in
-    let start = begun at-loop in
-    let a = start.args in
-    let p = after-position.position-p in
+    let a = c.args in
+    let b = c.loop-k in
+    let size : Size = record { tasks = a.size.tasks; processors = a.size.processors; used = b.network.used } in
+    let here = lent b.hintprocessors b.hintmoves b.heldprocessors b.heldnumbers b.notes b.board in
+    let on = rig_on a.codes.now a.numbers.now a.users.now size here b.invariant.1 b.invariant.2.rig.parts c.requires.indexed in
+    let p = c.position-p in
     record {
       numbers = a.numbers.now;
-      size = size-at at-loop;
-      rig = rig_on in-loop;
-      ok = unfold message_at in message_ok_lem at-loop.loop-k.invariant.2.rig p.result (message_there then1).0 p.ensures.1;
+      size = size;
+      rig = on;
+      ok = unfold message_at in message_ok_lem b.invariant.2.rig p.result (omega arith) p.ensures.1;
     }
 
-pub overflow_sub-last : goal.overflow_sub-last Inv-loop2 μ-loop2 Inv-loop3 μ-loop3 Inv-loop μ-loop
-overflow_sub-last c = omega (arith, message_there (opened c))
+pub overflow_sub-last : goal.overflow_sub-last
+overflow_sub-last c = omega (arith, c.position-p.ensures.1, few c.loop-k.invariant.2.rig, slots_full c.loop-k.invariant.2.rig)
 
-pub loop-j-init : goal.loop-j-init Inv-loop2 μ-loop2 Inv-loop3 μ-loop3 Inv-loop μ-loop
+pub loop-j-init : goal.loop-j-init
 loop-j-init c =
-    let then1 = opened c in
-    let after-position = then1.before in
-    let at-loop = (entered after-position).before in
-    (omega (arith, message_there then1), ap (holding at-loop.loop-k.network.used) (paste-zero at-loop.loop-k.network.slots (after-position.position-p.result - 1) (drop (after-position.position-p.result - 1 + 1) at-loop.loop-k.network.slots)))
+    let k = c.loop-k.network in
+    let p = c.position-p.result in
+    (omega (arith, c.position-p.ensures.1, few c.loop-k.invariant.2.rig, slots_full c.loop-k.invariant.2.rig), ap (holding k.used) (paste-zero k.slots (p - 1) (drop (p - 1 + 1) k.slots)))
 
-pub overflow_add-place : goal.overflow_add-place Inv-loop2 μ-loop2 Inv-loop3 μ-loop3 Inv-loop μ-loop
-overflow_add-place c = omega (arith, message_there (opened c.before), c.loop-j.invariant.0)
+pub overflow_add-place : goal.overflow_add-place
+overflow_add-place c = omega (arith, c.position-p.ensures.1, few c.loop-k.invariant.2.rig, slots_full c.loop-k.invariant.2.rig, c.loop-j.invariant.0)
 
-pub overflow_add-moved : goal.overflow_add-moved Inv-loop2 μ-loop2 Inv-loop3 μ-loop3 Inv-loop μ-loop
-overflow_add-moved c = omega (arith, c.loop-j-test.true, message_there (opened c.before.before))
+pub overflow_add-moved : goal.overflow_add-moved
+overflow_add-moved c = omega (arith, c.loop-j-test.true, c.position-p.ensures.1, few c.loop-k.invariant.2.rig, slots_full c.loop-k.invariant.2.rig)
 
-pub overflow_add-moved-in-loop-j : goal.overflow_add-moved-in-loop-j Inv-loop2 μ-loop2 Inv-loop3 μ-loop3 Inv-loop μ-loop
-overflow_add-moved-in-loop-j c = omega (arith, c.loop-j-test.true, message_there (opened c.before.before))
+pub overflow_add-moved-in-loop-j : goal.overflow_add-moved-in-loop-j
+overflow_add-moved-in-loop-j c = omega (arith, c.loop-j-test.true, c.position-p.ensures.1, few c.loop-k.invariant.2.rig, slots_full c.loop-k.invariant.2.rig)
 
-pub offset_bounds-network-place-in-loop-j : goal.offset_bounds-network-place-in-loop-j Inv-loop2 μ-loop2 Inv-loop3 μ-loop3 Inv-loop μ-loop
-offset_bounds-network-place-in-loop-j c = omega (arith, c.loop-j-test.true, message_there (opened c.before.before))
+pub offset_bounds-network-place-in-loop-j : goal.offset_bounds-network-place-in-loop-j
+offset_bounds-network-place-in-loop-j c = omega (arith, c.loop-j-test.true, c.position-p.ensures.1, few c.loop-k.invariant.2.rig, slots_full c.loop-k.invariant.2.rig)
 
-pub bounds-network-place-in-loop-j : goal.bounds-network-place-in-loop-j Inv-loop2 μ-loop2 Inv-loop3 μ-loop3 Inv-loop μ-loop
-bounds-network-place-in-loop-j c = omega (arith, c.loop-j-test.true, message_there (opened c.before.before))
+pub bounds-network-place-in-loop-j : goal.bounds-network-place-in-loop-j
+bounds-network-place-in-loop-j c = omega (arith, c.loop-j-test.true, c.position-p.ensures.1, few c.loop-k.invariant.2.rig, slots_full c.loop-k.invariant.2.rig)
 
-pub overflow_add-moved-in-loop-j-2 : goal.overflow_add-moved-in-loop-j-2 Inv-loop2 μ-loop2 Inv-loop3 μ-loop3 Inv-loop μ-loop
-overflow_add-moved-in-loop-j-2 c =
-    let in-loop2 = c.before in
-    let then1 = opened in-loop2.before.before in
-    omega (arith, in-loop2.loop-j-test.true, message_there then1)
+pub overflow_add-moved-in-loop-j-2 : goal.overflow_add-moved-in-loop-j-2
+overflow_add-moved-in-loop-j-2 c = omega (arith, c.loop-j-test.true, c.position-p.ensures.1, few c.loop-k.invariant.2.rig, slots_full c.loop-k.invariant.2.rig)
 
-pub offset_bounds-network-place-in-loop-j-2 : goal.offset_bounds-network-place-in-loop-j-2 Inv-loop2 μ-loop2 Inv-loop3 μ-loop3 Inv-loop μ-loop
-offset_bounds-network-place-in-loop-j-2 c =
-    let in-loop2 = c.before in
-    let then1 = opened in-loop2.before.before in
-    omega (arith, in-loop2.loop-j-test.true, message_there then1)
+pub offset_bounds-network-place-in-loop-j-2 : goal.offset_bounds-network-place-in-loop-j-2
+offset_bounds-network-place-in-loop-j-2 c = omega (arith, c.loop-j-test.true, c.position-p.ensures.1, few c.loop-k.invariant.2.rig, slots_full c.loop-k.invariant.2.rig)
 
-pub bounds-network-place-in-loop-j-2 : goal.bounds-network-place-in-loop-j-2 Inv-loop2 μ-loop2 Inv-loop3 μ-loop3 Inv-loop μ-loop
-bounds-network-place-in-loop-j-2 c =
-    let in-loop2 = c.before in
-    let then1 = opened in-loop2.before.before in
-    omega (arith, in-loop2.loop-j-test.true, message_there then1)
+pub bounds-network-place-in-loop-j-2 : goal.bounds-network-place-in-loop-j-2
+bounds-network-place-in-loop-j-2 c = omega (arith, c.loop-j-test.true, c.position-p.ensures.1, few c.loop-k.invariant.2.rig, slots_full c.loop-k.invariant.2.rig)
 
-pub overflow_add-j : goal.overflow_add-j Inv-loop2 μ-loop2 Inv-loop3 μ-loop3 Inv-loop μ-loop
-overflow_add-j c =
-    let in-loop2 = c.before in
-    let then1 = opened in-loop2.before.before in
-    omega (arith, in-loop2.loop-j-test.true, message_there then1)
+pub overflow_add-j : goal.overflow_add-j
+overflow_add-j c = omega (arith, c.loop-j-test.true, c.position-p.ensures.1, few c.loop-k.invariant.2.rig, slots_full c.loop-k.invariant.2.rig)
 
-pub loop-j-smaller : goal.loop-j-smaller Inv-loop2 μ-loop2 Inv-loop3 μ-loop3 Inv-loop μ-loop
-loop-j-smaller c = search rules
-
-pub loop-j-preserved : goal.loop-j-preserved Inv-loop2 μ-loop2 Inv-loop3 μ-loop3 Inv-loop μ-loop
+pub loop-j-preserved : goal.loop-j-preserved
 loop-j-preserved c =
-    let in-loop2 = c.before in
-    let at-loop2 = in-loop2.before in
-    let then1 = opened at-loop2.before in
-    let after-position = then1.before in
-    let at-loop = (entered after-position).before in
-    let k = at-loop.loop-k.network in
-    let at = after-position.position-p.result - 1 in
-    let j = at-loop2.loop-j.j in
-    let more = shift_more k.slots at no_slot j (omega (arith, in-loop2.loop-j-test.true, message_there then1)) in
-    (omega (arith, in-loop2.loop-j-test.true), ap (λ (z : Network). holding z.used (set z.slots (at + j) (get_or z.slots (at + j + 1) no_slot))) at-loop2.loop-j.invariant.1 ∙ ap (holding k.used) more)
+    let k = c.loop-k.network in
+    let at = c.position-p.result - 1 in
+    let j = c.loop-j.j in
+    let more = shift_more k.slots at no_slot j (omega (arith, c.loop-j-test.true, c.position-p.ensures.1, few c.loop-k.invariant.2.rig, slots_full c.loop-k.invariant.2.rig)) in (
+      omega (arith, c.loop-j-test.true),
+      ap (λ (z : Network). holding z.used (set z.slots (at + j) (get_or z.slots (at + j + 1) no_slot))) c.loop-j.invariant.1 ∙ ap (holding k.used) more,
+    )
 
-pub message-l-requires : goal.message-l-requires Inv-loop2 μ-loop2 Inv-loop3 μ-loop3 Inv-loop μ-loop
-message-l-requires c = search rules
+pub offset_bounds-network-last : goal.offset_bounds-network-last
+offset_bounds-network-last c = omega (arith, c.position-p.ensures.1, few c.loop-k.invariant.2.rig, slots_full c.loop-k.invariant.2.rig)
 
-pub offset_bounds-network-last : goal.offset_bounds-network-last Inv-loop2 μ-loop2 Inv-loop3 μ-loop3 Inv-loop μ-loop
-offset_bounds-network-last c = omega (arith, message_there (opened c.before.before.before))
+pub bounds-network-last : goal.bounds-network-last
+bounds-network-last c = omega (arith, c.position-p.ensures.1, few c.loop-k.invariant.2.rig, slots_full c.loop-k.invariant.2.rig)
 
-pub bounds-network-last : goal.bounds-network-last Inv-loop2 μ-loop2 Inv-loop3 μ-loop3 Inv-loop μ-loop
-bounds-network-last c = omega (arith, message_there (opened c.before.before.before))
+pub overflow_add-network : goal.overflow_add-network
+overflow_add-network c = omega (arith, c.wide8.ensures, c.rounds.ensures, few_rounds 1 c.deliver-r.result.posting (omega arith), few c.loop-k.invariant.2.rig)
 
-pub rounds-requires : goal.rounds-requires Inv-loop2 μ-loop2 Inv-loop3 μ-loop3 Inv-loop μ-loop
-rounds-requires c = search rules
+pub emit_next-requires : goal.emit_next-requires
+emit_next-requires c =
+    (omega (arith, c.loop-k-test.true, c.requires.few), c.loop-k.invariant.2.two, going_room _ _ _ _ _ _ c.loop-k.invariant.2)
 
-pub wide8-requires : goal.wide8-requires Inv-loop2 μ-loop2 Inv-loop3 μ-loop3 Inv-loop μ-loop
-wide8-requires c = search rules
-
-pub overflow_add-network : goal.overflow_add-network Inv-loop2 μ-loop2 Inv-loop3 μ-loop3 Inv-loop μ-loop
-overflow_add-network c =
-    let after-rounds = c.before in
-    let after_deliver = after-rounds.before.before.before.before in
-    let in-loop = entered (opened after_deliver).before in
-    omega (arith, c.wide8.ensures, after-rounds.rounds.ensures, few_rounds 1 after_deliver.deliver-r.result.posting (omega arith), few in-loop)
-
-pub emit_next-requires : goal.emit_next-requires Inv-loop2 μ-loop2 Inv-loop3 μ-loop3 Inv-loop μ-loop
-emit_next-requires c = line_asks (entered (opened c.before.before.before.before.before.before.before).before)
-
-pub word_run-requires : goal.word_run-requires Inv-loop2 μ-loop2 Inv-loop3 μ-loop3 Inv-loop μ-loop
+pub word_run-requires : goal.word_run-requires
 word_run-requires c =
-    let in-loop = entered c.before.before in
-    let at-loop = in-loop.before in
-    let start = begun at-loop in
-    let a = start.args in
-    let b = at-loop.loop-k in (
+    let a = c.args in
+    let b = c.loop-k in
+    let size : Size = record { tasks = a.size.tasks; processors = a.size.processors; used = b.network.used } in
+    let here = lent b.hintprocessors b.hintmoves b.heldprocessors b.heldnumbers b.notes b.board in
+    let on = rig_on a.codes.now a.numbers.now a.users.now size here b.invariant.1 b.invariant.2.rig.parts c.requires.indexed in (
       b.invariant.1,
       record {
         numbers = a.numbers.now;
@@ -209,184 +165,228 @@ word_run-requires c =
         heldprocessors = b.heldprocessors;
         heldnumbers = b.heldnumbers;
         notes = b.notes;
-        rig = rig_on in-loop;
+        rig = on;
       },
     )
 
-pub emit_next-requires-then-word_run : goal.emit_next-requires-then-word_run Inv-loop2 μ-loop2 Inv-loop3 μ-loop3 Inv-loop μ-loop
-emit_next-requires-then-word_run c = line_asks (entered c.before.before.before.before.before.before)
+pub emit_next-requires-then-word_run : goal.emit_next-requires-then-word_run
+emit_next-requires-then-word_run c =
+    (omega (arith, c.loop-k-test.true, c.requires.few), c.loop-k.invariant.2.two, going_room _ _ _ _ _ _ c.loop-k.invariant.2)
 
-pub other-r-requires : goal.other-r-requires Inv-loop2 μ-loop2 Inv-loop3 μ-loop3 Inv-loop μ-loop
+pub other-r-requires : goal.other-r-requires
 other-r-requires c =
-    let else2 = c.before.before.before.before.before.before in
-    let in-loop = entered (chosen else2) in
-    let at-loop = in-loop.before in
-    let start = begun at-loop in
-    let a = start.args in
-    subst (λ (z : List ℕ). RigOn a.codes.now a.numbers.now a.users.now (size-at at-loop) (with-board at-loop z))
-    (sym (word_kept else2)) (rig_on in-loop)
+    let a = c.args in
+    let b = c.loop-k in
+    let size : Size = record { tasks = a.size.tasks; processors = a.size.processors; used = b.network.used } in
+    let here = lent b.hintprocessors b.hintmoves b.heldprocessors b.heldnumbers b.notes b.board in
+    let on = rig_on a.codes.now a.numbers.now a.users.now size here b.invariant.1 b.invariant.2.rig.parts c.requires.indexed in
+    subst
+    (λ (z : List ℕ). RigOn a.codes.now a.numbers.now a.users.now size (lent b.hintprocessors b.hintmoves b.heldprocessors b.heldnumbers b.notes z))
+    (sym (c.word_run.ensures.0 c.if-word_run.false)) on
 
-pub posts-requires : goal.posts-requires Inv-loop2 μ-loop2 Inv-loop3 μ-loop3 Inv-loop μ-loop
-posts-requires c = search rules
+pub offset_bounds-network-used : goal.offset_bounds-network-used
+offset_bounds-network-used c =
+    let a = c.args in
+    let b = c.loop-k in
+    let k = b.network in
+    let n = a.size.processors in
+    let f = facts_in a.size.tasks a.codes.now a.numbers.now a.users.now in
+    let here = lent b.hintprocessors b.hintmoves b.heldprocessors b.heldnumbers b.notes b.board in
+    let x = c.step_at-s.result in
+    let d = acted f n k.used x b.hintprocessors b.hintmoves b.heldprocessors b.heldnumbers b.notes (c.word_run.ensures.0 c.if-word_run.false) c.other-r.ensures in
+    let room = step_room b.invariant.2.rig.parts x d.act in
+    let less : c.loop-k.network.used < 256 =
+    one_room n k.used c.other-r.result.posting (sym c.posts.ensures ∙ c.if-posts.true) room in
+    omega arith
 
-pub message-l-requires-then-posts : goal.message-l-requires-then-posts Inv-loop2 μ-loop2 Inv-loop3 μ-loop3 Inv-loop μ-loop
-message-l-requires-then-posts c = search rules
+pub bounds-network-used : goal.bounds-network-used
+bounds-network-used c =
+    let a = c.args in
+    let b = c.loop-k in
+    let k = b.network in
+    let n = a.size.processors in
+    let f = facts_in a.size.tasks a.codes.now a.numbers.now a.users.now in
+    let here = lent b.hintprocessors b.hintmoves b.heldprocessors b.heldnumbers b.notes b.board in
+    let x = c.step_at-s.result in
+    let d = acted f n k.used x b.hintprocessors b.hintmoves b.heldprocessors b.heldnumbers b.notes (c.word_run.ensures.0 c.if-word_run.false) c.other-r.ensures in
+    let room = step_room b.invariant.2.rig.parts x d.act in
+    one_room n k.used c.other-r.result.posting (sym c.posts.ensures ∙ c.if-posts.true) room
 
-pub offset_bounds-network-used : goal.offset_bounds-network-used Inv-loop2 μ-loop2 Inv-loop3 μ-loop3 Inv-loop μ-loop
-offset_bounds-network-used c = omega (arith, free_one c.before)
+pub overflow_add-network-then-posts : goal.overflow_add-network-then-posts
+overflow_add-network-then-posts c =
+    let a = c.args in
+    let b = c.loop-k in
+    let k = b.network in
+    let n = a.size.processors in
+    let f = facts_in a.size.tasks a.codes.now a.numbers.now a.users.now in
+    let here = lent b.hintprocessors b.hintmoves b.heldprocessors b.heldnumbers b.notes b.board in
+    let x = c.step_at-s.result in
+    let d = acted f n k.used x b.hintprocessors b.hintmoves b.heldprocessors b.heldnumbers b.notes (c.word_run.ensures.0 c.if-word_run.false) c.other-r.ensures in
+    let room = step_room b.invariant.2.rig.parts x d.act in
+    let less : c.loop-k.network.used < 256 =
+    one_room n k.used c.other-r.result.posting (sym c.posts.ensures ∙ c.if-posts.true) room in
+    omega arith
 
-pub bounds-network-used : goal.bounds-network-used Inv-loop2 μ-loop2 Inv-loop3 μ-loop3 Inv-loop μ-loop
-bounds-network-used c = free_one c.before
+pub loop-e-init : goal.loop-e-init
+loop-e-init c = (omega arith, sym (after_none c.other-r.result.posting c.loop-k.network))
 
-pub overflow_add-network-then-posts : goal.overflow_add-network-then-posts Inv-loop2 μ-loop2 Inv-loop3 μ-loop3 Inv-loop μ-loop
-overflow_add-network-then-posts c = omega (arith, free_one c.before)
+pub offset_bounds-network-free : goal.offset_bounds-network-free
+offset_bounds-network-free c =
+    let a = c.args in
+    let b = c.loop-k in
+    let k = b.network in
+    let n = a.size.processors in
+    let f = facts_in a.size.tasks a.codes.now a.numbers.now a.users.now in
+    let here = lent b.hintprocessors b.hintmoves b.heldprocessors b.heldnumbers b.notes b.board in
+    let x = c.step_at-s.result in
+    let d = acted f n k.used x b.hintprocessors b.hintmoves b.heldprocessors b.heldnumbers b.notes (c.word_run.ensures.0 c.if-word_run.false) c.other-r.ensures in
+    let room = step_room b.invariant.2.rig.parts x d.act in
+    let p = c.other-r.result.posting in
+    let e = c.loop-e.e in
+    let less : c.loop-e.network.used < 256 =
+    subst (λ (k : Network). k.used < 256) (sym c.loop-e.invariant.1)
+    (after_room p k n e (subst (λ n. e < n) c.rounds-rounds.ensures c.loop-e-test.true)
+    (sym c.skips.ensures ∙ not-true c.skips.result c.if-not-skips.true-raw)
+    room) in
+    omega arith
 
-pub rounds-rounds-requires : goal.rounds-rounds-requires Inv-loop2 μ-loop2 Inv-loop3 μ-loop3 Inv-loop μ-loop
-rounds-rounds-requires c = search rules
+pub bounds-network-free : goal.bounds-network-free
+bounds-network-free c =
+    let a = c.args in
+    let b = c.loop-k in
+    let k = b.network in
+    let n = a.size.processors in
+    let f = facts_in a.size.tasks a.codes.now a.numbers.now a.users.now in
+    let here = lent b.hintprocessors b.hintmoves b.heldprocessors b.heldnumbers b.notes b.board in
+    let x = c.step_at-s.result in
+    let d = acted f n k.used x b.hintprocessors b.hintmoves b.heldprocessors b.heldnumbers b.notes (c.word_run.ensures.0 c.if-word_run.false) c.other-r.ensures in
+    let room = step_room b.invariant.2.rig.parts x d.act in
+    let p = c.other-r.result.posting in
+    let e = c.loop-e.e in
+    subst (λ (k : Network). k.used < 256) (sym c.loop-e.invariant.1)
+    (after_room p k n e (subst (λ n. e < n) c.rounds-rounds.ensures c.loop-e-test.true)
+    (sym c.skips.ensures ∙ not-true c.skips.result c.if-not-skips.true-raw)
+    room)
 
-pub loop-e-init : goal.loop-e-init Inv-loop2 μ-loop2 Inv-loop3 μ-loop3 Inv-loop μ-loop
-loop-e-init c =
-    let after-other = c.before.before.before in
-    let at-loop = (entered (chosen (tried after-other))).before in
-    (omega arith, sym (after_none after-other.other-r.result.posting at-loop.loop-k.network))
+pub overflow_add-network-then-not-skips : goal.overflow_add-network-then-not-skips
+overflow_add-network-then-not-skips c =
+    let a = c.args in
+    let b = c.loop-k in
+    let k = b.network in
+    let n = a.size.processors in
+    let f = facts_in a.size.tasks a.codes.now a.numbers.now a.users.now in
+    let here = lent b.hintprocessors b.hintmoves b.heldprocessors b.heldnumbers b.notes b.board in
+    let x = c.step_at-s.result in
+    let d = acted f n k.used x b.hintprocessors b.hintmoves b.heldprocessors b.heldnumbers b.notes (c.word_run.ensures.0 c.if-word_run.false) c.other-r.ensures in
+    let room = step_room b.invariant.2.rig.parts x d.act in
+    let p = c.other-r.result.posting in
+    let e = c.loop-e.e in
+    let less : c.loop-e.network.used < 256 =
+    subst (λ (k : Network). k.used < 256) (sym c.loop-e.invariant.1)
+    (after_room p k n e (subst (λ n. e < n) c.rounds-rounds.ensures c.loop-e-test.true)
+    (sym c.skips.ensures ∙ not-true c.skips.result c.if-not-skips.true-raw)
+    room) in
+    omega arith
 
-pub skips-requires : goal.skips-requires Inv-loop2 μ-loop2 Inv-loop3 μ-loop3 Inv-loop μ-loop
-skips-requires c = search rules
+pub overflow_add-e : goal.overflow_add-e
+overflow_add-e c = omega (arith, c.loop-e-test.true, c.rounds-rounds.ensures, few_rounds c.args.size.processors c.other-r.result.posting (processors_few c.loop-k.invariant.2.rig.parts))
 
-pub message-l-requires-then-not-skips : goal.message-l-requires-then-not-skips Inv-loop2 μ-loop2 Inv-loop3 μ-loop3 Inv-loop μ-loop
-message-l-requires-then-not-skips c = search rules
-
-pub offset_bounds-network-free : goal.offset_bounds-network-free Inv-loop2 μ-loop2 Inv-loop3 μ-loop3 Inv-loop μ-loop
-offset_bounds-network-free c = omega (arith, free c.before)
-
-pub bounds-network-free : goal.bounds-network-free Inv-loop2 μ-loop2 Inv-loop3 μ-loop3 Inv-loop μ-loop
-bounds-network-free c = free c.before
-
-pub overflow_add-network-then-not-skips : goal.overflow_add-network-then-not-skips Inv-loop2 μ-loop2 Inv-loop3 μ-loop3 Inv-loop μ-loop
-overflow_add-network-then-not-skips c = omega (arith, free c.before)
-
-pub overflow_add-e : goal.overflow_add-e Inv-loop2 μ-loop2 Inv-loop3 μ-loop3 Inv-loop μ-loop
-overflow_add-e c =
-    let in-loop3 = c.before.before in
-    let after-rounds2 = in-loop3.before.before in
-    let after-other = after-rounds2.before.before.before in
-    let in-loop = entered (chosen (tried after-other)) in
-    let start = begun in-loop.before in
-    omega (arith, in-loop3.loop-e-test.true, after-rounds2.rounds-rounds.ensures, few_rounds start.args.size.processors after-other.other-r.result.posting (processors_few (parts in-loop)))
-
-pub loop-e-smaller : goal.loop-e-smaller Inv-loop2 μ-loop2 Inv-loop3 μ-loop3 Inv-loop μ-loop
-loop-e-smaller c = search rules
-
-pub loop-e-preserved : goal.loop-e-preserved Inv-loop2 μ-loop2 Inv-loop3 μ-loop3 Inv-loop μ-loop
+pub loop-e-preserved : goal.loop-e-preserved
 loop-e-preserved c =
-    let after_skips = c.before in
-    let in-loop3 = after_skips.before in
-    let at-loop3 = in-loop3.before in
-    let after-other = at-loop3.before.before.before.before in
-    let at-loop = (entered (chosen (tried after-other))).before in
-    let x = after-other.other-r.result.posting in
-    let e = at-loop3.loop-e.e in
-    let start = at-loop.loop-k.network in
-    let so_far = at-loop3.loop-e.invariant.1 in
+    let x = c.other-r.result.posting in
+    let e = c.loop-e.e in
+    let start = c.loop-k.network in
+    let so_far = c.loop-e.invariant.1 in
     let next : c.if-not-skips.network ≡ after x start (e + 1) =
-    ⊎_elim
-    (λ w. w.2 ∙ round_posted x start e so_far (sym after_skips.skips.ensures ∙ not-true after_skips.skips.result w.0.taken) w.1.ensures)
-    (λ w. w.1 ∙ round_skipped x start e so_far (sym after_skips.skips.ensures ∙ not-false after_skips.skips.result w.0.left))
-    c.if-not-skips.branch in
-    (omega (arith, in-loop3.loop-e-test.true), next)
+    elim c.if-not-skips.branch [
+      | then-not-skips w ↦ w.network-is ∙ round_posted x start e so_far (sym c.skips.ensures ∙ not-true c.skips.result w.if-not-skips.true-raw) w.message-l-then-not-skips.ensures
+      | else-not-skips w ↦ w.network-is ∙ round_skipped x start e so_far (sym c.skips.ensures ∙ not-false c.skips.result w.if-not-skips.false-raw)
+    ] in
+    (omega (arith, c.loop-e-test.true), next)
 
-pub emit_next-requires-else-word_run : goal.emit_next-requires-else-word_run Inv-loop2 μ-loop2 Inv-loop3 μ-loop3 Inv-loop μ-loop
-emit_next-requires-else-word_run c = line_asks (entered (chosen (tried c.before.before.before.before)))
+pub emit_next-requires-else-word_run : goal.emit_next-requires-else-word_run
+emit_next-requires-else-word_run c =
+    (omega (arith, c.loop-k-test.true, c.requires.few), c.loop-k.invariant.2.two, going_room _ _ _ _ _ _ c.loop-k.invariant.2)
 
-pub loop-k-smaller-after-loop-j : goal.loop-k-smaller-after-loop-j Inv-loop2 μ-loop2 Inv-loop3 μ-loop3 Inv-loop μ-loop
-loop-k-smaller-after-loop-j c = search rules
-
-pub loop-k-preserved-after-loop-j : goal.loop-k-preserved-after-loop-j Inv-loop2 μ-loop2 Inv-loop3 μ-loop3 Inv-loop μ-loop
+pub loop-k-preserved-after-loop-j : goal.loop-k-preserved-after-loop-j
 unfolding message_at
 loop-k-preserved-after-loop-j c =
-    let after-emit-next = c.before.before in
-    let after-wide8 = after-emit-next.before.before.before in
-    let after_deliver = after-wide8.before.before.before.before.before in
-    let then1 = opened after_deliver in
-    let after-position = then1.before in
-    let after-step-at = after-position.before in
-    let in-loop = after-step-at.before in
-    let at-loop = in-loop.before in
-    let start = begun at-loop in
-    let b = at-loop.loop-k in
-    let here = here at-loop in
-    let f = given start in
-    let n = start.args.size.processors in
-    let r = after_deliver.deliver-r.result in
-    let x = after-step-at.step_at-s.result in
-    let p = after-position.position-p.result in
-    let d = after_deliver.deliver-r.ensures f.tasks f.numbers in
-        let then = lent after_deliver.deliver-r.new.hintprocessors after_deliver.deliver-r.new.hintmoves after_deliver.deliver-r.new.heldprocessors after_deliver.deliver-r.new.heldnumbers after_deliver.deliver-r.new.notes after_deliver.deliver-r.new.board in
-    let turn = delivered_made f n b.network x here then r p after-position.position-p.ensures.0 then1.if-p-ne0.true d (network_is after-wide8)
-    ∙ ap (turn_of f n (tasks_of here) b.network (kept_of here)) after-step-at.step_at-s.ensures in
-    (omega (arith, in-loop.loop-k-test.true), d.whole, going_more _ _ _ _ _ _ b.invariant.2 turn after-emit-next.emit_next.ensures)
+    let a = c.args in
+    let b = c.loop-k in
+    let k = b.network in
+    let n = a.size.processors in
+    let f = facts_in a.size.tasks a.codes.now a.numbers.now a.users.now in
+    let here = lent b.hintprocessors b.hintmoves b.heldprocessors b.heldnumbers b.notes b.board in
+    let r = c.deliver-r.result in
+    let x = c.step_at-s.result in
+    let p = c.position-p.result in
+    let d = c.deliver-r.ensures f.tasks f.numbers in
+    let o = c.deliver-r.new in
+    let then = lent o.hintprocessors o.hintmoves o.heldprocessors o.heldnumbers o.notes o.board in
+    let some : 1 ≤ p = omega arith in
+    let fewer = few c.loop-k.invariant.2.rig in
+    let there = c.position-p.ensures.1 in
+    let mail = delivered_mail n k (slots_full c.loop-k.invariant.2.rig) fewer p some there r.posting
+    (opened_posts f (tasks_of here) (kept_of here) (get_or k.slots (p - 1) no_slot).message d.act)
+    c.loop-j.j (omega (arith, c.loop-j.invariant.0, c.loop-j-test.false, some, there)) c.loop-j.invariant.1
+    c.message-l.ensures (c.wide8.ensures ∙ c.rounds.ensures) in
+    let turn = delivered_made f n k x here then r p c.position-p.ensures.0 c.if-p-ne0.true d mail
+    ∙ ap (turn_of f n (tasks_of here) k (kept_of here)) c.step_at-s.ensures in
+    (omega (arith, c.loop-k-test.true), d.whole, going_more _ _ _ _ _ _ b.invariant.2 turn c.emit_next.ensures)
 
-pub loop-k-smaller-then-word_run : goal.loop-k-smaller-then-word_run Inv-loop2 μ-loop2 Inv-loop3 μ-loop3 Inv-loop μ-loop
-loop-k-smaller-then-word_run c = search rules
-
-pub loop-k-preserved-then-word_run : goal.loop-k-preserved-then-word_run Inv-loop2 μ-loop2 Inv-loop3 μ-loop3 Inv-loop μ-loop
+pub loop-k-preserved-then-word_run : goal.loop-k-preserved-then-word_run
 loop-k-preserved-then-word_run c =
-    let after-emit-next2 = c.before.before in
-    let then2 = after-emit-next2.before.before.before in
-    let after-word-run = then2.before in
-    let else1 = after-word-run.before.before in
-    let after-position = else1.before in
-    let after-step-at = after-position.before in
-    let in-loop = after-step-at.before in
-    let at-loop = in-loop.before in
-    let start = begun at-loop in
-    let b = at-loop.loop-k in
-    let here = here at-loop in
-    let f = given start in
-    let n = start.args.size.processors in
-    let x = after-step-at.step_at-s.result in
-    let d = after-word-run.word_run.ensures.1 then2.if-word_run.true f.numbers start.args.users.now b.hintprocessors b.hintmoves b.heldprocessors b.heldnumbers b.notes in
-    let then = with-board at-loop after-word-run.word_run.new.board in
-    let none : position_of b.network.used x ≡ 0 = sym after-position.position-p.ensures.0 ∙ else1.if-p-ne0.false in
-    let turn = other_made f n b.network x here then plain_act none d (sym (posted_none n b.network Nothing tt refl))
-    ∙ ap (turn_of f n (tasks_of here) b.network (kept_of here)) after-step-at.step_at-s.ensures in
-    (omega (arith, in-loop.loop-k-test.true), d.whole, going_more _ _ _ _ _ _ b.invariant.2 turn after-emit-next2.emit_next-then-word_run.ensures)
+    let a = c.args in
+    let b = c.loop-k in
+    let k = b.network in
+    let n = a.size.processors in
+    let f = facts_in a.size.tasks a.codes.now a.numbers.now a.users.now in
+    let here = lent b.hintprocessors b.hintmoves b.heldprocessors b.heldnumbers b.notes b.board in
+    let x = c.step_at-s.result in
+    let d = c.word_run.ensures.1 c.if-word_run.true f.numbers a.users.now b.hintprocessors b.hintmoves b.heldprocessors b.heldnumbers b.notes in
+    let then = lent b.hintprocessors b.hintmoves b.heldprocessors b.heldnumbers b.notes c.word_run.new.board in
+    let none : position_of k.used x ≡ 0 = sym c.position-p.ensures.0 ∙ c.if-p-ne0.false in
+    let turn = other_made f n k x here then plain_act none d (sym (posted_none n k Nothing tt refl))
+    ∙ ap (turn_of f n (tasks_of here) k (kept_of here)) c.step_at-s.ensures in
+    (omega (arith, c.loop-k-test.true), d.whole, going_more _ _ _ _ _ _ b.invariant.2 turn c.emit_next-then-word_run.ensures)
 
-pub loop-k-smaller : goal.loop-k-smaller Inv-loop2 μ-loop2 Inv-loop3 μ-loop3 Inv-loop μ-loop
-loop-k-smaller c = search rules
-
-pub loop-k-preserved : goal.loop-k-preserved Inv-loop2 μ-loop2 Inv-loop3 μ-loop3 Inv-loop μ-loop
+pub loop-k-preserved : goal.loop-k-preserved
 loop-k-preserved c =
-    let after-emit-next3 = c.before.before in
-    let joined3 = after-emit-next3.before.before.before in
-    let after-other = joined3.before.before in
-    let else1 = (tried after-other).before.before.before in
-    let after-position = else1.before in
-    let after-step-at = after-position.before in
-    let in-loop = after-step-at.before in
-    let at-loop = in-loop.before in
-    let start = begun at-loop in
-    let b = at-loop.loop-k in
-    let here = here at-loop in
-    let f = given start in
-    let n = start.args.size.processors in
-    let r = after-other.other-r.result in
-    let x = after-step-at.step_at-s.result in
-    let d = other_acted after-other in
-    let then = other-left after-other in
-    let none : position_of b.network.used x ≡ 0 = sym after-position.position-p.ensures.0 ∙ else1.if-p-ne0.left in
-    let turn = other_made f n b.network x here then r none d (network_then joined3)
-    ∙ ap (turn_of f n (tasks_of here) b.network (kept_of here)) after-step-at.step_at-s.ensures in
-    (omega (arith, in-loop.loop-k-test.true), d.whole, going_more _ _ _ _ _ _ b.invariant.2 turn after-emit-next3.emit_next-else-word_run.ensures)
+    let a = c.args in
+    let b = c.loop-k in
+    let k = b.network in
+    let n = a.size.processors in
+    let f = facts_in a.size.tasks a.codes.now a.numbers.now a.users.now in
+    let here = lent b.hintprocessors b.hintmoves b.heldprocessors b.heldnumbers b.notes b.board in
+    let x = c.step_at-s.result in
+    let d = acted f n k.used x b.hintprocessors b.hintmoves b.heldprocessors b.heldnumbers b.notes (c.word_run.ensures.0 c.if-word_run.false) c.other-r.ensures in
+    let r = c.other-r.result in
+    let o = c.other-r.new in
+    let then = lent o.hintprocessors o.hintmoves o.heldprocessors o.heldnumbers o.notes o.board in
+    let p = r.posting in
+    let mail : c.if-posts.network ≡ enqueued_all k (messages_of n p) =
+    elim c.if-posts.branch [
+      | then-posts w ↦
+          let some : is_message p ≡ true = sym c.posts.ensures ∙ w.if-posts.true in
+          w.network-is
+          ∙ ap (λ (l : Slot). holding (k.used + 1) (set k.slots k.used l)) (ap slot w.message-l-then-posts.ensures)
+          ∙ joins k (message_of p 0)
+          ∙ sym (posted_one n k p some)
+      | else-posts+else-loop-e-test w ↦
+          let all : w.loop-e.e ≡ rounds_of n p = omega (arith, w.loop-e.invariant.0, w.loop-e-test.false, w.rounds-rounds.ensures) in
+          w.network-is ∙ w.loop-e.invariant.1 ∙ ap (after p k) all ∙ ap (enqueued_all k) (rounds_all n p)
+    ] in
+    let none : position_of k.used x ≡ 0 = sym c.position-p.ensures.0 ∙ c.if-p-ne0.false in
+    let turn = other_made f n k x here then r none d mail
+    ∙ ap (turn_of f n (tasks_of here) k (kept_of here)) c.step_at-s.ensures in
+    (omega (arith, c.loop-k-test.true), d.whole, going_more _ _ _ _ _ _ b.invariant.2 turn c.emit_next-else-word_run.ensures)
 
-pub shape_of-out : goal.shape_of-out Inv-loop2 μ-loop2 Inv-loop3 μ-loop3 Inv-loop μ-loop
+pub shape_of-out : goal.shape_of-out
 shape_of-out c = going_length _ _ _ _ _ _ c.loop-k.invariant.2
 
-pub returns : goal.returns Inv-loop2 μ-loop2 Inv-loop3 μ-loop3 Inv-loop μ-loop
+pub returns : goal.returns
 unfolding file_steps
 returns c =
-    let at-loop = c.before in
-    let start = begun at-loop in
-    let g = at-loop.loop-k.invariant.2 in
-    let all : at-loop.loop-k.k ≡ length start.args.steps.now / 4 = omega (arith, c.loop-k-test.false, at-loop.loop-k.invariant.0) in
-    (rw (← all) (going_done _ _ _ _ _ _ g), at-loop.loop-k.invariant.1)
+    let g = c.loop-k.invariant.2 in
+    let all : c.loop-k.k ≡ length c.args.steps.now / 4 = omega (arith, c.loop-k-test.false, c.loop-k.invariant.0) in
+    (rw (← all) (going_done _ _ _ _ _ _ g), c.loop-k.invariant.1)

@@ -11,25 +11,15 @@ pub loop-t-init : goal.loop-t-init
 unfolding mark_lines fold
 loop-t-init c = (omega arith, next_none _ _)
 
-pub overflow_add-t : goal.overflow_add-t
-overflow_add-t c = omega arith
-
 pub emit_mark-requires : goal.emit_mark-requires
 emit_mark-requires c =
-    let l = c.before.before.before in
-    let start = l.before.before in
-    let lines = l.loop-t.invariant.1 in
-    (omega arith, lines.long ∙ start.requires.1, lines.room start.requires.2)
-
-pub loop-t-smaller : goal.loop-t-smaller
-loop-t-smaller c = omega arith
+    let lines = c.loop-t.invariant.1 in
+    (omega arith, lines.long ∙ c.requires.1, lines.room c.requires.2)
 
 pub loop-t-preserved : goal.loop-t-preserved
 unfolding mark_lines fold
 loop-t-preserved c =
-    let m = c.before.before in
-    let l = m.before.before.before.before in
-    (omega arith, rw add-one (next_then l.loop-t.invariant.1 (rw add-one at m.emit_mark.ensures)))
+    (omega arith, rw add-one (next_then c.loop-t.invariant.1 (rw add-one at c.emit_mark.ensures)))
 
 pub shape_of-out : goal.shape_of-out
 shape_of-out c = c.loop-t.invariant.1.kept

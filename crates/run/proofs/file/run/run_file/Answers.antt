@@ -1,105 +1,57 @@
 -- `run_file` is the paper's run: 1 to 6 as at start, 8, and the trace as far as it fits.
 use mathlib.Core.Path.{◌≡◌, refl, sym, ◌∙◌}
-use mathlib.Core.Bool.{true}
+use mathlib.Core.Bool.{Bool, true, false, not}
 use native.Mathlib.Omega.{arith}
 use borrow.Author.Rules.{rules}
 use borrow.Author.Tests.{not-true, not-false}
-use Rattle.base.specs.Choice.{within}
 use Rattle.base.proofs.Tests.{within_high}
-use Rattle.plan.specs.declared.PlanAnswer.TheVariants.{Accepted}
-use Rattle.plan.specs.Files.{file_answer}
-use Rattle.rules.specs.StepFiles.{steps_ok}
 use Rattle.run.proofs.file.Opening.{opened_file, opened_passes, opened_begins}
 use Rattle.run.proofs.file.Outcomes.{start_is, steps_few, processors_refused, file_refused, steps_refused, traced, traced_short}
 use Rattle.run.proofs.file.run.run_file.Goals as goal
-use Rattle.run.proofs.file.run.run_file.Goals.{After-numbers-1, After-open-opened, After-parents-in-Accepted-1, After-put_numbers, Else-not-is_within, Else-not-steps_ok, In-Accepted, Start}
 
--- where the desks are within the limits, where the file was opened, where it was accepted
-abbrev begin : Else-not-is_within → Start
-begin c = c.before.before.before.before.before
+-- a test that was passed, and one that was not
+module _ {r t : Bool} (e : r ≡ t) where
+  passed : not r ≡ false → t ≡ true
+  passed h = sym e ∙ not-false r h
 
-abbrev within-limits : After-open-opened → Else-not-is_within
-within-limits c = c.before.before.before.before.before
-
-abbrev opened : In-Accepted → After-open-opened
-opened c = c.before
-
-abbrev told : Else-not-steps_ok → In-Accepted
-told c = c.before.before
-
--- what has passed: the desks, the plan file, the step file
-processors : (c : Else-not-is_within) → within 1 6 (begin c).args.processors ≡ true
-processors c = let i = c.before.is_Within in sym i.ensures ∙ not-false i.result c.if-not-is_within.false-raw
-
-file : (c : In-Accepted) → file_answer (begin (within-limits (opened c))).args.plan.now ≡ Accepted
-file c = opened_file (opened c).open-opened.ensures c.in-Accepted.is
-
-steps : (c : Else-not-steps_ok) → steps_ok (begin (within-limits (opened (told c)))).args.steps.now ≡ true
-steps c = let i = c.steps_ok in sym i.ensures ∙ not-false i.result c.if-not-steps_ok.false-raw
-
--- where the sends are numbered, and what is passed before
-abbrev numbered : After-parents-in-Accepted-1 → After-put_numbers
-numbered c = c.before.before.before.before.before
-
-abbrev passed : After-numbers-1 → Else-not-steps_ok
-passed c = c.before.before.before.before
+  failed : not r ≡ true → t ≡ false
+  failed h = sym e ∙ not-true r h
 
 pub returns-then-not-is_within : goal.returns-then-not-is_within
 returns-then-not-is_within c =
-    let i = c.before.before.is_Within in
-    rw c.refused.ensures (processors_refused _ _ _ _ (sym i.ensures ∙ not-true i.result c.if-not-is_within.true-raw))
+    rw c.refused.ensures (processors_refused _ _ _ _ (failed c.is_within.ensures c.if-not-is_within.true-raw))
 
 pub open-opened-requires : goal.open-opened-requires
 open-opened-requires c = (refl, refl, refl, refl)
 
 pub returns-then-not-steps_ok : goal.returns-then-not-steps_ok
 returns-then-not-steps_ok c =
-    let t = c.before in
-    let i = t.steps_ok in
-    let e = t.before.before in
     rw c.refused-then-not-steps_ok.ensures
-    (steps_refused _ _ _ _ (processors (within-limits (opened e))) (file e) (sym i.ensures ∙ not-true i.result t.if-not-steps_ok.true-raw))
+    (steps_refused _ _ _ _ (passed c.is_within.ensures c.if-not-is_within.false-raw) (opened_file c.open-opened.ensures c.in-Accepted.is) (failed c.steps_ok.ensures c.if-not-steps_ok.true-raw))
 
 pub put_numbers-requires : goal.put_numbers-requires
-put_numbers-requires c = let t = told (passed c) in (opened_passes (opened t).open-opened.ensures t.in-Accepted.is, refl)
+put_numbers-requires c = (opened_passes c.open-opened.ensures c.in-Accepted.is, refl)
 
 pub overflow_cast-processors-in-Accepted : goal.overflow_cast-processors-in-Accepted
-overflow_cast-processors-in-Accepted c =
-    let e = within-limits (opened (told (passed (numbered c).before))) in
-    omega (arith, within_high 1 6 (begin e).args.processors (processors e))
+overflow_cast-processors-in-Accepted c = omega (arith, within_high 1 6 c.args.processors (passed c.is_within.ensures c.if-not-is_within.false-raw))
 
 pub drive-d-requires : goal.drive-d-requires
 drive-d-requires c =
-    let n = numbered c.before in
-    let p = passed n.before in
-    let t = told p in
-    let k = opened t in
-    (record { plan = _; begins = opened_begins k.open-opened.ensures t.in-Accepted.is _ (processors (within-limits k)) n.put_numbers.ensures }, steps_few _ (steps p))
+    (record { plan = _; begins = opened_begins c.open-opened.ensures c.in-Accepted.is _ (passed c.is_within.ensures c.if-not-is_within.false-raw) c.put_numbers.ensures }, steps_few _ (passed c.steps_ok.ensures c.if-not-steps_ok.false-raw))
 
 pub returns-then-d : goal.returns-then-d
 returns-then-d c =
-    let d = c.before.before.before in
-    let n = numbered d.before.before in
-    let p = passed n.before in
-    let t = told p in
-    let k = opened t in
-    let q = processors (within-limits k) in
-    traced _ _ _ _ q (file t) (steps p) (start_is _ _)
-    (d.drive-d.ensures _ (opened_begins k.open-opened.ensures t.in-Accepted.is _ q n.put_numbers.ensures)) c.if-d.true
+    let q = passed c.is_within.ensures c.if-not-is_within.false-raw in
+    traced _ _ _ _ q (opened_file c.open-opened.ensures c.in-Accepted.is) (passed c.steps_ok.ensures c.if-not-steps_ok.false-raw) (start_is _ _)
+    (c.drive-d.ensures _ (opened_begins c.open-opened.ensures c.in-Accepted.is _ q c.put_numbers.ensures)) c.if-d.true
 
 pub returns-in-Refused : goal.returns-in-Refused
 returns-in-Refused c =
-    let k = c.before.before in
     rw c.refused-in-Refused.ensures
-    (file_refused _ _ _ _ (processors (within-limits k)) _ (sym k.open-opened.ensures.answered ∙ c.in-Refused.is))
+    (file_refused _ _ _ _ (passed c.is_within.ensures c.if-not-is_within.false-raw) _ (sym c.open-opened.ensures.answered ∙ c.in-Refused.is))
 
 pub returns-else-d : goal.returns-else-d
 returns-else-d c =
-    let d = c.before.before.before in
-    let n = numbered d.before.before in
-    let p = passed n.before in
-    let t = told p in
-    let k = opened t in
-    let q = processors (within-limits k) in
-    traced_short _ _ _ _ q (file t) (steps p) (start_is _ _)
-    (d.drive-d.ensures _ (opened_begins k.open-opened.ensures t.in-Accepted.is _ q n.put_numbers.ensures)) c.if-d.false
+    let q = passed c.is_within.ensures c.if-not-is_within.false-raw in
+    traced_short _ _ _ _ q (opened_file c.open-opened.ensures c.in-Accepted.is) (passed c.steps_ok.ensures c.if-not-steps_ok.false-raw) (start_is _ _)
+    (c.drive-d.ensures _ (opened_begins c.open-opened.ensures c.in-Accepted.is _ q c.put_numbers.ensures)) c.if-d.false
