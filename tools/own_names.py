@@ -21,7 +21,8 @@ OPERATOR = "◌"
 
 def files():
     for folder, dirs, names in os.walk("crates"):
-        dirs[:] = sorted(d for d in dirs if d != "out")
+        # what rt makes lies in crates/NAME/out; a module may be called so too
+        dirs[:] = sorted(d for d in dirs if d != "out" or folder.count(os.sep) != 1)
         for n in sorted(names):
             if n.endswith((".antt", ".rt", ".edit")):
                 yield os.path.join(folder, n)
