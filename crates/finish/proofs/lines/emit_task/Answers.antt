@@ -1,4 +1,5 @@
 -- `emit_task`: the line of a task behind the others, if it is stuck and all of these fitted.
+use mathlib.Core.Bool.{Bool}
 use mathlib.Core.Path.{◌≡◌, sym, ap, ◌∙◌}
 use native.Mathlib.Omega.{arith}
 use borrow.Author.Rules.{rules}

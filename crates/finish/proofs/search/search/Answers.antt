@@ -1,5 +1,6 @@
+use mathlib.Core.List.{List}
 use mathlib.Core.Path.{◌≡◌, sym, ap, ◌∙◌}
-use mathlib.Core.Bool.{true, false}
+use mathlib.Core.Bool.{true, false, Bool}
 use mathlib.Core.Logic.{by_cases}
 use Prim.Native.Nat.{ℕ, ◌+◌, ◌-◌}
 use native.Mathlib.Decide.{ℕ_discrete}
@@ -10,20 +11,21 @@ use Rattle.rules.specs.declared.step.StepAnswer.{StepAnswer}
 use Rattle.rules.specs.declared.system.TaskTable.{TaskTable}
 use Rattle.rules.specs.Numbers.{task_id}
 use Rattle.rig_parts.specs.RunVerdicts.{run_refusal}
+use Rattle.board.specs.Lent.{tasks_on}
 use Rattle.finish.specs.Searches.{can_run}
 use Rattle.finish.proofs.search.search.Goals as goal
 
 -- whether a task can run, by what a run of it answers
-asked : {codes : List ℕ} {count : ℕ} {ts : TaskTable} {t : ℕ} {q : StepAnswer} {r : Bool}
+asked : (codes : List ℕ) (count : ℕ) (ts : TaskTable) (t : ℕ) {q : StepAnswer} {r : Bool}
     → q ≡ run_refusal codes count ts (task_id t) → r ≡ is_accepted q → can_run codes count ts t ≡ r
-asked e h = sym (h ∙ ap is_accepted e)
+asked codes count ts t e h = sym (h ∙ ap is_accepted e)
 
 pub loop-k-init : goal.loop-k-init
 loop-k-init c = (omega arith, omega arith, λ t l h. absurd (omega arith))
 
 pub returns-then-is_accepted : goal.returns-then-is_accepted
 returns-then-is_accepted c =
-    record { some = λ ne. (omega arith, omega arith, asked c.run_refusal-q.ensures c.is_accepted.ensures ∙ c.if-is_accepted.true); none = λ e. absurd (omega arith) }
+    record { some = λ ne. (omega arith, omega arith, asked c.args.codes.now c.args.count (tasks_on c.args.board.now) (c.loop-k.k + 1) c.run_refusal-q.ensures c.is_accepted.ensures ∙ c.if-is_accepted.true); none = λ e. absurd (omega arith) }
 
 pub loop-k-preserved : goal.loop-k-preserved
 loop-k-preserved c =
@@ -32,7 +34,7 @@ loop-k-preserved c =
       omega arith,
       λ t low high.
           by_cases (ℕ_discrete t (k + 1))
-          (λ (e : t ≡ k + 1). rw e (asked c.run_refusal-q.ensures c.is_accepted.ensures ∙ c.if-is_accepted.false))
+          (λ (e : t ≡ k + 1). rw e (asked c.args.codes.now c.args.count (tasks_on c.args.board.now) (c.loop-k.k + 1) c.run_refusal-q.ensures c.is_accepted.ensures ∙ c.if-is_accepted.false))
           (λ ne. c.loop-k.invariant.2 t low (omega arith)),
     )
 

@@ -1,5 +1,5 @@
-use mathlib.Core.List.{[]}
-use Prim.Native.Nat.{◌+◌, ◌-◌}
+use mathlib.Core.List.{[], List}
+use Prim.Native.Nat.{◌+◌, ◌-◌, ℕ, ◌≤◌}
 use native.Mathlib.Omega.{arith}
 use Rattle.plan.specs.declared.Plan.{Plan}
 use Rattle.rules.specs.declared.step.Step.{Step}

@@ -1,5 +1,7 @@
+use Rattle.rules.specs.declared.task.Task.{Task}
+use mathlib.Core.List.{List}
 use mathlib.Core.Path.{◌≡◌, sym, ap, ◌∙◌}
-use mathlib.Core.Bool.{true, false, not}
+use mathlib.Core.Bool.{true, false, not, Bool}
 use Prim.Native.Nat.{ℕ, ◌+◌, ◌-◌}
 use native.Mathlib.Numerals.{add-one}
 use native.Mathlib.Omega.{arith}
@@ -15,8 +17,8 @@ use Rattle.finish.proofs.stuck.finishes.Invariants.{clear}
 use Rattle.finish.proofs.stuck.finishes.Goals as goal
 
 -- whether task k + 1 is stuck
-asked : {board : List ℕ} (k : ℕ) {x : Task} {r : Bool} → x ≡ task_in (tasks_on board) (task_id (k + 1)) → r ≡ is_stuck x → clear board k ≡ not r
-asked {board = board} k e h = ap not (sym (h ∙ ap is_stuck (e ∙ ap (λ (t : ℕ). task_in (tasks_on board) (task_id t)) (add-one k))))
+asked : (board : List ℕ) (k : ℕ) {x : Task} {r : Bool} → x ≡ task_in (tasks_on board) (task_id (k + 1)) → r ≡ is_stuck x → clear board k ≡ not r
+asked board k e h = ap not (sym (h ∙ ap is_stuck (e ∙ ap (λ (t : ℕ). task_in (tasks_on board) (task_id t)) (add-one k))))
 
 pub loop-k-init : goal.loop-k-init
 loop-k-init c = (omega arith, below_none _)
@@ -28,12 +30,12 @@ pub returns-then-is_stuck : goal.returns-then-is_stuck
 unfolding finishes_in
 returns-then-is_stuck c =
     let k = c.loop-k.k in
-    sym (below_fails (clear c.args.board.now) _ k c.loop-k-test.true (asked {board = c.args.board.now} k c.task_at-x.ensures c.is_stuck.ensures ∙ ap not c.if-is_stuck.true))
+    sym (below_fails (clear c.args.board.now) _ k c.loop-k-test.true (asked c.args.board.now k c.task_at-x.ensures c.is_stuck.ensures ∙ ap not c.if-is_stuck.true))
 
 pub loop-k-preserved : goal.loop-k-preserved
 loop-k-preserved c =
     let k = c.loop-k.k in
-    (omega arith, below_more (clear c.args.board.now) k c.loop-k.invariant.1 (asked {board = c.args.board.now} k c.task_at-x.ensures c.is_stuck.ensures ∙ ap not c.if-is_stuck.false))
+    (omega arith, below_more (clear c.args.board.now) k c.loop-k.invariant.1 (asked c.args.board.now k c.task_at-x.ensures c.is_stuck.ensures ∙ ap not c.if-is_stuck.false))
 
 pub returns : goal.returns
 unfolding finishes_in
