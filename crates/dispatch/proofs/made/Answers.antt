@@ -11,4 +11,4 @@ step-q-requires c = search rules
 pub returns : goal.returns
 returns c =
     let s = c.args.s in
-    record { turn = ap (λ (o : Stepped). Made s o.report) c.step-c.ensures; system = ap (λ (o : Stepped). o.system) c.step-c.ensures }
+    record { turn = ap (λ (o : Stepped). Made s o.report) c.step-q.ensures; system = ap (λ (o : Stepped). o.system) c.step-q.ensures }

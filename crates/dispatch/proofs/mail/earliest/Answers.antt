@@ -45,13 +45,13 @@ loop-d-smaller c = omega arith
 
 pub loop-d-preserved : goal.loop-d-preserved
 loop-d-preserved c = (
-      omega arith,
-      c.loop-d.invariant.1,
-      λ i b.
-          by_cases (ℕ_discrete i c.loop-d.k)
-          (λ (e : i ≡ c.loop-d.k). rw e (sym (rw c.wide16-at.ensures at c.is_for.ensures) ∙ c.if-is_for.false))
-          (λ ne. c.loop-d.invariant.2 i (omega arith)),
-    )
+  omega arith,
+  c.loop-d.invariant.1,
+  λ i b.
+      by_cases (ℕ_discrete i c.loop-d.k)
+      (λ (e : i ≡ c.loop-d.k). rw e (sym (rw c.wide16-at.ensures at c.is_for.ensures) ∙ c.if-is_for.false))
+      (λ ne. c.loop-d.invariant.2 i (omega arith)),
+)
 
 pub returns : goal.returns
 returns c =

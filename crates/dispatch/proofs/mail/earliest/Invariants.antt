@@ -9,7 +9,7 @@ use Rattle.dispatch.proofs.mail.earliest.Given as goal
 
 abbrev pub invariant-loop-d : goal.invariant-loop-d
 invariant-loop-d l =
- (l.k ≤ l.n.used) × (l.end ≡ l.n.used) × ((i : ℕ) → i < l.k → is_for l.d (get_or l.n.slots i no_slot).message ≡ false)
+    (l.k ≤ l.n.used) × (l.end ≡ l.n.used) × ((i : ℕ) → i < l.k → is_for l.d (get_or l.n.slots i no_slot).message ≡ false)
 
 abbrev pub decreases-loop-d : goal.decreases-loop-d
 decreases-loop-d l = l.n.used - l.k

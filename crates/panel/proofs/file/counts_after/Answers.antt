@@ -35,8 +35,8 @@ run_steps-after-requires c =
     let z = c.no_tables-tables in
     let on = c.start_board in
     let rig = λ (p : Plan) (b : Begins a.processors p (facts a.count a.codes.now a.numbers.now a.senders.now a.receivers.now a.parents.now)).
-        begun a.count a.codes.now a.numbers.now c.build.ensures b c.no_messages-network.ensures z.ensures on.ensures
-        (c.locate.ensures z.result.heldprocessors z.result.heldnumbers z.result.notes on.new.board on.ensures.whole) in
+    begun a.count a.codes.now a.numbers.now c.build.ensures b c.no_messages-network.ensures z.ensures on.ensures
+    (c.locate.ensures z.result.heldprocessors z.result.heldnumbers z.result.notes on.new.board on.ensures.whole) in
     record {
       rig = rig _ c.requires.0.begins;
       whole = on.ensures.whole;
@@ -51,8 +51,8 @@ counts_on-requires c =
     let z = c.no_tables-tables in
     let on = c.start_board in
     let rig = λ (p : Plan) (b : Begins a.processors p (facts a.count a.codes.now a.numbers.now a.senders.now a.receivers.now a.parents.now)).
-        begun a.count a.codes.now a.numbers.now c.build.ensures b c.no_messages-network.ensures z.ensures on.ensures
-        (c.locate.ensures z.result.heldprocessors z.result.heldnumbers z.result.notes on.new.board on.ensures.whole) in
+    begun a.count a.codes.now a.numbers.now c.build.ensures b c.no_messages-network.ensures z.ensures on.ensures
+    (c.locate.ensures z.result.heldprocessors z.result.heldnumbers z.result.notes on.new.board on.ensures.whole) in
     record {
       whole = c.run_steps-after.ensures.1;
       parts = (ran_rig (rig _ c.requires.0.begins) _ c.run_steps-after.ensures.0).parts;
@@ -65,8 +65,8 @@ returns c p b =
     let z = c.no_tables-tables in
     let on = c.start_board in
     let rig = λ (p : Plan) (b : Begins a.processors p (facts a.count a.codes.now a.numbers.now a.senders.now a.receivers.now a.parents.now)).
-        begun a.count a.codes.now a.numbers.now c.build.ensures b c.no_messages-network.ensures z.ensures on.ensures
-        (c.locate.ensures z.result.heldprocessors z.result.heldnumbers z.result.notes on.new.board on.ensures.whole) in
+    begun a.count a.codes.now a.numbers.now c.build.ensures b c.no_messages-network.ensures z.ensures on.ensures
+    (c.locate.ensures z.result.heldprocessors z.result.heldnumbers z.result.notes on.new.board on.ensures.whole) in
     let users = c.build.new.users in
     let g = rig p b in
     let r = c.run_steps-after in

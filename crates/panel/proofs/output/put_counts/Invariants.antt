@@ -7,7 +7,7 @@ use Rattle.panel.proofs.output.put_counts.Given as goal
 
 abbrev pub invariant-loop-k : goal.invariant-loop-k
 invariant-loop-k l =
- (l.k ≤ 27) × (length l.out ≡ length l.initial.out) × (length l.counts ≡ 27 → l.out ≡ take l.k l.counts ++ drop l.k l.initial.out)
+    (l.k ≤ 27) × (length l.out ≡ length l.initial.out) × (length l.counts ≡ 27 → l.out ≡ take l.k l.counts ++ drop l.k l.initial.out)
 
 abbrev pub decreases-loop-k : goal.decreases-loop-k
 decreases-loop-k l = 27 - l.k

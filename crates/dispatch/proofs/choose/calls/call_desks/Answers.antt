@@ -28,7 +28,7 @@ use Rattle.dispatch.proofs.Letters.{none_earliest, first_earliest}
 use Rattle.dispatch.proofs.Boards.{rig_of_lem, rig_on, rest_of, letter_ok, few_letters, full_mail, few_tasks, few_choices, some_desks, few_desks, no_run, run_skipped, delivery_skipped, no_delivery, some_delivery, delivered_posts, on_delivery, turn_as, choice_of, on_chosen, on_run, run_room, some_run}
 use Rattle.dispatch.proofs.Called.{desk_after_lem, going_start, going_next, ended_short, ended_rest, ended_all}
 use Rattle.dispatch.proofs.choose.calls.call_desks.Goals as goal
-use Rattle.dispatch.proofs.choose.calls.call_desks.Goals.{then-place-used, else-place-used, then-is_for, else-loop-place, then-not-skips, else-not-skips}
+use Rattle.dispatch.proofs.choose.calls.call_desks.Goals.{then-place-used+else-loop-j-test, else-place-used, then-loop-place-test+then-is_for, else-loop-place-test, then-not-skips, else-not-skips}
 
 -- the desk that is called
 desk_range : (n d r : ℕ) → r ≡ desk_after n d → 1 ≤ n → n ≤ 6 → (1 ≤ r) × (r ≤ 6)
@@ -66,7 +66,7 @@ overflow_sub-at c =
     let a = c.args in
     let b = c.loop-k in
     let g = b.invariant.1 c.requires.0.system c.requires.0.on in
-    let range = desk_range _ _ _ c.desk_after-d.ensures (some_desks g.on) (few_desks g.on) in
+    let range : (1 ≤ c.desk_after-d.result) × (c.desk_after-d.result ≤ 6) = desk_range a.size.processors b.d c.desk_after-d.result c.desk_after-d.ensures (some_desks g.on) (few_desks g.on) in
     omega (arith, c.wide8-at.ensures, range)
 
 pub loop-place-init : goal.loop-place-init
@@ -283,7 +283,7 @@ bounds-last-at c =
     let a = c.args in
     let b = c.loop-k in
     let g = b.invariant.1 c.requires.0.system c.requires.0.on in
-    let range = desk_range _ _ _ c.desk_after-d.ensures (some_desks g.on) (few_desks g.on) in
+    let range : (1 ≤ c.desk_after-d.result) × (c.desk_after-d.result ≤ 6) = desk_range a.size.processors b.d c.desk_after-d.result c.desk_after-d.ensures (some_desks g.on) (few_desks g.on) in
     omega (arith, c.wide8-at.ensures, range)
 
 pub bounds-last-at-then-t-ne0 : goal.bounds-last-at-then-t-ne0
@@ -291,7 +291,7 @@ bounds-last-at-then-t-ne0 c =
     let a = c.args in
     let b = c.loop-k in
     let g = b.invariant.1 c.requires.0.system c.requires.0.on in
-    let range = desk_range _ _ _ c.desk_after-d.ensures (some_desks g.on) (few_desks g.on) in
+    let range : (1 ≤ c.desk_after-d.result) × (c.desk_after-d.result ≤ 6) = desk_range a.size.processors b.d c.desk_after-d.result c.desk_after-d.ensures (some_desks g.on) (few_desks g.on) in
     omega (arith, c.wide8-at.ensures, range)
 
 pub ready_at-requires : goal.ready_at-requires
@@ -299,7 +299,7 @@ ready_at-requires c =
     let a = c.args in
     let b = c.loop-k in
     let g = b.invariant.1 c.requires.0.system c.requires.0.on in
-    let range = desk_range _ _ _ c.desk_after-d.ensures (some_desks g.on) (few_desks g.on) in
+    let range : (1 ≤ c.desk_after-d.result) × (c.desk_after-d.result ≤ 6) = desk_range a.size.processors b.d c.desk_after-d.result c.desk_after-d.ensures (some_desks g.on) (few_desks g.on) in
     range
 
 pub next_ready-t-requires : goal.next_ready-t-requires
@@ -309,28 +309,28 @@ next_ready-t-requires c =
     let g = b.invariant.1 c.requires.0.system c.requires.0.on in
     let d = processor_id c.desk_after-d.result in
     let none : b.network.used ≤ c.loop-place.place → earliest d (messages b.network) ≡ 0 =
-        λ all. none_earliest d b.network (full_mail g.on) (few_letters g.on) (λ i h. c.loop-place.invariant.1 i (omega (arith, h, all))) in
+    λ all. none_earliest d b.network (full_mail g.on) (few_letters g.on) (λ i h. c.loop-place.invariant.1 i (omega (arith, h, all))) in
     let m : TurnMade a.codes.now a.numbers.now a.users.now a.size (delivery_turn g.system d) c.if-place-used.network
-        (lent c.if-place-used.hintprocessors c.if-place-used.hintmoves c.if-place-used.heldprocessors c.if-place-used.heldnumbers c.if-place-used.notes c.if-place-used.board) b.last
-        b.progress b.out c.if-place-used.progress c.if-place-used.out =
-        elim c.if-place-used.branch [
-          then-place-used w ↦
-            let place = c.loop-place.place in
-            let first : place + 1 ≡ earliest d (messages b.network) =
-                elim c.loop-place-test.branch [
-                  else-loop-place v ↦ absurd (omega (arith, v.loop-place-test.false, w.if-place-used.true))
-                | then-is_for v ↦
-                    add-one place
-                    ∙ sym (first_earliest d b.network (full_mail g.on) (few_letters g.on) place w.if-place-used.true c.loop-place.invariant.1 (sym v.is_for.ensures ∙ v.if-is_for.true))
-                ] in
-            let act = w.deliver-r.ensures a.size.tasks a.numbers.now in
-            let posts = delivered_posts g.on place w.if-place-used.true act.act w.loop-j.j (omega (arith, w.loop-j.invariant.0, w.loop-j-test.false)) w.loop-j.invariant.1 w.message-l.ensures (w.wide8.ensures ∙ w.rounds.ensures) in
-            turn_as w.hintprocessors-is w.hintmoves-is w.heldprocessors-is w.heldnumbers-is w.notes-is w.board-is w.out-is w.progress-is w.network-is
-            (some_delivery g.on b.progress b.out d first (λ z. omega (arith, z)) (on_delivery g.on place w.if-place-used.true act posts) w.put_step.ensures)
-        | else-place-used w ↦
-            turn_as w.hintprocessors-is w.hintmoves-is w.heldprocessors-is w.heldnumbers-is w.notes-is w.board-is w.out-is w.progress-is w.network-is
-            (no_delivery g.on b.progress b.out d (none w.if-place-used.false))
-        ] in
+    (lent c.if-place-used.hintprocessors c.if-place-used.hintmoves c.if-place-used.heldprocessors c.if-place-used.heldnumbers c.if-place-used.notes c.if-place-used.board) b.last
+    b.progress b.out c.if-place-used.progress c.if-place-used.out =
+    elim c.if-place-used.branch [
+      | then-place-used+else-loop-j-test w ↦
+          let place = c.loop-place.place in
+          let first : place + 1 ≡ earliest d (messages b.network) =
+          elim c.loop-place-test.branch [
+            | else-loop-place-test v ↦ absurd (omega (arith, v.loop-place-test.false, w.if-place-used.true))
+            | then-loop-place-test+then-is_for v ↦
+                add-one place
+                ∙ sym (first_earliest d b.network (full_mail g.on) (few_letters g.on) place w.if-place-used.true c.loop-place.invariant.1 (sym v.is_for.ensures ∙ v.if-is_for.true))
+          ] in
+          let act = w.deliver-r.ensures a.size.tasks a.numbers.now in
+          let posts = delivered_posts g.on place w.if-place-used.true act.act w.loop-j.j (omega (arith, w.loop-j.invariant.0, w.loop-j-test.false)) w.loop-j.invariant.1 w.message-l.ensures (w.wide8.ensures ∙ w.rounds.ensures) in
+          turn_as w.hintprocessors-is w.hintmoves-is w.heldprocessors-is w.heldnumbers-is w.notes-is w.board-is w.out-is w.progress-is w.network-is
+          (some_delivery g.on b.progress b.out d first (λ z. omega (arith, z)) (on_delivery g.on place w.if-place-used.true act posts) w.put_step.ensures)
+      | else-place-used w ↦
+          turn_as w.hintprocessors-is w.hintmoves-is w.heldprocessors-is w.heldnumbers-is w.notes-is w.board-is w.out-is w.progress-is w.network-is
+          (no_delivery g.on b.progress b.out d (none w.if-place-used.false))
+    ] in
     (few_tasks m.on, rw c.wide8-at.ensures (few_choices m.on d))
 
 pub put_step-requires-then-t-ne0 : goal.put_step-requires-then-t-ne0
@@ -340,28 +340,28 @@ put_step-requires-then-t-ne0 c =
     let g = b.invariant.1 c.requires.0.system c.requires.0.on in
     let d = processor_id c.desk_after-d.result in
     let none : b.network.used ≤ c.loop-place.place → earliest d (messages b.network) ≡ 0 =
-        λ all. none_earliest d b.network (full_mail g.on) (few_letters g.on) (λ i h. c.loop-place.invariant.1 i (omega (arith, h, all))) in
+    λ all. none_earliest d b.network (full_mail g.on) (few_letters g.on) (λ i h. c.loop-place.invariant.1 i (omega (arith, h, all))) in
     let m : TurnMade a.codes.now a.numbers.now a.users.now a.size (delivery_turn g.system d) c.if-place-used.network
-        (lent c.if-place-used.hintprocessors c.if-place-used.hintmoves c.if-place-used.heldprocessors c.if-place-used.heldnumbers c.if-place-used.notes c.if-place-used.board) b.last
-        b.progress b.out c.if-place-used.progress c.if-place-used.out =
-        elim c.if-place-used.branch [
-          then-place-used w ↦
-            let place = c.loop-place.place in
-            let first : place + 1 ≡ earliest d (messages b.network) =
-                elim c.loop-place-test.branch [
-                  else-loop-place v ↦ absurd (omega (arith, v.loop-place-test.false, w.if-place-used.true))
-                | then-is_for v ↦
-                    add-one place
-                    ∙ sym (first_earliest d b.network (full_mail g.on) (few_letters g.on) place w.if-place-used.true c.loop-place.invariant.1 (sym v.is_for.ensures ∙ v.if-is_for.true))
-                ] in
-            let act = w.deliver-r.ensures a.size.tasks a.numbers.now in
-            let posts = delivered_posts g.on place w.if-place-used.true act.act w.loop-j.j (omega (arith, w.loop-j.invariant.0, w.loop-j-test.false)) w.loop-j.invariant.1 w.message-l.ensures (w.wide8.ensures ∙ w.rounds.ensures) in
-            turn_as w.hintprocessors-is w.hintmoves-is w.heldprocessors-is w.heldnumbers-is w.notes-is w.board-is w.out-is w.progress-is w.network-is
-            (some_delivery g.on b.progress b.out d first (λ z. omega (arith, z)) (on_delivery g.on place w.if-place-used.true act posts) w.put_step.ensures)
-        | else-place-used w ↦
-            turn_as w.hintprocessors-is w.hintmoves-is w.heldprocessors-is w.heldnumbers-is w.notes-is w.board-is w.out-is w.progress-is w.network-is
-            (no_delivery g.on b.progress b.out d (none w.if-place-used.false))
-        ] in
+    (lent c.if-place-used.hintprocessors c.if-place-used.hintmoves c.if-place-used.heldprocessors c.if-place-used.heldnumbers c.if-place-used.notes c.if-place-used.board) b.last
+    b.progress b.out c.if-place-used.progress c.if-place-used.out =
+    elim c.if-place-used.branch [
+      | then-place-used+else-loop-j-test w ↦
+          let place = c.loop-place.place in
+          let first : place + 1 ≡ earliest d (messages b.network) =
+          elim c.loop-place-test.branch [
+            | else-loop-place-test v ↦ absurd (omega (arith, v.loop-place-test.false, w.if-place-used.true))
+            | then-loop-place-test+then-is_for v ↦
+                add-one place
+                ∙ sym (first_earliest d b.network (full_mail g.on) (few_letters g.on) place w.if-place-used.true c.loop-place.invariant.1 (sym v.is_for.ensures ∙ v.if-is_for.true))
+          ] in
+          let act = w.deliver-r.ensures a.size.tasks a.numbers.now in
+          let posts = delivered_posts g.on place w.if-place-used.true act.act w.loop-j.j (omega (arith, w.loop-j.invariant.0, w.loop-j-test.false)) w.loop-j.invariant.1 w.message-l.ensures (w.wide8.ensures ∙ w.rounds.ensures) in
+          turn_as w.hintprocessors-is w.hintmoves-is w.heldprocessors-is w.heldnumbers-is w.notes-is w.board-is w.out-is w.progress-is w.network-is
+          (some_delivery g.on b.progress b.out d first (λ z. omega (arith, z)) (on_delivery g.on place w.if-place-used.true act posts) w.put_step.ensures)
+      | else-place-used w ↦
+          turn_as w.hintprocessors-is w.hintmoves-is w.heldprocessors-is w.heldnumbers-is w.notes-is w.board-is w.out-is w.progress-is w.network-is
+          (no_delivery g.on b.progress b.out d (none w.if-place-used.false))
+    ] in
     (m.lines.long ∙ g.two, m.lines.room g.room)
 
 pub carry_out-r-requires : goal.carry_out-r-requires
@@ -371,28 +371,28 @@ carry_out-r-requires c =
     let g = b.invariant.1 c.requires.0.system c.requires.0.on in
     let d = processor_id c.desk_after-d.result in
     let none : b.network.used ≤ c.loop-place.place → earliest d (messages b.network) ≡ 0 =
-        λ all. none_earliest d b.network (full_mail g.on) (few_letters g.on) (λ i h. c.loop-place.invariant.1 i (omega (arith, h, all))) in
+    λ all. none_earliest d b.network (full_mail g.on) (few_letters g.on) (λ i h. c.loop-place.invariant.1 i (omega (arith, h, all))) in
     let m : TurnMade a.codes.now a.numbers.now a.users.now a.size (delivery_turn g.system d) c.if-place-used.network
-        (lent c.if-place-used.hintprocessors c.if-place-used.hintmoves c.if-place-used.heldprocessors c.if-place-used.heldnumbers c.if-place-used.notes c.if-place-used.board) b.last
-        b.progress b.out c.if-place-used.progress c.if-place-used.out =
-        elim c.if-place-used.branch [
-          then-place-used w ↦
-            let place = c.loop-place.place in
-            let first : place + 1 ≡ earliest d (messages b.network) =
-                elim c.loop-place-test.branch [
-                  else-loop-place v ↦ absurd (omega (arith, v.loop-place-test.false, w.if-place-used.true))
-                | then-is_for v ↦
-                    add-one place
-                    ∙ sym (first_earliest d b.network (full_mail g.on) (few_letters g.on) place w.if-place-used.true c.loop-place.invariant.1 (sym v.is_for.ensures ∙ v.if-is_for.true))
-                ] in
-            let act = w.deliver-r.ensures a.size.tasks a.numbers.now in
-            let posts = delivered_posts g.on place w.if-place-used.true act.act w.loop-j.j (omega (arith, w.loop-j.invariant.0, w.loop-j-test.false)) w.loop-j.invariant.1 w.message-l.ensures (w.wide8.ensures ∙ w.rounds.ensures) in
-            turn_as w.hintprocessors-is w.hintmoves-is w.heldprocessors-is w.heldnumbers-is w.notes-is w.board-is w.out-is w.progress-is w.network-is
-            (some_delivery g.on b.progress b.out d first (λ z. omega (arith, z)) (on_delivery g.on place w.if-place-used.true act posts) w.put_step.ensures)
-        | else-place-used w ↦
-            turn_as w.hintprocessors-is w.hintmoves-is w.heldprocessors-is w.heldnumbers-is w.notes-is w.board-is w.out-is w.progress-is w.network-is
-            (no_delivery g.on b.progress b.out d (none w.if-place-used.false))
-        ] in
+    (lent c.if-place-used.hintprocessors c.if-place-used.hintmoves c.if-place-used.heldprocessors c.if-place-used.heldnumbers c.if-place-used.notes c.if-place-used.board) b.last
+    b.progress b.out c.if-place-used.progress c.if-place-used.out =
+    elim c.if-place-used.branch [
+      | then-place-used+else-loop-j-test w ↦
+          let place = c.loop-place.place in
+          let first : place + 1 ≡ earliest d (messages b.network) =
+          elim c.loop-place-test.branch [
+            | else-loop-place-test v ↦ absurd (omega (arith, v.loop-place-test.false, w.if-place-used.true))
+            | then-loop-place-test+then-is_for v ↦
+                add-one place
+                ∙ sym (first_earliest d b.network (full_mail g.on) (few_letters g.on) place w.if-place-used.true c.loop-place.invariant.1 (sym v.is_for.ensures ∙ v.if-is_for.true))
+          ] in
+          let act = w.deliver-r.ensures a.size.tasks a.numbers.now in
+          let posts = delivered_posts g.on place w.if-place-used.true act.act w.loop-j.j (omega (arith, w.loop-j.invariant.0, w.loop-j-test.false)) w.loop-j.invariant.1 w.message-l.ensures (w.wide8.ensures ∙ w.rounds.ensures) in
+          turn_as w.hintprocessors-is w.hintmoves-is w.heldprocessors-is w.heldnumbers-is w.notes-is w.board-is w.out-is w.progress-is w.network-is
+          (some_delivery g.on b.progress b.out d first (λ z. omega (arith, z)) (on_delivery g.on place w.if-place-used.true act posts) w.put_step.ensures)
+      | else-place-used w ↦
+          turn_as w.hintprocessors-is w.hintmoves-is w.heldprocessors-is w.heldnumbers-is w.notes-is w.board-is w.out-is w.progress-is w.network-is
+          (no_delivery g.on b.progress b.out d (none w.if-place-used.false))
+    ] in
     rig_on m.on
 
 pub loop-e-init : goal.loop-e-init
@@ -421,35 +421,35 @@ offset_bounds-network-free c =
     let g = b.invariant.1 c.requires.0.system c.requires.0.on in
     let d = processor_id c.desk_after-d.result in
     let none : b.network.used ≤ c.loop-place.place → earliest d (messages b.network) ≡ 0 =
-        λ all. none_earliest d b.network (full_mail g.on) (few_letters g.on) (λ i h. c.loop-place.invariant.1 i (omega (arith, h, all))) in
+    λ all. none_earliest d b.network (full_mail g.on) (few_letters g.on) (λ i h. c.loop-place.invariant.1 i (omega (arith, h, all))) in
     let m : TurnMade a.codes.now a.numbers.now a.users.now a.size (delivery_turn g.system d) c.if-place-used.network
-        (lent c.if-place-used.hintprocessors c.if-place-used.hintmoves c.if-place-used.heldprocessors c.if-place-used.heldnumbers c.if-place-used.notes c.if-place-used.board) b.last
-        b.progress b.out c.if-place-used.progress c.if-place-used.out =
-        elim c.if-place-used.branch [
-          then-place-used w ↦
-            let place = c.loop-place.place in
-            let first : place + 1 ≡ earliest d (messages b.network) =
-                elim c.loop-place-test.branch [
-                  else-loop-place v ↦ absurd (omega (arith, v.loop-place-test.false, w.if-place-used.true))
-                | then-is_for v ↦
-                    add-one place
-                    ∙ sym (first_earliest d b.network (full_mail g.on) (few_letters g.on) place w.if-place-used.true c.loop-place.invariant.1 (sym v.is_for.ensures ∙ v.if-is_for.true))
-                ] in
-            let act = w.deliver-r.ensures a.size.tasks a.numbers.now in
-            let posts = delivered_posts g.on place w.if-place-used.true act.act w.loop-j.j (omega (arith, w.loop-j.invariant.0, w.loop-j-test.false)) w.loop-j.invariant.1 w.message-l.ensures (w.wide8.ensures ∙ w.rounds.ensures) in
-            turn_as w.hintprocessors-is w.hintmoves-is w.heldprocessors-is w.heldnumbers-is w.notes-is w.board-is w.out-is w.progress-is w.network-is
-            (some_delivery g.on b.progress b.out d first (λ z. omega (arith, z)) (on_delivery g.on place w.if-place-used.true act posts) w.put_step.ensures)
-        | else-place-used w ↦
-            turn_as w.hintprocessors-is w.hintmoves-is w.heldprocessors-is w.heldnumbers-is w.notes-is w.board-is w.out-is w.progress-is w.network-is
-            (no_delivery g.on b.progress b.out d (none w.if-place-used.false))
-        ] in
+    (lent c.if-place-used.hintprocessors c.if-place-used.hintmoves c.if-place-used.heldprocessors c.if-place-used.heldnumbers c.if-place-used.notes c.if-place-used.board) b.last
+    b.progress b.out c.if-place-used.progress c.if-place-used.out =
+    elim c.if-place-used.branch [
+      | then-place-used+else-loop-j-test w ↦
+          let place = c.loop-place.place in
+          let first : place + 1 ≡ earliest d (messages b.network) =
+          elim c.loop-place-test.branch [
+            | else-loop-place-test v ↦ absurd (omega (arith, v.loop-place-test.false, w.if-place-used.true))
+            | then-loop-place-test+then-is_for v ↦
+                add-one place
+                ∙ sym (first_earliest d b.network (full_mail g.on) (few_letters g.on) place w.if-place-used.true c.loop-place.invariant.1 (sym v.is_for.ensures ∙ v.if-is_for.true))
+          ] in
+          let act = w.deliver-r.ensures a.size.tasks a.numbers.now in
+          let posts = delivered_posts g.on place w.if-place-used.true act.act w.loop-j.j (omega (arith, w.loop-j.invariant.0, w.loop-j-test.false)) w.loop-j.invariant.1 w.message-l.ensures (w.wide8.ensures ∙ w.rounds.ensures) in
+          turn_as w.hintprocessors-is w.hintmoves-is w.heldprocessors-is w.heldnumbers-is w.notes-is w.board-is w.out-is w.progress-is w.network-is
+          (some_delivery g.on b.progress b.out d first (λ z. omega (arith, z)) (on_delivery g.on place w.if-place-used.true act posts) w.put_step.ensures)
+      | else-place-used w ↦
+          turn_as w.hintprocessors-is w.hintmoves-is w.heldprocessors-is w.heldnumbers-is w.notes-is w.board-is w.out-is w.progress-is w.network-is
+          (no_delivery g.on b.progress b.out d (none w.if-place-used.false))
+    ] in
     let room = run_room m.on c.next_ready-t.result c.carry_out-r.ensures.act in
     let free : c.loop-e.network.used < 256 =
-        subst (λ (k : Network). k.used < 256) (sym c.loop-e.invariant.1)
-        (after_room c.carry_out-r.result.posting c.if-place-used.network a.size.processors c.loop-e.e
-        (subst (λ n. c.loop-e.e < n) c.rounds-rounds.ensures c.loop-e-test.true)
-        (sym c.skips.ensures ∙ not-true c.skips.result c.if-not-skips.true-raw)
-        room) in
+    subst (λ (k : Network). k.used < 256) (sym c.loop-e.invariant.1)
+    (after_room c.carry_out-r.result.posting c.if-place-used.network a.size.processors c.loop-e.e
+    (subst (λ n. c.loop-e.e < n) c.rounds-rounds.ensures c.loop-e-test.true)
+    (sym c.skips.ensures ∙ not-true c.skips.result c.if-not-skips.true-raw)
+    room) in
     omega (arith, free)
 
 pub overflow_add-network-then-not-skips : goal.overflow_add-network-then-not-skips
@@ -459,35 +459,35 @@ overflow_add-network-then-not-skips c =
     let g = b.invariant.1 c.requires.0.system c.requires.0.on in
     let d = processor_id c.desk_after-d.result in
     let none : b.network.used ≤ c.loop-place.place → earliest d (messages b.network) ≡ 0 =
-        λ all. none_earliest d b.network (full_mail g.on) (few_letters g.on) (λ i h. c.loop-place.invariant.1 i (omega (arith, h, all))) in
+    λ all. none_earliest d b.network (full_mail g.on) (few_letters g.on) (λ i h. c.loop-place.invariant.1 i (omega (arith, h, all))) in
     let m : TurnMade a.codes.now a.numbers.now a.users.now a.size (delivery_turn g.system d) c.if-place-used.network
-        (lent c.if-place-used.hintprocessors c.if-place-used.hintmoves c.if-place-used.heldprocessors c.if-place-used.heldnumbers c.if-place-used.notes c.if-place-used.board) b.last
-        b.progress b.out c.if-place-used.progress c.if-place-used.out =
-        elim c.if-place-used.branch [
-          then-place-used w ↦
-            let place = c.loop-place.place in
-            let first : place + 1 ≡ earliest d (messages b.network) =
-                elim c.loop-place-test.branch [
-                  else-loop-place v ↦ absurd (omega (arith, v.loop-place-test.false, w.if-place-used.true))
-                | then-is_for v ↦
-                    add-one place
-                    ∙ sym (first_earliest d b.network (full_mail g.on) (few_letters g.on) place w.if-place-used.true c.loop-place.invariant.1 (sym v.is_for.ensures ∙ v.if-is_for.true))
-                ] in
-            let act = w.deliver-r.ensures a.size.tasks a.numbers.now in
-            let posts = delivered_posts g.on place w.if-place-used.true act.act w.loop-j.j (omega (arith, w.loop-j.invariant.0, w.loop-j-test.false)) w.loop-j.invariant.1 w.message-l.ensures (w.wide8.ensures ∙ w.rounds.ensures) in
-            turn_as w.hintprocessors-is w.hintmoves-is w.heldprocessors-is w.heldnumbers-is w.notes-is w.board-is w.out-is w.progress-is w.network-is
-            (some_delivery g.on b.progress b.out d first (λ z. omega (arith, z)) (on_delivery g.on place w.if-place-used.true act posts) w.put_step.ensures)
-        | else-place-used w ↦
-            turn_as w.hintprocessors-is w.hintmoves-is w.heldprocessors-is w.heldnumbers-is w.notes-is w.board-is w.out-is w.progress-is w.network-is
-            (no_delivery g.on b.progress b.out d (none w.if-place-used.false))
-        ] in
+    (lent c.if-place-used.hintprocessors c.if-place-used.hintmoves c.if-place-used.heldprocessors c.if-place-used.heldnumbers c.if-place-used.notes c.if-place-used.board) b.last
+    b.progress b.out c.if-place-used.progress c.if-place-used.out =
+    elim c.if-place-used.branch [
+      | then-place-used+else-loop-j-test w ↦
+          let place = c.loop-place.place in
+          let first : place + 1 ≡ earliest d (messages b.network) =
+          elim c.loop-place-test.branch [
+            | else-loop-place-test v ↦ absurd (omega (arith, v.loop-place-test.false, w.if-place-used.true))
+            | then-loop-place-test+then-is_for v ↦
+                add-one place
+                ∙ sym (first_earliest d b.network (full_mail g.on) (few_letters g.on) place w.if-place-used.true c.loop-place.invariant.1 (sym v.is_for.ensures ∙ v.if-is_for.true))
+          ] in
+          let act = w.deliver-r.ensures a.size.tasks a.numbers.now in
+          let posts = delivered_posts g.on place w.if-place-used.true act.act w.loop-j.j (omega (arith, w.loop-j.invariant.0, w.loop-j-test.false)) w.loop-j.invariant.1 w.message-l.ensures (w.wide8.ensures ∙ w.rounds.ensures) in
+          turn_as w.hintprocessors-is w.hintmoves-is w.heldprocessors-is w.heldnumbers-is w.notes-is w.board-is w.out-is w.progress-is w.network-is
+          (some_delivery g.on b.progress b.out d first (λ z. omega (arith, z)) (on_delivery g.on place w.if-place-used.true act posts) w.put_step.ensures)
+      | else-place-used w ↦
+          turn_as w.hintprocessors-is w.hintmoves-is w.heldprocessors-is w.heldnumbers-is w.notes-is w.board-is w.out-is w.progress-is w.network-is
+          (no_delivery g.on b.progress b.out d (none w.if-place-used.false))
+    ] in
     let room = run_room m.on c.next_ready-t.result c.carry_out-r.ensures.act in
     let free : c.loop-e.network.used < 256 =
-        subst (λ (k : Network). k.used < 256) (sym c.loop-e.invariant.1)
-        (after_room c.carry_out-r.result.posting c.if-place-used.network a.size.processors c.loop-e.e
-        (subst (λ n. c.loop-e.e < n) c.rounds-rounds.ensures c.loop-e-test.true)
-        (sym c.skips.ensures ∙ not-true c.skips.result c.if-not-skips.true-raw)
-        room) in
+    subst (λ (k : Network). k.used < 256) (sym c.loop-e.invariant.1)
+    (after_room c.carry_out-r.result.posting c.if-place-used.network a.size.processors c.loop-e.e
+    (subst (λ n. c.loop-e.e < n) c.rounds-rounds.ensures c.loop-e-test.true)
+    (sym c.skips.ensures ∙ not-true c.skips.result c.if-not-skips.true-raw)
+    room) in
     omega (arith, free)
 
 pub bounds-network-free : goal.bounds-network-free
@@ -497,35 +497,35 @@ bounds-network-free c =
     let g = b.invariant.1 c.requires.0.system c.requires.0.on in
     let d = processor_id c.desk_after-d.result in
     let none : b.network.used ≤ c.loop-place.place → earliest d (messages b.network) ≡ 0 =
-        λ all. none_earliest d b.network (full_mail g.on) (few_letters g.on) (λ i h. c.loop-place.invariant.1 i (omega (arith, h, all))) in
+    λ all. none_earliest d b.network (full_mail g.on) (few_letters g.on) (λ i h. c.loop-place.invariant.1 i (omega (arith, h, all))) in
     let m : TurnMade a.codes.now a.numbers.now a.users.now a.size (delivery_turn g.system d) c.if-place-used.network
-        (lent c.if-place-used.hintprocessors c.if-place-used.hintmoves c.if-place-used.heldprocessors c.if-place-used.heldnumbers c.if-place-used.notes c.if-place-used.board) b.last
-        b.progress b.out c.if-place-used.progress c.if-place-used.out =
-        elim c.if-place-used.branch [
-          then-place-used w ↦
-            let place = c.loop-place.place in
-            let first : place + 1 ≡ earliest d (messages b.network) =
-                elim c.loop-place-test.branch [
-                  else-loop-place v ↦ absurd (omega (arith, v.loop-place-test.false, w.if-place-used.true))
-                | then-is_for v ↦
-                    add-one place
-                    ∙ sym (first_earliest d b.network (full_mail g.on) (few_letters g.on) place w.if-place-used.true c.loop-place.invariant.1 (sym v.is_for.ensures ∙ v.if-is_for.true))
-                ] in
-            let act = w.deliver-r.ensures a.size.tasks a.numbers.now in
-            let posts = delivered_posts g.on place w.if-place-used.true act.act w.loop-j.j (omega (arith, w.loop-j.invariant.0, w.loop-j-test.false)) w.loop-j.invariant.1 w.message-l.ensures (w.wide8.ensures ∙ w.rounds.ensures) in
-            turn_as w.hintprocessors-is w.hintmoves-is w.heldprocessors-is w.heldnumbers-is w.notes-is w.board-is w.out-is w.progress-is w.network-is
-            (some_delivery g.on b.progress b.out d first (λ z. omega (arith, z)) (on_delivery g.on place w.if-place-used.true act posts) w.put_step.ensures)
-        | else-place-used w ↦
-            turn_as w.hintprocessors-is w.hintmoves-is w.heldprocessors-is w.heldnumbers-is w.notes-is w.board-is w.out-is w.progress-is w.network-is
-            (no_delivery g.on b.progress b.out d (none w.if-place-used.false))
-        ] in
+    (lent c.if-place-used.hintprocessors c.if-place-used.hintmoves c.if-place-used.heldprocessors c.if-place-used.heldnumbers c.if-place-used.notes c.if-place-used.board) b.last
+    b.progress b.out c.if-place-used.progress c.if-place-used.out =
+    elim c.if-place-used.branch [
+      | then-place-used+else-loop-j-test w ↦
+          let place = c.loop-place.place in
+          let first : place + 1 ≡ earliest d (messages b.network) =
+          elim c.loop-place-test.branch [
+            | else-loop-place-test v ↦ absurd (omega (arith, v.loop-place-test.false, w.if-place-used.true))
+            | then-loop-place-test+then-is_for v ↦
+                add-one place
+                ∙ sym (first_earliest d b.network (full_mail g.on) (few_letters g.on) place w.if-place-used.true c.loop-place.invariant.1 (sym v.is_for.ensures ∙ v.if-is_for.true))
+          ] in
+          let act = w.deliver-r.ensures a.size.tasks a.numbers.now in
+          let posts = delivered_posts g.on place w.if-place-used.true act.act w.loop-j.j (omega (arith, w.loop-j.invariant.0, w.loop-j-test.false)) w.loop-j.invariant.1 w.message-l.ensures (w.wide8.ensures ∙ w.rounds.ensures) in
+          turn_as w.hintprocessors-is w.hintmoves-is w.heldprocessors-is w.heldnumbers-is w.notes-is w.board-is w.out-is w.progress-is w.network-is
+          (some_delivery g.on b.progress b.out d first (λ z. omega (arith, z)) (on_delivery g.on place w.if-place-used.true act posts) w.put_step.ensures)
+      | else-place-used w ↦
+          turn_as w.hintprocessors-is w.hintmoves-is w.heldprocessors-is w.heldnumbers-is w.notes-is w.board-is w.out-is w.progress-is w.network-is
+          (no_delivery g.on b.progress b.out d (none w.if-place-used.false))
+    ] in
     let room = run_room m.on c.next_ready-t.result c.carry_out-r.ensures.act in
     let free : c.loop-e.network.used < 256 =
-        subst (λ (k : Network). k.used < 256) (sym c.loop-e.invariant.1)
-        (after_room c.carry_out-r.result.posting c.if-place-used.network a.size.processors c.loop-e.e
-        (subst (λ n. c.loop-e.e < n) c.rounds-rounds.ensures c.loop-e-test.true)
-        (sym c.skips.ensures ∙ not-true c.skips.result c.if-not-skips.true-raw)
-        room) in
+    subst (λ (k : Network). k.used < 256) (sym c.loop-e.invariant.1)
+    (after_room c.carry_out-r.result.posting c.if-place-used.network a.size.processors c.loop-e.e
+    (subst (λ n. c.loop-e.e < n) c.rounds-rounds.ensures c.loop-e-test.true)
+    (sym c.skips.ensures ∙ not-true c.skips.result c.if-not-skips.true-raw)
+    room) in
     free
 
 pub overflow_add-e : goal.overflow_add-e
@@ -544,8 +544,8 @@ loop-e-preserved c =
     let so_far = c.loop-e.invariant.1 in
     let next : c.if-not-skips.network ≡ after x k (e + 1) =
     elim c.if-not-skips.branch [
-      then-not-skips w ↦ w.network-is ∙ round_posted x k e so_far (sym c.skips.ensures ∙ not-true c.skips.result w.if-not-skips.true-raw) w.message-l-then-not-skips.ensures
-    | else-not-skips w ↦ w.network-is ∙ round_skipped x k e so_far (sym c.skips.ensures ∙ not-false c.skips.result w.if-not-skips.false-raw)
+      | then-not-skips w ↦ w.network-is ∙ round_posted x k e so_far (sym c.skips.ensures ∙ not-true c.skips.result w.if-not-skips.true-raw) w.message-l-then-not-skips.ensures
+      | else-not-skips w ↦ w.network-is ∙ round_skipped x k e so_far (sym c.skips.ensures ∙ not-false c.skips.result w.if-not-skips.false-raw)
     ] in
     (omega (arith, c.loop-e-test.true), next)
 
@@ -558,42 +558,42 @@ loop-k-preserved-after-loop-e c =
           let g = b.invariant.1 r o in
           let d = processor_id c.desk_after-d.result in
           let none : b.network.used ≤ c.loop-place.place → earliest d (messages b.network) ≡ 0 =
-              λ all. none_earliest d b.network (full_mail g.on) (few_letters g.on) (λ i h. c.loop-place.invariant.1 i (omega (arith, h, all))) in
+          λ all. none_earliest d b.network (full_mail g.on) (few_letters g.on) (λ i h. c.loop-place.invariant.1 i (omega (arith, h, all))) in
           let m : TurnMade a.codes.now a.numbers.now a.users.now a.size (delivery_turn g.system d) c.if-place-used.network
-              (lent c.if-place-used.hintprocessors c.if-place-used.hintmoves c.if-place-used.heldprocessors c.if-place-used.heldnumbers c.if-place-used.notes c.if-place-used.board) b.last
-              b.progress b.out c.if-place-used.progress c.if-place-used.out =
-              elim c.if-place-used.branch [
-                then-place-used w ↦
-                  let place = c.loop-place.place in
-                  let first : place + 1 ≡ earliest d (messages b.network) =
-                      elim c.loop-place-test.branch [
-                        else-loop-place v ↦ absurd (omega (arith, v.loop-place-test.false, w.if-place-used.true))
-                      | then-is_for v ↦
-                          add-one place
-                          ∙ sym (first_earliest d b.network (full_mail g.on) (few_letters g.on) place w.if-place-used.true c.loop-place.invariant.1 (sym v.is_for.ensures ∙ v.if-is_for.true))
-                      ] in
-                  let act = w.deliver-r.ensures a.size.tasks a.numbers.now in
-                  let posts = delivered_posts g.on place w.if-place-used.true act.act w.loop-j.j (omega (arith, w.loop-j.invariant.0, w.loop-j-test.false)) w.loop-j.invariant.1 w.message-l.ensures (w.wide8.ensures ∙ w.rounds.ensures) in
-                  turn_as w.hintprocessors-is w.hintmoves-is w.heldprocessors-is w.heldnumbers-is w.notes-is w.board-is w.out-is w.progress-is w.network-is
-                  (some_delivery g.on b.progress b.out d first (λ z. omega (arith, z)) (on_delivery g.on place w.if-place-used.true act posts) w.put_step.ensures)
-              | else-place-used w ↦
-                  turn_as w.hintprocessors-is w.hintmoves-is w.heldprocessors-is w.heldnumbers-is w.notes-is w.board-is w.out-is w.progress-is w.network-is
-                  (no_delivery g.on b.progress b.out d (none w.if-place-used.false))
-              ] in
+          (lent c.if-place-used.hintprocessors c.if-place-used.hintmoves c.if-place-used.heldprocessors c.if-place-used.heldnumbers c.if-place-used.notes c.if-place-used.board) b.last
+          b.progress b.out c.if-place-used.progress c.if-place-used.out =
+          elim c.if-place-used.branch [
+            | then-place-used+else-loop-j-test w ↦
+                let place = c.loop-place.place in
+                let first : place + 1 ≡ earliest d (messages b.network) =
+                elim c.loop-place-test.branch [
+                  | else-loop-place-test v ↦ absurd (omega (arith, v.loop-place-test.false, w.if-place-used.true))
+                  | then-loop-place-test+then-is_for v ↦
+                      add-one place
+                      ∙ sym (first_earliest d b.network (full_mail g.on) (few_letters g.on) place w.if-place-used.true c.loop-place.invariant.1 (sym v.is_for.ensures ∙ v.if-is_for.true))
+                ] in
+                let act = w.deliver-r.ensures a.size.tasks a.numbers.now in
+                let posts = delivered_posts g.on place w.if-place-used.true act.act w.loop-j.j (omega (arith, w.loop-j.invariant.0, w.loop-j-test.false)) w.loop-j.invariant.1 w.message-l.ensures (w.wide8.ensures ∙ w.rounds.ensures) in
+                turn_as w.hintprocessors-is w.hintmoves-is w.heldprocessors-is w.heldnumbers-is w.notes-is w.board-is w.out-is w.progress-is w.network-is
+                (some_delivery g.on b.progress b.out d first (λ z. omega (arith, z)) (on_delivery g.on place w.if-place-used.true act posts) w.put_step.ensures)
+            | else-place-used w ↦
+                turn_as w.hintprocessors-is w.hintmoves-is w.heldprocessors-is w.heldnumbers-is w.notes-is w.board-is w.out-is w.progress-is w.network-is
+                (no_delivery g.on b.progress b.out d (none w.if-place-used.false))
+          ] in
           let at_is : c.wide8-at.result - 1 ≡ c.desk_after-d.result - 1 = ap (λ (x : ℕ). x - 1) c.wide8-at.ensures in
           let e : c.next_ready-t.result ≡ choice (delivery_turn g.system d).system d =
-              c.next_ready-t.ensures
-              ∙ ap (λ (i : ℕ). next_ready a.size.tasks (get_or b.last i 0) c.ready_at.result) at_is
-              ∙ ap (next_ready a.size.tasks (get_or b.last (c.desk_after-d.result - 1) 0)) c.ready_at.ensures
-              ∙ choice_of m.on d in
+          c.next_ready-t.ensures
+          ∙ ap (λ (i : ℕ). next_ready a.size.tasks (get_or b.last i 0) c.ready_at.result) at_is
+          ∙ ap (next_ready a.size.tasks (get_or b.last (c.desk_after-d.result - 1) 0)) c.ready_at.ensures
+          ∙ choice_of m.on d in
           let count : 12006 - b.k ≡ suc (12006 - (b.k + 1)) = omega (arith, c.loop-k-test.true) in
           let unrest = sym (c.rests_on.ensures ∙ rest_of g.on) ∙ c.if-rests_on.false in
           let all : c.loop-e.e ≡ rounds_of a.size.processors c.carry_out-r.result.posting = omega (arith, c.loop-e.invariant.0, c.loop-e-test.false, c.rounds-rounds.ensures) in
           let posted = c.loop-e.invariant.1 ∙ ap (after c.carry_out-r.result.posting c.if-place-used.network) all ∙ ap (enqueued_all c.if-place-used.network) (rounds_all a.size.processors c.carry_out-r.result.posting) in
           let ran =
-              some_run m.on c.if-place-used.progress c.if-place-used.out d e c.if-t-ne0.true
-              (on_run (on_chosen m.on d e at_is) c.next_ready-t.result c.carry_out-r.ensures posted)
-              c.put_step-then-t-ne0.ensures in
+          some_run m.on c.if-place-used.progress c.if-place-used.out d e c.if-t-ne0.true
+          (on_run (on_chosen m.on d e at_is) c.next_ready-t.result c.carry_out-r.ensures posted)
+          c.put_step-then-t-ne0.ensures in
           going_next g count (some_desks g.on) unrest c.desk_after-d.ensures m ran (λ z. absurd (tests_differ z refl)),
     )
 
@@ -606,34 +606,34 @@ loop-k-preserved c =
           let g = b.invariant.1 r o in
           let d = processor_id c.desk_after-d.result in
           let none : b.network.used ≤ c.loop-place.place → earliest d (messages b.network) ≡ 0 =
-              λ all. none_earliest d b.network (full_mail g.on) (few_letters g.on) (λ i h. c.loop-place.invariant.1 i (omega (arith, h, all))) in
+          λ all. none_earliest d b.network (full_mail g.on) (few_letters g.on) (λ i h. c.loop-place.invariant.1 i (omega (arith, h, all))) in
           let m : TurnMade a.codes.now a.numbers.now a.users.now a.size (delivery_turn g.system d) c.if-place-used.network
-              (lent c.if-place-used.hintprocessors c.if-place-used.hintmoves c.if-place-used.heldprocessors c.if-place-used.heldnumbers c.if-place-used.notes c.if-place-used.board) b.last
-              b.progress b.out c.if-place-used.progress c.if-place-used.out =
-              elim c.if-place-used.branch [
-                then-place-used w ↦
-                  let place = c.loop-place.place in
-                  let first : place + 1 ≡ earliest d (messages b.network) =
-                      elim c.loop-place-test.branch [
-                        else-loop-place v ↦ absurd (omega (arith, v.loop-place-test.false, w.if-place-used.true))
-                      | then-is_for v ↦
-                          add-one place
-                          ∙ sym (first_earliest d b.network (full_mail g.on) (few_letters g.on) place w.if-place-used.true c.loop-place.invariant.1 (sym v.is_for.ensures ∙ v.if-is_for.true))
-                      ] in
-                  let act = w.deliver-r.ensures a.size.tasks a.numbers.now in
-                  let posts = delivered_posts g.on place w.if-place-used.true act.act w.loop-j.j (omega (arith, w.loop-j.invariant.0, w.loop-j-test.false)) w.loop-j.invariant.1 w.message-l.ensures (w.wide8.ensures ∙ w.rounds.ensures) in
-                  turn_as w.hintprocessors-is w.hintmoves-is w.heldprocessors-is w.heldnumbers-is w.notes-is w.board-is w.out-is w.progress-is w.network-is
-                  (some_delivery g.on b.progress b.out d first (λ z. omega (arith, z)) (on_delivery g.on place w.if-place-used.true act posts) w.put_step.ensures)
-              | else-place-used w ↦
-                  turn_as w.hintprocessors-is w.hintmoves-is w.heldprocessors-is w.heldnumbers-is w.notes-is w.board-is w.out-is w.progress-is w.network-is
-                  (no_delivery g.on b.progress b.out d (none w.if-place-used.false))
-              ] in
+          (lent c.if-place-used.hintprocessors c.if-place-used.hintmoves c.if-place-used.heldprocessors c.if-place-used.heldnumbers c.if-place-used.notes c.if-place-used.board) b.last
+          b.progress b.out c.if-place-used.progress c.if-place-used.out =
+          elim c.if-place-used.branch [
+            | then-place-used+else-loop-j-test w ↦
+                let place = c.loop-place.place in
+                let first : place + 1 ≡ earliest d (messages b.network) =
+                elim c.loop-place-test.branch [
+                  | else-loop-place-test v ↦ absurd (omega (arith, v.loop-place-test.false, w.if-place-used.true))
+                  | then-loop-place-test+then-is_for v ↦
+                      add-one place
+                      ∙ sym (first_earliest d b.network (full_mail g.on) (few_letters g.on) place w.if-place-used.true c.loop-place.invariant.1 (sym v.is_for.ensures ∙ v.if-is_for.true))
+                ] in
+                let act = w.deliver-r.ensures a.size.tasks a.numbers.now in
+                let posts = delivered_posts g.on place w.if-place-used.true act.act w.loop-j.j (omega (arith, w.loop-j.invariant.0, w.loop-j-test.false)) w.loop-j.invariant.1 w.message-l.ensures (w.wide8.ensures ∙ w.rounds.ensures) in
+                turn_as w.hintprocessors-is w.hintmoves-is w.heldprocessors-is w.heldnumbers-is w.notes-is w.board-is w.out-is w.progress-is w.network-is
+                (some_delivery g.on b.progress b.out d first (λ z. omega (arith, z)) (on_delivery g.on place w.if-place-used.true act posts) w.put_step.ensures)
+            | else-place-used w ↦
+                turn_as w.hintprocessors-is w.hintmoves-is w.heldprocessors-is w.heldnumbers-is w.notes-is w.board-is w.out-is w.progress-is w.network-is
+                (no_delivery g.on b.progress b.out d (none w.if-place-used.false))
+          ] in
           let at_is : c.wide8-at.result - 1 ≡ c.desk_after-d.result - 1 = ap (λ (x : ℕ). x - 1) c.wide8-at.ensures in
           let e : c.next_ready-t.result ≡ choice (delivery_turn g.system d).system d =
-              c.next_ready-t.ensures
-              ∙ ap (λ (i : ℕ). next_ready a.size.tasks (get_or b.last i 0) c.ready_at.result) at_is
-              ∙ ap (next_ready a.size.tasks (get_or b.last (c.desk_after-d.result - 1) 0)) c.ready_at.ensures
-              ∙ choice_of m.on d in
+          c.next_ready-t.ensures
+          ∙ ap (λ (i : ℕ). next_ready a.size.tasks (get_or b.last i 0) c.ready_at.result) at_is
+          ∙ ap (next_ready a.size.tasks (get_or b.last (c.desk_after-d.result - 1) 0)) c.ready_at.ensures
+          ∙ choice_of m.on d in
           let count : 12006 - b.k ≡ suc (12006 - (b.k + 1)) = omega (arith, c.loop-k-test.true) in
           let unrest = sym (c.rests_on.ensures ∙ rest_of g.on) ∙ c.if-rests_on.false in
           let no = sym e ∙ c.if-t-ne0.false in

@@ -27,7 +27,7 @@ other-requires c =
 pub returns : goal.returns
 returns c =
     let a = c.args in
-        subst (λ (z : List ℕ).
+    subst (λ (z : List ℕ).
     let l = lent a.hintprocessors.now a.hintmoves.now a.heldprocessors.now a.heldnumbers.now a.notes.now z in
     Acted (senders_of a.users.now) (receivers_of a.users.now)
     (step_verdict (facts_in a.n.tasks a.codes.now a.numbers.now a.users.now) a.n.processors (tasks_of l) (kept_of l) a.n.used a.s)

@@ -29,8 +29,8 @@ call_desks-rest-requires c =
     let z = c.no_tables-tables in
     let on = c.start_board in
     let begins_on = λ (p : Plan) (b : Begins a.processors p (facts a.count a.codes.now a.numbers.now a.senders.now a.receivers.now a.parents.now)).
-        starts a.count a.codes.now a.numbers.now c.build.ensures b c.no_messages-network.ensures z.ensures on.ensures
-        (c.locate.ensures z.result.heldprocessors z.result.heldnumbers z.result.notes on.new.board on.ensures.whole) in
+    starts a.count a.codes.now a.numbers.now c.build.ensures b c.no_messages-network.ensures z.ensures on.ensures
+    (c.locate.ensures z.result.heldprocessors z.result.heldnumbers z.result.notes on.new.board on.ensures.whole) in
     (record { system = _; on = begins_on _ c.requires.begins }, refl)
 
 pub bounds-progress-0 : goal.bounds-progress-0
@@ -48,6 +48,6 @@ returns c p b =
     let z = c.no_tables-tables in
     let on = c.start_board in
     let begins_on = λ (p : Plan) (b : Begins a.processors p (facts a.count a.codes.now a.numbers.now a.senders.now a.receivers.now a.parents.now)).
-        starts a.count a.codes.now a.numbers.now c.build.ensures b c.no_messages-network.ensures z.ensures on.ensures
-        (c.locate.ensures z.result.heldprocessors z.result.heldnumbers z.result.notes on.new.board on.ensures.whole) in
+    starts a.count a.codes.now a.numbers.now c.build.ensures b c.no_messages-network.ensures z.ensures on.ensures
+    (c.locate.ensures z.result.heldprocessors z.result.heldnumbers z.result.notes on.new.board on.ensures.whole) in
     c.call_desks-rest.ensures _ (begins_on p b)
