@@ -19,7 +19,7 @@ settle-work-requires c =
     let z = c.no_tables-tables in
     let on = c.start_board in
     let g = starts a.count a.codes.now a.numbers.now c.build.ensures c.requires.begins z.ensures on.ensures
-        (c.locate.ensures z.result.heldprocessors z.result.heldnumbers z.result.notes on.new.board on.ensures.whole) in
+    (c.locate.ensures z.result.heldprocessors z.result.heldnumbers z.result.notes on.new.board on.ensures.whole) in
     record { plan = _; start = g }
 
 pub emit_answer-requires : goal.emit_answer-requires
@@ -28,7 +28,7 @@ emit_answer-requires c =
     let z = c.no_tables-tables in
     let on = c.start_board in
     let g = starts a.count a.codes.now a.numbers.now c.build.ensures c.requires.begins z.ensures on.ensures
-        (c.locate.ensures z.result.heldprocessors z.result.heldnumbers z.result.notes on.new.board on.ensures.whole) in
+    (c.locate.ensures z.result.heldprocessors z.result.heldnumbers z.result.notes on.new.board on.ensures.whole) in
     let r = (c.settle-work.ensures _ g).gone in
     (count_few (parts r.after), all_dependent r.after, omega (arith, few_runs r), refl, omega arith)
 
@@ -38,7 +38,7 @@ returns c p b =
     let z = c.no_tables-tables in
     let on = c.start_board in
     let g = starts a.count a.codes.now a.numbers.now c.build.ensures b z.ensures on.ensures
-        (c.locate.ensures z.result.heldprocessors z.result.heldnumbers z.result.notes on.new.board on.ensures.whole) in
+    (c.locate.ensures z.result.heldprocessors z.result.heldnumbers z.result.notes on.new.board on.ensures.whole) in
     let r = c.settle-work.ensures p g in
     let lines = c.emit_answer.ensures.more [] _ (nothing_written _) in
     record { list = r.gone.list; rests = r.rests; written = rw (lines_are r.gone.after) at lines }

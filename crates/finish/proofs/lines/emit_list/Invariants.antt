@@ -8,7 +8,7 @@ use Rattle.finish.proofs.lines.emit_list.Given as goal
 
 abbrev pub invariant-loop-t : goal.invariant-loop-t
 invariant-loop-t l =
- (l.t ≤ l.count) × LinesNext (stuck_lines_in l.codes (senders_of l.users) (receivers_of l.users) (tasks_on l.board) l.t) l.initial.progress l.initial.out l.progress l.out
+    (l.t ≤ l.count) × LinesNext (stuck_lines_in l.codes (senders_of l.users) (receivers_of l.users) (tasks_on l.board) l.t) l.initial.progress l.initial.out l.progress l.out
 
 abbrev pub decreases-loop-t : goal.decreases-loop-t
 decreases-loop-t l = l.count - l.t

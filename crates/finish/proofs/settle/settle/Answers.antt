@@ -47,10 +47,13 @@ loop-t-smaller c =
     omega (arith, runs n)
 
 pub loop-t-preserved : goal.loop-t-preserved
-loop-t-preserved c = (λ p a.
-    let (low, high, can) = c.loop-t.invariant.1.some c.loop-t-test.true in
-    let g = c.loop-t.invariant.0 p a in
-    record { list = _; after = one_further g.after c.loop-t.t can c.run.ensures }, c.runnable-t-in-loop-t.ensures)
+loop-t-preserved c = (
+  λ p a.
+      let (low, high, can) = c.loop-t.invariant.1.some c.loop-t-test.true in
+      let g = c.loop-t.invariant.0 p a in
+      record { list = _; after = one_further g.after c.loop-t.t can c.run.ensures },
+  c.runnable-t-in-loop-t.ensures,
+)
 
 pub returns : goal.returns
 returns c p a =
