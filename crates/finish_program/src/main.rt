@@ -2,6 +2,7 @@
 // of accepted run steps, and after `no` a line for each task that is stuck, with the task that it depends on; or
 // `refused` and the number.
 #![tactic(auto)]
+
 use std::io;
 
 fn print_refusal(rt: &impl Print, number: u64) -> io::Result<()> {

@@ -1,6 +1,7 @@
 // Holds the file `sent.log` against the file `received.log`: prints `yes`, or `no` and the channel, or
 // `refused` and the number.
 #![tactic(auto)]
+
 use std::io;
 
 fn say_number(rt: &impl Print, what: &str, number: u64) -> io::Result<()> {
@@ -27,5 +28,8 @@ fn main(rt: HostRuntime) -> io::Result<()> {
     let mut received = [0u8; 65536];
     let left = show_files::load(&rt, "sent.log", &mut sent);
     let got = show_files::load(&rt, "received.log", &mut received);
-    say(&rt, driver::log_files::mortarsedge_logs(&sent[..left], &received[..got]))
+    say(
+        &rt,
+        driver::log_files::mortarsedge_logs(&sent[..left], &received[..got]),
+    )
 }

@@ -1,6 +1,7 @@
 // Says whether the plan in the file `rig.plan` can be started on the number of desks that stands as
 // one digit on standard input: `accepted`, or `refused` and the number.
 #![tactic(auto)]
+
 use std::io;
 use std::io::Read;
 

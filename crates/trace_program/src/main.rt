@@ -2,6 +2,7 @@
 // the number of desks that stands as one digit on standard input, and prints the trace, or `refused`
 // and the number.
 #![tactic(auto)]
+
 use std::io;
 use std::io::Read;
 
