@@ -135,7 +135,7 @@ abbrev Made-rig : After-both_turns-q → Type 0
 Made-rig t =
     let c = t.before.before.before.before.before.before.before.before.before in
     let a = (start (opened c)).args in
-        TurnsLeft a.lengths.now a.codes.now a.users.now (opened c).open_parts-o.result.size (rig_of a.rig-1.now) a.d
+    TurnsLeft a.lengths.now a.codes.now a.users.now (opened c).open_parts-o.result.size (rig_of a.rig-1.now) a.d
     t.both_turns-q.result.delivery t.both_turns-q.result.run t.both_turns-q.result.used
     (lent t.both_turns-q.new.hintprocessors t.both_turns-q.new.hintmoves t.both_turns-q.new.heldprocessors t.both_turns-q.new.heldnumbers t.both_turns-q.new.notes t.both_turns-q.new.board)
     t.both_turns-q.new.mail t.both_turns-q.new.last

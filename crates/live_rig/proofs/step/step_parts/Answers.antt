@@ -76,7 +76,7 @@ abbrev Made-rig : After-make-q → Type 0
 Made-rig t =
     let c = t.before.before.before.before.before.before.before.before in
     let a = (start (opened c)).args in
-        StepLeft a.lengths.now a.codes.now a.users.now (opened c).open_parts-o.result.size (rig_of a.rig-1.now) a.s
+    StepLeft a.lengths.now a.codes.now a.users.now (opened c).open_parts-o.result.size (rig_of a.rig-1.now) a.s
     t.make-q.result.report t.make-q.result.used
     (lent t.make-q.new.hintprocessors t.make-q.new.hintmoves t.make-q.new.heldprocessors t.make-q.new.heldnumbers t.make-q.new.notes t.make-q.new.board)
     t.make-q.new.mail (choices c).read_chosen-chosen.result
