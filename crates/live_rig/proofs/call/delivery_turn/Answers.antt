@@ -11,9 +11,9 @@ returns-then-p-eq0 c last r d o given e = no_letter o d e c.if-p-eq0.true c.skip
 
 pub make-m-requires : goal.make-m-requires
 make-m-requires c =
-    let s = c.before.before.before.before.before.before.before.before.before in
-    let p = s.requires in
-    record { last = p.new; some = p.some; letter = delivers s.args.n p.some.system.network s.args.letter s.args.p p.letter }
+    let s = c.args in
+    let p = c.requires in
+    record { last = p.last; some = p.some; letter = delivers s.n p.some.system.network s.letter s.p p.letter }
 
 pub shape_of-mail : goal.shape_of-mail
 shape_of-mail c = search rules

@@ -11,9 +11,8 @@ no_call-requires c = search rules
 
 pub returns-then-rig-lt34120 : goal.returns-then-rig-lt34120
 returns-then-rig-lt34120 c =
-    let s = c.before.before.before in
-    let b = s.args.rig.now in
-    rw c.no_call.ensures (short_called b s.args.d _ (bad_call (held b) s.args.d (short_held b c.if-rig-lt34120.true)) refl)
+    let b = c.args.rig.now in
+    rw c.no_call.ensures (short_called b c.args.d _ (bad_call (held b) c.args.d (short_held b c.if-rig-lt34120.true)) refl)
 
 pub slice_bounds-call_image-end : goal.slice_bounds-call_image-end
 slice_bounds-call_image-end c = search rules

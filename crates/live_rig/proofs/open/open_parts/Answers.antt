@@ -4,7 +4,7 @@ use Rattle.live_rig.proofs.Opened.{opened, size_read_lem}
 use Rattle.live_rig.proofs.open.open_parts.Goals as goal
 
 pub read_parts-requires : goal.read_parts-requires
-read_parts-requires c = let s = c.before.before.before.before.before.before.before in (s.requires.0, s.requires.2)
+read_parts-requires c = (c.requires.0, c.requires.2)
 
 pub number4-used-requires : goal.number4-used-requires
 number4-used-requires c = search rules
@@ -17,20 +17,13 @@ bounds-rig-12 c = search rules
 
 pub passes-ok-requires : goal.passes-ok-requires
 passes-ok-requires c =
-    let last = c.before.before.before.before.before.before.before in
-    let count = last.before in
-    let parts = count.before in
-    let s = parts.before.before.before.before.before.before.before.before in
-    opened s.args.rig.now s.args.lengths.now s.args.codes.now s.args.tasks s.requires.0 s.requires.1 count.number4-used.ensures parts.read_parts.ensures
-    last.read_chosen-chosen.ensures
+    opened c.args.rig.now c.args.lengths.now c.args.codes.now c.args.tasks c.requires.0 c.requires.1 c.number4-used.ensures c.read_parts.ensures
+    c.read_chosen-chosen.ensures
 
 pub returns : goal.returns
 returns c =
-    let count = c.before.before.before.before.before.before.before.before.before in
-    let parts = count.before in
-    let s = parts.before.before.before.before.before.before.before.before in
     record {
       ok = c.passes-ok.ensures;
-      size = size_read_lem s.args.rig.now s.args.lengths.now s.args.codes.now s.args.tasks s.requires.0 s.requires.1 count.number4-used.ensures;
-      parts = parts.read_parts.ensures;
+      size = size_read_lem c.args.rig.now c.args.lengths.now c.args.codes.now c.args.tasks c.requires.0 c.requires.1 c.number4-used.ensures;
+      parts = c.read_parts.ensures;
     }

@@ -16,9 +16,7 @@ no_plan-requires c = search rules
 
 pub returns-then-size-gt16644 : goal.returns-then-size-gt16644
 returns-then-size-gt16644 c =
-    let n = c.before.before in
-    let s = c.before.before.before.before in
-    too_long s.args.rig.now c.no_plan.result (omega (arith, n.number4-size.ensures)) c.no_plan.ensures
+    too_long c.args.rig.now c.no_plan.result (omega (arith, c.number4-size.ensures)) c.no_plan.ensures
 
 pub overflow_add-end : goal.overflow_add-end
 overflow_add-end c = search rules
@@ -37,7 +35,5 @@ open-requires c = c.requires.1
 
 pub returns : goal.returns
 returns c =
-    let n = c.before.before.before.before.before.before.before in
-    let s = c.before.before.before.before.before.before.before.before.before in
-    let size : 20 + n.number4-size.result - 20 ≡ number_at 4 s.args.rig.now 4 = omega (arith, n.number4-size.ensures) in
-    plan_opened s.args.rig.now c.open.result (omega (arith, n.number4-size.ensures)) (ap (λ (k : ℕ). take k (drop 20 s.args.rig.now)) size) c.open.ensures
+    let size : 20 + c.number4-size.result - 20 ≡ number_at 4 c.args.rig.now 4 = omega (arith, c.number4-size.ensures) in
+    plan_opened c.args.rig.now c.open.result (omega (arith, c.number4-size.ensures)) (ap (λ (k : ℕ). take k (drop 20 c.args.rig.now)) size) c.open.ensures

@@ -11,9 +11,8 @@ bad_system-requires c = search rules
 
 pub returns-then-rig-lt34120 : goal.returns-then-rig-lt34120
 returns-then-rig-lt34120 c =
-    let s = c.before.before.before in
-    let b = s.args.rig.now in
-    rw c.bad_system.ensures (short_stepped b s.args.s _ (bad_bytes (held b) s.args.s (short_held b c.if-rig-lt34120.true)) refl)
+    let b = c.args.rig.now in
+    rw c.bad_system.ensures (short_stepped b c.args.s _ (bad_bytes (held b) c.args.s (short_held b c.if-rig-lt34120.true)) refl)
 
 pub slice_bounds-step_image-end : goal.slice_bounds-step_image-end
 slice_bounds-step_image-end c = search rules

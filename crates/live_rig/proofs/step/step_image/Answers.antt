@@ -23,19 +23,14 @@ build-requires c = (refl, users_of c.plan_in-read.ensures c.in-Accepted.is)
 
 pub step_parts-requires : goal.step_parts-requires
 step_parts-requires c =
-    let b = c.before.before.before.before in
-    let e = b.before.before.before.before.before.before in
-    let l = e.before in
-    planned l.plan_in-read.ensures e.in-Accepted.is l.requires b.build.ensures
+    planned c.plan_in-read.ensures c.in-Accepted.is c.requires c.build.ensures
 
 pub shape_of-rig-in-Refused : goal.shape_of-rig-in-Refused
 shape_of-rig-in-Refused c = search rules
 
 pub returns-in-Refused : goal.returns-in-Refused
 returns-in-Refused c =
-    let l = c.before.before in
-    let s = l.before.before.before.before.before.before.before in
-    rw c.bad_system.ensures (bad_bytes s.args.rig.now s.args.s (refused_plan l.plan_in-read.ensures c.in-Refused.is))
+    rw c.bad_system.ensures (bad_bytes c.args.rig.now c.args.s (refused_plan c.plan_in-read.ensures c.in-Refused.is))
 
 pub shape_of-rig-in-Accepted : goal.shape_of-rig-in-Accepted
 shape_of-rig-in-Accepted c = search rules
