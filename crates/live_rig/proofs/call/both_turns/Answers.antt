@@ -1,6 +1,4 @@
 -- `both_turns`: the delivery, and then the run.
-use Rattle.rules.specs.Dispatch.{delivery_turn}
-use borrow.Author.Rules.{rules}
 use Rattle.live_rig.proofs.call.both_turns.Goals as goal
 
 pub delivery_turn-a-requires : goal.delivery_turn-a-requires
@@ -21,9 +19,6 @@ run_turn-b-requires c =
       first = p.runs.first;
       most = p.runs.most;
     }
-
-pub shape_of-mail : goal.shape_of-mail
-shape_of-mail c = search rules
 
 pub returns : goal.returns
 returns c r o given e =

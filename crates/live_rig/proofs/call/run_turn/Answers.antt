@@ -3,36 +3,17 @@ use mathlib.Core.Path.{sym, ap, ◌∙◌}
 use Prim.Native.Nat.{ℕ, ◌-◌}
 use Rattle.rules.specs.declared.message.Message.TheVariants.{Empty}
 use Rattle.live_rig.proofs.Calls.{few_tasks, few_choices, choice_of, live_chosen, no_task_lem, task, run_delivers}
-use borrow.Author.Rules.{rules}
 use Rattle.live_rig.proofs.call.run_turn.Goals as goal
-
-pub wide8-k-requires : goal.wide8-k-requires
-wide8-k-requires c = search rules
-
-pub overflow_sub-k : goal.overflow_sub-k
-overflow_sub-k c = search rules
-
-pub bounds-last-k : goal.bounds-last-k
-bounds-last-k c = search rules
-
-pub ready_at-requires : goal.ready_at-requires
-ready_at-requires c = search rules
 
 pub next_ready-t-requires : goal.next_ready-t-requires
 next_ready-t-requires c =
     let o = c.requires.some.on in
     (few_tasks o, rw c.wide8-k.ensures (few_choices o c.args.d))
 
-pub skipped-requires : goal.skipped-requires
-skipped-requires c = search rules
-
 pub returns-then-t-eq0 : goal.returns-then-t-eq0
 returns-then-t-eq0 c r o =
     let found = rw (c.wide8-k.ensures, c.ready_at.ensures) at c.next_ready-t.ensures ∙ choice_of o c.args.d in
     no_task_lem o c.args.d (sym found ∙ c.if-t-eq0.true) c.skipped.ensures.1 c.skipped.ensures.0
-
-pub bounds-last-k-2 : goal.bounds-last-k-2
-bounds-last-k-2 c = search rules
 
 pub make-m-requires : goal.make-m-requires
 make-m-requires c =
@@ -45,9 +26,6 @@ make-m-requires c =
       some = record { accepted = x.accepted; system = _; on = live_chosen x.on d found place };
       letter = run_delivers c.args.n x.system.network Empty c.next_ready-t.result;
     }
-
-pub shape_of-mail : goal.shape_of-mail
-shape_of-mail c = search rules
 
 pub returns : goal.returns
 returns c r o =

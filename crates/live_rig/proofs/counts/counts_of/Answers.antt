@@ -1,5 +1,4 @@
 -- `counts_of` opens the bytes, and counts on the board.
-use borrow.Author.Rules.{rules}
 use mathlib.Core.Path.{refl}
 use borrow.Author.Tests.{not-true, not-false}
 use Rattle.live_rig.proofs.Opened.{plan_of_lem, plan_accepted, users_of, blank_room, refused_plan, refused_here, sound_here}
@@ -9,20 +8,8 @@ use Rattle.live_rig.proofs.counts.counts_of.Goals as goal
 pub plan_in-read-requires : goal.plan_in-read-requires
 plan_in-read-requires c = (c.requires, (refl, refl, refl, refl))
 
-pub enum_known-answer : goal.enum_known-answer
-enum_known-answer c = search rules
-
-pub refused-requires : goal.refused-requires
-refused-requires c = search rules
-
-pub enum_told-1 : goal.enum_told-1
-enum_told-1 c = search rules
-
 pub open_parts-o-requires : goal.open_parts-o-requires
 open_parts-o-requires c = (c.requires, plan_of_lem c.plan_in-read.ensures c.in-Accepted.is, blank_room)
-
-pub refused-requires-then-not-o : goal.refused-requires-then-not-o
-refused-requires-then-not-o c = search rules
 
 pub returns-then-not-o : goal.returns-then-not-o
 returns-then-not-o c =

@@ -1,5 +1,6 @@
 -- `call_parts`: the parts of the bytes, 9, 15, the two turns on them and on the mail, and the parts written.
-use mathlib.Core.Path.{◌≡◌, ◌≢◌, sym, ap, ◌∙◌}
+use mathlib.Core.Logic.{◌≢◌}
+use mathlib.Core.Path.{◌≡◌, sym, ap, ◌∙◌}
 use mathlib.Core.Bool.{true, Bool}
 use native.Mathlib.Omega.{arith}
 use borrow.Author.Tests.{not-true, not-false}
@@ -8,6 +9,7 @@ use Rattle.rig_write.proofs.Loans.{back_long}
 use Rattle.live_rig.specs.Open.{sound, size_of}
 use mathlib.Core.List.{List}
 use Prim.Native.Nat.{ℕ, ◌≤◌}
+use Rattle.base.specs.Choice.{within}
 use Rattle.base.proofs.Tests.{and_left, and_right, within_low, within_high}
 use Rattle.plan.specs.declared.ProcessorId.{ProcessorId}
 use Rattle.rules.specs.declared.message.Message.{Message}
@@ -23,7 +25,6 @@ use Rattle.live_rig.proofs.Turns.{live_opened, accepted_opened}
 use Rattle.live_rig.proofs.Making.{mail_long}
 use Rattle.live_rig.proofs.Calls.{earliest_there}
 use Rattle.live_rig.proofs.Called.{bad_call, no_desk, call_written}
-use borrow.Author.Rules.{rules}
 use Rattle.live_rig.proofs.desk_call.call_parts.Goals as goal
 
 -- how many letters there are, and that the earliest for a desk is one of them
@@ -45,40 +46,16 @@ unfolding rig_of
 earliest_is b d e = e
 
 -- the desk is tested on the rig's desks
-desk_tested : {b : List ℕ} {n : Size} {d : ℕ} {t : Bool} → n ≡ size_of (rig_of b) → within 1 n.processors d ≡ t → within 1 (rig_of b).processors d ≡ t
-desk_tested e h = rw (← ap (λ (s : Size). s.processors) e) h
-
-pub bytes_fit-requires : goal.bytes_fit-requires
-bytes_fit-requires c = search rules
+desk_tested : (b : List ℕ) {n : Size} (d : ProcessorId) {t : Bool} → n ≡ size_of (rig_of b) → within 1 n.processors d.0 ≡ t → within 1 (rig_of b).processors d.0 ≡ t
+desk_tested b d e h = rw (← ap (λ (s : Size). s.processors) e) h
 
 pub open_parts-o-requires : goal.open_parts-o-requires
 open_parts-o-requires c = (c.requires.long, c.requires.plan, blank_room)
-
-pub no_call-requires : goal.no_call-requires
-no_call-requires c = search rules
-
-pub shape_of-rig-then-not-o : goal.shape_of-rig-then-not-o
-shape_of-rig-then-not-o c = search rules
 
 pub returns-then-not-o : goal.returns-then-not-o
 returns-then-not-o c =
     let o = c.open_parts-o in
     rw c.no_call.ensures (bad_call c.args.rig.now c.args.d (refused_here o.ensures (not-true o.result.ok c.if-not-o.true)))
-
-pub wide8-requires : goal.wide8-requires
-wide8-requires c = search rules
-
-pub wide8-requires-2 : goal.wide8-requires-2
-wide8-requires-2 c = search rules
-
-pub is_within-requires : goal.is_within-requires
-is_within-requires c = search rules
-
-pub no_call-requires-then-not-is_within : goal.no_call-requires-then-not-is_within
-no_call-requires-then-not-is_within c = search rules
-
-pub shape_of-rig-then-not-is_within : goal.shape_of-rig-then-not-is_within
-shape_of-rig-then-not-is_within c = search rules
 
 pub returns-then-not-is_within : goal.returns-then-not-is_within
 returns-then-not-is_within c =
@@ -87,10 +64,7 @@ returns-then-not-is_within c =
     let passed = sound_here o.ensures (not-false o.result.ok c.if-not-o.false) in
     rw c.no_call-then-not-is_within.ensures
     (no_desk a.rig.now a.d passed
-    (desk_tested o.ensures.size (sym (rw (c.wide8-2.ensures, c.wide8.ensures) at c.is_within.ensures) ∙ not-true c.is_within.result c.if-not-is_within.true-raw)))
-
-pub read_chosen-chosen-requires : goal.read_chosen-chosen-requires
-read_chosen-chosen-requires c = search rules
+    (desk_tested a.rig.now a.d o.ensures.size (sym (rw (c.wide8-2.ensures, c.wide8.ensures) at c.is_within.ensures) ∙ not-true c.is_within.result c.if-not-is_within.true-raw)))
 
 pub earliest_in-p-requires : goal.earliest_in-p-requires
 earliest_in-p-requires c =
@@ -100,21 +74,12 @@ earliest_in-p-requires c =
     let b = a.rig.now in
     (c.requires.long, and_left (is_image b) (system_ok (rig_of b)) passed, used_is b o.ensures.size, few_here o.ensures (not-false o.result.ok c.if-not-o.false))
 
-pub wide16-requires : goal.wide16-requires
-wide16-requires c = search rules
-
 pub letter_at-letter-requires : goal.letter_at-letter-requires
 letter_at-letter-requires c =
     let a = c.args in
     let o = c.open_parts-o in
     let passed = sound_here o.ensures (not-false o.result.ok c.if-not-o.false) in
     (c.requires.long, omega (arith, c.wide16.ensures, c.earliest_in-p.ensures, mail_there a.rig.now a.d passed))
-
-pub slice_bounds-both_turns-count : goal.slice_bounds-both_turns-count
-slice_bounds-both_turns-count c = search rules
-
-pub slice_bounds-both_turns-start : goal.slice_bounds-both_turns-start
-slice_bounds-both_turns-start c = search rules
 
 pub slice_bounds-both_turns-end : goal.slice_bounds-both_turns-end
 slice_bounds-both_turns-end c = omega (arith, c.requires.long)
@@ -124,7 +89,7 @@ both_turns-q-requires c =
     let a = c.args in
     let o = c.open_parts-o in
     let passed = sound_here o.ensures (not-false o.result.ok c.if-not-o.false) in
-    let desk = desk_tested o.ensures.size (sym (rw (c.wide8-2.ensures, c.wide8.ensures) at c.is_within.ensures) ∙ not-false c.is_within.result c.if-not-is_within.false-raw) in
+    let desk = desk_tested a.rig.now a.d o.ensures.size (sym (rw (c.wide8-2.ensures, c.wide8.ensures) at c.is_within.ensures) ∙ not-false c.is_within.result c.if-not-is_within.false-raw) in
     let live = live_opened a.rig.now a.lengths.now a.codes.now a.users.now a.tasks c.requires o.ensures.parts o.ensures.size c.read_chosen-chosen.ensures passed c.bytes_fit.ensures in
     let given = letter_given a.rig.now c.wide16.ensures c.letter_at-letter.ensures in
     let position = earliest_is a.rig.now a.d c.earliest_in-p.ensures in
@@ -140,33 +105,12 @@ both_turns-q-requires c =
       position = position;
     }
 
-pub bytes_fit-requires-2 : goal.bytes_fit-requires-2
-bytes_fit-requires-2 c = search rules
-
-pub counts_fit-requires : goal.counts_fit-requires
-counts_fit-requires c = search rules
-
-pub bytes_fit-requires-3 : goal.bytes_fit-requires-3
-bytes_fit-requires-3 c = search rules
-
-pub bytes_fit-requires-4 : goal.bytes_fit-requires-4
-bytes_fit-requires-4 c = search rules
-
-pub bytes_fit-requires-5 : goal.bytes_fit-requires-5
-bytes_fit-requires-5 c = search rules
-
-pub numbers_fit-requires : goal.numbers_fit-requires
-numbers_fit-requires c = search rules
-
-pub bytes_fit-requires-6 : goal.bytes_fit-requires-6
-bytes_fit-requires-6 c = search rules
-
 pub write_lent-requires : goal.write_lent-requires
 write_lent-requires c =
     let a = c.args in
     let o = c.open_parts-o in
     let passed = sound_here o.ensures (not-false o.result.ok c.if-not-o.false) in
-    let desk = desk_tested o.ensures.size (sym (rw (c.wide8-2.ensures, c.wide8.ensures) at c.is_within.ensures) ∙ not-false c.is_within.result c.if-not-is_within.false-raw) in
+    let desk = desk_tested a.rig.now a.d o.ensures.size (sym (rw (c.wide8-2.ensures, c.wide8.ensures) at c.is_within.ensures) ∙ not-false c.is_within.result c.if-not-is_within.false-raw) in
     let live = live_opened a.rig.now a.lengths.now a.codes.now a.users.now a.tasks c.requires o.ensures.parts o.ensures.size c.read_chosen-chosen.ensures passed c.bytes_fit.ensures in
     let given = letter_given a.rig.now c.wide16.ensures c.letter_at-letter.ensures in
     let position = earliest_is a.rig.now a.d c.earliest_in-p.ensures in
@@ -178,7 +122,7 @@ shape_of-rig c =
     let a = c.args in
     let o = c.open_parts-o in
     let passed = sound_here o.ensures (not-false o.result.ok c.if-not-o.false) in
-    let desk = desk_tested o.ensures.size (sym (rw (c.wide8-2.ensures, c.wide8.ensures) at c.is_within.ensures) ∙ not-false c.is_within.result c.if-not-is_within.false-raw) in
+    let desk = desk_tested a.rig.now a.d o.ensures.size (sym (rw (c.wide8-2.ensures, c.wide8.ensures) at c.is_within.ensures) ∙ not-false c.is_within.result c.if-not-is_within.false-raw) in
     let live = live_opened a.rig.now a.lengths.now a.codes.now a.users.now a.tasks c.requires o.ensures.parts o.ensures.size c.read_chosen-chosen.ensures passed c.bytes_fit.ensures in
     let given = letter_given a.rig.now c.wide16.ensures c.letter_at-letter.ensures in
     let position = earliest_is a.rig.now a.d c.earliest_in-p.ensures in
@@ -190,7 +134,7 @@ returns c =
     let a = c.args in
     let o = c.open_parts-o in
     let passed = sound_here o.ensures (not-false o.result.ok c.if-not-o.false) in
-    let desk = desk_tested o.ensures.size (sym (rw (c.wide8-2.ensures, c.wide8.ensures) at c.is_within.ensures) ∙ not-false c.is_within.result c.if-not-is_within.false-raw) in
+    let desk = desk_tested a.rig.now a.d o.ensures.size (sym (rw (c.wide8-2.ensures, c.wide8.ensures) at c.is_within.ensures) ∙ not-false c.is_within.result c.if-not-is_within.false-raw) in
     let live = live_opened a.rig.now a.lengths.now a.codes.now a.users.now a.tasks c.requires o.ensures.parts o.ensures.size c.read_chosen-chosen.ensures passed c.bytes_fit.ensures in
     let given = letter_given a.rig.now c.wide16.ensures c.letter_at-letter.ensures in
     let position = earliest_is a.rig.now a.d c.earliest_in-p.ensures in

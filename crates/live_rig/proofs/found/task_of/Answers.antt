@@ -1,5 +1,4 @@
 -- `task_of` opens the bytes, and takes the task from the board.
-use borrow.Author.Rules.{rules}
 use mathlib.Core.Path.{◌≡◌, refl, sym, ap, ◌∙◌}
 use mathlib.Core.Bool.{Bool}
 use borrow.Author.Tests.{not-true, not-false}
@@ -20,30 +19,12 @@ tested t e plan = e ∙ ap (λ (x : Plan). task_number_ok x.tasks t) plan
 pub plan_in-read-requires : goal.plan_in-read-requires
 plan_in-read-requires c = (c.requires, (refl, refl, refl, refl))
 
-pub enum_known-answer : goal.enum_known-answer
-enum_known-answer c = search rules
-
-pub refused-requires : goal.refused-requires
-refused-requires c = search rules
-
-pub enum_told-1 : goal.enum_told-1
-enum_told-1 c = search rules
-
 pub open_parts-o-requires : goal.open_parts-o-requires
 open_parts-o-requires c = (c.requires, plan_of_lem c.plan_in-read.ensures c.in-Accepted.is, blank_room)
-
-pub refused-requires-then-not-o : goal.refused-requires-then-not-o
-refused-requires-then-not-o c = search rules
 
 pub returns-then-not-o : goal.returns-then-not-o
 returns-then-not-o c =
     found_nine _ _ (refused_here c.open_parts-o.ensures (not-true c.open_parts-o.result.ok c.if-not-o.true)) c.refused-then-not-o.ensures
-
-pub has_task-requires : goal.has_task-requires
-has_task-requires c = search rules
-
-pub refused-requires-then-not-has_task : goal.refused-requires-then-not-has_task
-refused-requires-then-not-has_task c = search rules
 
 pub returns-then-not-has_task : goal.returns-then-not-has_task
 returns-then-not-has_task c =

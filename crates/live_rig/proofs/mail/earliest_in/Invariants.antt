@@ -8,7 +8,7 @@ use Rattle.live_rig.proofs.mail.earliest_in.Given as goal
 
 abbrev pub invariant-loop-k : goal.invariant-loop-k
 invariant-loop-k l =
- (l.k ≤ l.used) × ((i : ℕ) → i < l.k → eqb (get_or l.rig (30026 + 16 * i) 0) l.desk ≡ false)
+    (l.k ≤ l.used) × ((i : ℕ) → i < l.k → eqb (get_or l.rig (30026 + 16 * i) 0) l.desk ≡ false)
 
 abbrev pub decreases-loop-k : goal.decreases-loop-k
 decreases-loop-k l = l.used - l.k

@@ -1,5 +1,4 @@
 -- `rest_of` opens the bytes, and asks for rest on the board.
-use borrow.Author.Rules.{rules}
 use mathlib.Core.Path.{refl, ◌∙◌}
 use borrow.Author.Tests.{not-true, not-false}
 use Rattle.live_rig.proofs.Opened.{plan_of_lem, blank_room, refused_plan, refused_here, sound_here, placed_here, used_here, few_here, quiet_here}
@@ -8,12 +7,6 @@ use Rattle.live_rig.proofs.rest.rest_of.Goals as goal
 
 pub plan_in-read-requires : goal.plan_in-read-requires
 plan_in-read-requires c = (c.requires, (refl, refl, refl, refl))
-
-pub enum_known-answer : goal.enum_known-answer
-enum_known-answer c = search rules
-
-pub enum_told-1 : goal.enum_told-1
-enum_told-1 c = search rules
 
 pub open_parts-o-requires : goal.open_parts-o-requires
 open_parts-o-requires c = (c.requires, plan_of_lem c.plan_in-read.ensures c.in-Accepted.is, blank_room)

@@ -1,5 +1,4 @@
 -- `start_in` makes the parts of the start, and writes them.
-use borrow.Author.Rules.{rules}
 use mathlib.Core.Path.{refl}
 use native.Mathlib.Omega.{arith}
 use Rattle.live_rig.proofs.Starts.{few_users, plan_room_lem, start_written}
@@ -7,15 +6,6 @@ use Rattle.live_rig.proofs.start.start_in.Goals as goal
 
 pub build-requires : goal.build-requires
 build-requires c = (refl, few_users c.requires)
-
-pub no_tables-tables-requires : goal.no_tables-tables-requires
-no_tables-tables-requires c = search rules
-
-pub start_board-requires : goal.start_board-requires
-start_board-requires c = search rules
-
-pub locate-requires : goal.locate-requires
-locate-requires c = search rules
 
 pub write_head-requires : goal.write_head-requires
 write_head-requires c = (c.requires.long, plan_room_lem c.requires (λ i. omega (arith, c.shared_slice_known-1.given i)))
@@ -25,9 +15,6 @@ put_zeros-requires c = omega (arith, c.rig-1.given, c.requires.long)
 
 pub write_lent-requires : goal.write_lent-requires
 write_lent-requires c = omega (arith, c.rig-2-1.given, c.rig-1.given, c.requires.long)
-
-pub shape_of-rig : goal.shape_of-rig
-shape_of-rig c = search rules
 
 pub returns : goal.returns
 returns c =

@@ -8,42 +8,20 @@ use Rattle.live_rig.proofs.Opened.{blank_room, sound_here, few_here, refused_her
 use Rattle.live_rig.proofs.Turns.{live_opened, accepted_opened, letter_opened}
 use Rattle.live_rig.proofs.Making.{mail_long}
 use Rattle.live_rig.proofs.Stepped.{bad_bytes, turn_refused, turn_written}
-use borrow.Author.Rules.{rules}
 use Rattle.live_rig.proofs.step.step_parts.Goals as goal
-
-pub bytes_fit-requires : goal.bytes_fit-requires
-bytes_fit-requires c = search rules
 
 pub open_parts-o-requires : goal.open_parts-o-requires
 open_parts-o-requires c = (c.requires.long, c.requires.plan, blank_room)
-
-pub bad_system-requires : goal.bad_system-requires
-bad_system-requires c = search rules
-
-pub shape_of-rig-then-not-o : goal.shape_of-rig-then-not-o
-shape_of-rig-then-not-o c = search rules
 
 pub returns-then-not-o : goal.returns-then-not-o
 returns-then-not-o c =
     let o = c.open_parts-o in
     rw c.bad_system.ensures (bad_bytes c.args.rig.now c.args.s (refused_here o.ensures (not-true o.result.ok c.if-not-o.true)))
 
-pub read_chosen-chosen-requires : goal.read_chosen-chosen-requires
-read_chosen-chosen-requires c = search rules
-
-pub position-requires : goal.position-requires
-position-requires c = search rules
-
 pub letter_at-letter-requires : goal.letter_at-letter-requires
 letter_at-letter-requires c =
     let o = c.open_parts-o in
     (c.requires.long, omega (arith, c.position.ensures.1, few_here o.ensures (not-false o.result.ok c.if-not-o.false)))
-
-pub slice_bounds-make-count : goal.slice_bounds-make-count
-slice_bounds-make-count c = search rules
-
-pub slice_bounds-make-start : goal.slice_bounds-make-start
-slice_bounds-make-start c = search rules
 
 pub slice_bounds-make-end : goal.slice_bounds-make-end
 slice_bounds-make-end c = omega (arith, c.requires.long)
@@ -60,9 +38,6 @@ make-q-requires c =
       some = record { accepted = accepted_opened a.rig.now a.lengths.now a.codes.now a.users.now a.tasks c.requires o.ensures.parts o.ensures.size c.read_chosen-chosen.ensures passed; system = _; on = live };
       letter = given;
     }
-
-pub is_accepted-requires : goal.is_accepted-requires
-is_accepted-requires c = search rules
 
 pub shape_of-rig-then-not-is_accepted : goal.shape_of-rig-then-not-is_accepted
 shape_of-rig-then-not-is_accepted c =
@@ -84,27 +59,6 @@ returns-then-not-is_accepted c =
     let made = c.make-q.ensures _ _ live given in
     turn_refused a.rig.now a.lengths.now a.codes.now a.users.now a.tasks c.requires passed a.s c.make-q.result.report made live.mail_in_lem.bytes
     (sym c.is_accepted.ensures ∙ not-true c.is_accepted.result c.if-not-is_accepted.true-raw)
-
-pub bytes_fit-requires-2 : goal.bytes_fit-requires-2
-bytes_fit-requires-2 c = search rules
-
-pub counts_fit-requires : goal.counts_fit-requires
-counts_fit-requires c = search rules
-
-pub bytes_fit-requires-3 : goal.bytes_fit-requires-3
-bytes_fit-requires-3 c = search rules
-
-pub bytes_fit-requires-4 : goal.bytes_fit-requires-4
-bytes_fit-requires-4 c = search rules
-
-pub bytes_fit-requires-5 : goal.bytes_fit-requires-5
-bytes_fit-requires-5 c = search rules
-
-pub numbers_fit-requires : goal.numbers_fit-requires
-numbers_fit-requires c = search rules
-
-pub bytes_fit-requires-6 : goal.bytes_fit-requires-6
-bytes_fit-requires-6 c = search rules
 
 pub write_lent-requires : goal.write_lent-requires
 write_lent-requires c =
