@@ -1,5 +1,6 @@
 // A call of a desk's dispatcher, as a C program calls it.
 #![tactic(auto)]
+
 ghost use Rattle.std.specs.Prelude.{◌≡◌, ◌+◌, ◌*◌, ◌≤◌, length};
 ghost use Rattle.plan_write.specs.output.Output.{overlay};
 ghost use Rattle.rules.specs.Dispatch.{step_of, report_of};

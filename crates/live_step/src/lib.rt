@@ -1,5 +1,6 @@
 // One step of a live rig, as a C program calls it.
 #![tactic(auto)]
+
 ghost use Rattle.std.specs.Prelude.{◌≡◌};
 ghost use Rattle.image.specs.Live.{step_given, StepMeets};
 
