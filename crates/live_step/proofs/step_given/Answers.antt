@@ -2,17 +2,7 @@
 use mathlib.Core.Path.{refl}
 use native.Mathlib.Omega.{arith}
 use borrow.Author.Tests.{le-leb, lt-leb}
-use borrow.Author.Rules.{rules}
 use Rattle.live_step.proofs.step_given.Goals as goal
-
-pub overflow_cast-result : goal.overflow_cast-result
-overflow_cast-result c = search rules
-
-pub overflow_cast-result-then-number-le65535 : goal.overflow_cast-result-then-number-le65535
-overflow_cast-result-then-number-le65535 c = search rules
-
-pub overflow_cast-result-then-number-le65535-2 : goal.overflow_cast-result-then-number-le65535-2
-overflow_cast-result-then-number-le65535-2 c = search rules
 
 pub returns-then-number-le65535 : goal.returns-then-number-le65535
 returns-then-number-le65535 c = rw (le-leb _ 255 c.if-kind-le255.true, le-leb _ 255 c.if-task-le255.true, le-leb _ 65535 c.if-number-le65535.true) refl

@@ -1,5 +1,4 @@
 -- `mortarsedge_driver_view`.
-use borrow.Author.Rules.{rules}
 use native.Mathlib.Omega.{arith}
 use mathlib.Core.Path.{ap, ◌∙◌}
 use Prim.Native.Nat.{ℕ}
@@ -12,37 +11,17 @@ use Rattle.live.proofs.rig_views.mortarsedge_driver_view.Goals as goal
 pub returns-then-out-lt21 : goal.returns-then-out-lt21
 returns-then-out-lt21 c = driver_short _ _ _ c.if-out-lt21.true
 
-pub byte_given-requires : goal.byte_given-requires
-byte_given-requires c = search rules
-
-pub find-f-requires : goal.find-f-requires
-find-f-requires c = search rules
-
 pub returns-then-f-ne0 : goal.returns-then-f-ne0
 returns-then-f-ne0 c =
-    let e = c.before.before.before.before in
-    let a = e.args in
-    driver_refused a.rig.now a.task a.out-1.now (rw c.byte_given.ensures at c.find-f.ensures) e.if-out-lt21.false c.if-f-ne0.true
-
-pub driver_view-v-requires : goal.driver_view-v-requires
-driver_view-v-requires c = search rules
+    let a = c.args in
+    driver_refused a.rig.now a.task a.out.now (rw c.byte_given.ensures at c.find-f.ensures) c.if-out-lt21.false c.if-f-ne0.true
 
 pub driver_bytes-bytes-requires : goal.driver_bytes-bytes-requires
 driver_bytes-bytes-requires c = rw c.driver_view-v.ensures (omega (arith, size_few 64 c.find-f.result.task.children))
 
-pub slice_bounds-put_bytes-end : goal.slice_bounds-put_bytes-end
-slice_bounds-put_bytes-end c = search rules
-
-pub put_bytes-requires : goal.put_bytes-requires
-put_bytes-requires c = search rules
-
-pub shape_of-out : goal.shape_of-out
-shape_of-out c = search rules
-
 pub returns : goal.returns
 returns c =
-    let e = c.before.before.before.before.before.before.before.before.before.before.before.before in
-    let a = e.args in
-    driver_shown a.rig.now a.task a.out-1.now (rw c.byte_given.ensures at c.find-f.ensures) e.if-out-lt21.false c.if-f-ne0.false
-    (put_driver a.out-1.now (driver_view (task_id (byte_given a.task)) c.find-f.result.task) (c.driver_bytes-bytes.ensures ∙ ap driver_bytes (c.driver_view-v.ensures ∙ ap (λ (n : ℕ). driver_view (task_id n) c.find-f.result.task) c.byte_given.ensures))
+    let a = c.args in
+    driver_shown a.rig.now a.task a.out.now (rw c.byte_given.ensures at c.find-f.ensures) c.if-out-lt21.false c.if-f-ne0.false
+    (put_driver a.out.now (driver_view (task_id (byte_given a.task)) c.find-f.result.task) (c.driver_bytes-bytes.ensures ∙ ap driver_bytes (c.driver_view-v.ensures ∙ ap (λ (n : ℕ). driver_view (task_id n) c.find-f.result.task) c.byte_given.ensures))
     c.put_bytes.ensures)

@@ -1,5 +1,4 @@
 -- `mortarsedge_tablet_view`.
-use borrow.Author.Rules.{rules}
 use mathlib.Core.Path.{ap, ◌∙◌}
 use Prim.Native.Nat.{ℕ}
 use Rattle.rules.specs.Numbers.{task_id}
@@ -11,37 +10,14 @@ use Rattle.live.proofs.rig_views.mortarsedge_tablet_view.Goals as goal
 pub returns-then-out-lt4 : goal.returns-then-out-lt4
 returns-then-out-lt4 c = tablet_short _ _ _ c.if-out-lt4.true
 
-pub byte_given-requires : goal.byte_given-requires
-byte_given-requires c = search rules
-
-pub find-f-requires : goal.find-f-requires
-find-f-requires c = search rules
-
 pub returns-then-f-ne0 : goal.returns-then-f-ne0
 returns-then-f-ne0 c =
-    let e = c.before.before.before.before in
-    let a = e.args in
-    tablet_refused a.rig.now a.task a.out-1.now (rw c.byte_given.ensures at c.find-f.ensures) e.if-out-lt4.false c.if-f-ne0.true
-
-pub tablet_view-v-requires : goal.tablet_view-v-requires
-tablet_view-v-requires c = search rules
-
-pub tablet_bytes-bytes-requires : goal.tablet_bytes-bytes-requires
-tablet_bytes-bytes-requires c = search rules
-
-pub slice_bounds-put_bytes-end : goal.slice_bounds-put_bytes-end
-slice_bounds-put_bytes-end c = search rules
-
-pub put_bytes-requires : goal.put_bytes-requires
-put_bytes-requires c = search rules
-
-pub shape_of-out : goal.shape_of-out
-shape_of-out c = search rules
+    let a = c.args in
+    tablet_refused a.rig.now a.task a.out.now (rw c.byte_given.ensures at c.find-f.ensures) c.if-out-lt4.false c.if-f-ne0.true
 
 pub returns : goal.returns
 returns c =
-    let e = c.before.before.before.before.before.before.before.before.before.before.before.before in
-    let a = e.args in
-    tablet_shown a.rig.now a.task a.out-1.now (rw c.byte_given.ensures at c.find-f.ensures) e.if-out-lt4.false c.if-f-ne0.false
-    (put_tablet a.out-1.now (tablet_view (task_id (byte_given a.task)) c.find-f.result.task) (c.tablet_bytes-bytes.ensures ∙ ap tablet_bytes (c.tablet_view-v.ensures ∙ ap (λ (n : ℕ). tablet_view (task_id n) c.find-f.result.task) c.byte_given.ensures))
+    let a = c.args in
+    tablet_shown a.rig.now a.task a.out.now (rw c.byte_given.ensures at c.find-f.ensures) c.if-out-lt4.false c.if-f-ne0.false
+    (put_tablet a.out.now (tablet_view (task_id (byte_given a.task)) c.find-f.result.task) (c.tablet_bytes-bytes.ensures ∙ ap tablet_bytes (c.tablet_view-v.ensures ∙ ap (λ (n : ℕ). tablet_view (task_id n) c.find-f.result.task) c.byte_given.ensures))
     c.put_bytes.ensures)

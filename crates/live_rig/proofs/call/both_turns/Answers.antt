@@ -1,6 +1,4 @@
 -- `both_turns`: the delivery, and then the run.
-use Rattle.rules.specs.Dispatch.{delivery_turn}
-use borrow.Author.Rules.{rules}
 use Rattle.live_rig.proofs.call.both_turns.Goals as goal
 
 pub delivery_turn-a-requires : goal.delivery_turn-a-requires
@@ -10,28 +8,20 @@ delivery_turn-a-requires c =
 
 pub run_turn-b-requires : goal.run_turn-b-requires
 run_turn-b-requires c =
-    let t = c.before.before.before.before.before.before.before.before.before.before in
-    let s = t.before.before.before.before.before.before.before.before.before in
-    let p = s.requires in
+    let p = c.requires in
     record {
       some =
           record {
             accepted = p.runs.some.accepted;
             system = _;
-            on = (t.delivery_turn-a.ensures _ _ s.args.d p.runs.some.on p.letter p.position).on;
+            on = (c.delivery_turn-a.ensures _ _ c.args.d p.runs.some.on p.letter p.position).on;
           };
       first = p.runs.first;
       most = p.runs.most;
     }
 
-pub shape_of-mail : goal.shape_of-mail
-shape_of-mail c = search rules
-
 pub returns : goal.returns
 returns c r o given e =
-    let w = c.before.before in
-    let t = w.before.before.before.before.before.before.before.before.before.before.before in
-    let d = t.args.d in
-    let x = t.delivery_turn-a.ensures _ _ d o given e in
-    let y = w.run_turn-b.ensures _ x.on in
+    let x = c.delivery_turn-a.ensures _ _ c.args.d o given e in
+    let y = c.run_turn-b.ensures _ x.on in
     record { delivery = x.turn; run = record { turn = y.turn; on = y.on } }

@@ -1,22 +1,15 @@
 -- `delivery_turn`: the letter is delivered, if there is one.
 use Rattle.live_rig.proofs.Calls.{no_letter, letter, delivers}
-use borrow.Author.Rules.{rules}
 use Rattle.live_rig.proofs.call.delivery_turn.Goals as goal
-
-pub skipped-requires : goal.skipped-requires
-skipped-requires c = search rules
 
 pub returns-then-p-eq0 : goal.returns-then-p-eq0
 returns-then-p-eq0 c last r d o given e = no_letter o d e c.if-p-eq0.true c.skipped.ensures.1 c.skipped.ensures.0
 
 pub make-m-requires : goal.make-m-requires
 make-m-requires c =
-    let s = c.before.before.before.before.before.before.before.before.before in
-    let p = s.requires in
-    record { last = p.new; some = p.some; letter = delivers s.args.n p.some.system.network s.args.letter s.args.p p.letter }
-
-pub shape_of-mail : goal.shape_of-mail
-shape_of-mail c = search rules
+    let s = c.args in
+    let p = c.requires in
+    record { last = p.last; some = p.some; letter = delivers s.n p.some.system.network s.letter s.p p.letter }
 
 pub returns : goal.returns
 returns c last r d o given e =

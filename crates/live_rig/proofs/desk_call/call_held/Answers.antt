@@ -3,29 +3,18 @@ use mathlib.Core.Path.{refl, sym}
 use Rattle.image.specs.Live.{held}
 use Rattle.live_rig.proofs.Refused.{held_long, short_held}
 use Rattle.live_rig.proofs.Called.{bad_call, short_called, held_called}
-use borrow.Author.Rules.{rules}
 use Rattle.live_rig.proofs.desk_call.call_held.Goals as goal
-
-pub no_call-requires : goal.no_call-requires
-no_call-requires c = search rules
 
 pub returns-then-rig-lt34120 : goal.returns-then-rig-lt34120
 returns-then-rig-lt34120 c =
-    let s = c.before.before.before in
-    let b = s.args.rig.now in
-    rw c.no_call.ensures (short_called b s.args.d _ (bad_call (held b) s.args.d (short_held b c.if-rig-lt34120.true)) refl)
-
-pub slice_bounds-call_image-end : goal.slice_bounds-call_image-end
-slice_bounds-call_image-end c = search rules
+    let b = c.args.rig.now in
+    rw c.no_call.ensures (short_called b c.args.d _ (bad_call (held b) c.args.d (short_held b c.if-rig-lt34120.true)) refl)
 
 pub slice_bounds-call_image-end-2 : goal.slice_bounds-call_image-end-2
 slice_bounds-call_image-end-2 c = sym (held_long c.args.rig.now c.if-rig-lt34120.false)
 
 pub call_image-requires : goal.call_image-requires
 call_image-requires c = held_long c.args.rig.now c.if-rig-lt34120.false
-
-pub shape_of-rig : goal.shape_of-rig
-shape_of-rig c = search rules
 
 pub returns : goal.returns
 returns c = held_called c.args.rig.now _ _ c.call_image.ensures

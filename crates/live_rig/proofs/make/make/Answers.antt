@@ -1,18 +1,11 @@
 -- `make`: the step on what is lent, and then the mail's bytes.
 use Rattle.live_rig.proofs.Making.{rig_live, mail_long, few_used, few_desks, post_room, post_long, step_left}
-use borrow.Author.Rules.{rules}
 use Rattle.live_rig.proofs.make.make.Goals as goal
 
 pub act_on-r-requires : goal.act_on-r-requires
 act_on-r-requires c =
     let p = c.requires in
     (p.some.accepted, record { network = p.some.system.network; rig = rig_live p.some.on; message = p.letter })
-
-pub posting_fits-requires : goal.posting_fits-requires
-posting_fits-requires c = search rules
-
-pub position-requires : goal.position-requires
-position-requires c = search rules
 
 pub take_letter-left-requires : goal.take_letter-left-requires
 take_letter-left-requires c =
@@ -27,9 +20,6 @@ post_letters-used-requires c =
     let s = a.args in
     let h = post_room p.some.on s.s s.letter p.letter a.act_on-r.result a.act_on-r.ensures t.position.ensures.0 t.take_letter-left.ensures.1 in
     (post_long p.some.on s.s s.letter p.letter a.act_on-r.result a.act_on-r.ensures t.position.ensures.0 t.take_letter-left.ensures.1, few_desks p.some.on, h)
-
-pub shape_of-mail : goal.shape_of-mail
-shape_of-mail c = search rules
 
 pub returns : goal.returns
 returns c last r o given =

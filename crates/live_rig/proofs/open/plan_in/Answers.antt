@@ -1,5 +1,4 @@
 -- `plan_in`: a plan file that is too long is refused, any other is opened.
-use borrow.Author.Rules.{rules}
 use native.Mathlib.Omega.{arith}
 use mathlib.Core.Path.{◌≡◌, ap}
 use Prim.Native.Nat.{ℕ, ◌+◌, ◌-◌}
@@ -8,36 +7,14 @@ use Rattle.image.specs.Numbers.{number_at}
 use Rattle.live_rig.proofs.Opened.{too_long, plan_opened}
 use Rattle.live_rig.proofs.open.plan_in.Goals as goal
 
-pub number4-size-requires : goal.number4-size-requires
-number4-size-requires c = search rules
-
-pub no_plan-requires : goal.no_plan-requires
-no_plan-requires c = search rules
-
 pub returns-then-size-gt16644 : goal.returns-then-size-gt16644
 returns-then-size-gt16644 c =
-    let n = c.before.before in
-    let s = c.before.before.before.before in
-    too_long s.args.rig.now c.no_plan.result (omega (arith, n.number4-size.ensures)) c.no_plan.ensures
-
-pub overflow_add-end : goal.overflow_add-end
-overflow_add-end c = search rules
-
-pub slice_bounds-open-count : goal.slice_bounds-open-count
-slice_bounds-open-count c = search rules
-
-pub slice_bounds-open-start : goal.slice_bounds-open-start
-slice_bounds-open-start c = search rules
-
-pub slice_bounds-open-end : goal.slice_bounds-open-end
-slice_bounds-open-end c = search rules
+    too_long c.args.rig.now c.no_plan.result (omega (arith, c.number4-size.ensures)) c.no_plan.ensures
 
 pub open-requires : goal.open-requires
 open-requires c = c.requires.1
 
 pub returns : goal.returns
 returns c =
-    let n = c.before.before.before.before.before.before.before in
-    let s = c.before.before.before.before.before.before.before.before.before in
-    let size : 20 + n.number4-size.result - 20 ≡ number_at 4 s.args.rig.now 4 = omega (arith, n.number4-size.ensures) in
-    plan_opened s.args.rig.now c.open.result (omega (arith, n.number4-size.ensures)) (ap (λ (k : ℕ). take k (drop 20 s.args.rig.now)) size) c.open.ensures
+    let size : 20 + c.number4-size.result - 20 ≡ number_at 4 c.args.rig.now 4 = omega (arith, c.number4-size.ensures) in
+    plan_opened c.args.rig.now c.open.result (omega (arith, c.number4-size.ensures)) (ap (λ (k : ℕ). take k (drop 20 c.args.rig.now)) size) c.open.ensures

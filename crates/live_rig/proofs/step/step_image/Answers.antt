@@ -3,42 +3,18 @@ use mathlib.Core.Path.{refl}
 use Rattle.live_rig.proofs.Opened.{refused_plan, users_of}
 use Rattle.live_rig.proofs.Turns.{planned}
 use Rattle.live_rig.proofs.Stepped.{bad_bytes}
-use borrow.Author.Rules.{rules}
 use Rattle.live_rig.proofs.step.step_image.Goals as goal
 
 pub plan_in-read-requires : goal.plan_in-read-requires
 plan_in-read-requires c = (c.requires, (refl, refl, refl, refl))
-
-pub enum_told-1 : goal.enum_told-1
-enum_told-1 c = search rules
-
-pub bad_system-requires : goal.bad_system-requires
-bad_system-requires c = search rules
-
-pub enum_told-in-Accepted : goal.enum_told-in-Accepted
-enum_told-in-Accepted c = search rules
 
 pub build-requires : goal.build-requires
 build-requires c = (refl, users_of c.plan_in-read.ensures c.in-Accepted.is)
 
 pub step_parts-requires : goal.step_parts-requires
 step_parts-requires c =
-    let b = c.before.before.before.before in
-    let e = b.before.before.before.before.before.before in
-    let l = e.before in
-    planned l.plan_in-read.ensures e.in-Accepted.is l.requires b.build.ensures
-
-pub shape_of-rig-in-Refused : goal.shape_of-rig-in-Refused
-shape_of-rig-in-Refused c = search rules
+    planned c.plan_in-read.ensures c.in-Accepted.is c.requires c.build.ensures
 
 pub returns-in-Refused : goal.returns-in-Refused
 returns-in-Refused c =
-    let l = c.before.before in
-    let s = l.before.before.before.before.before.before.before in
-    rw c.bad_system.ensures (bad_bytes s.args.rig.now s.args.s (refused_plan l.plan_in-read.ensures c.in-Refused.is))
-
-pub shape_of-rig-in-Accepted : goal.shape_of-rig-in-Accepted
-shape_of-rig-in-Accepted c = search rules
-
-pub returns-in-Accepted : goal.returns-in-Accepted
-returns-in-Accepted c = search rules
+    rw c.bad_system.ensures (bad_bytes c.args.rig.now c.args.s (refused_plan c.plan_in-read.ensures c.in-Refused.is))
