@@ -50,9 +50,12 @@ COUNT = 20000
 
 driver: build/driver
 
+# How a part is made, in its crate's folder. The gate takes the libraries that `rt ci` has just proved (scripts/over_ci.py).
+PART = rt lib
+
 define part
 crates/$(1)/out/lib$(1).a: $$(PROVED)
-	cd crates/$(1) && rt lib
+	cd crates/$(1) && $$(PART)
 	touch $$@
 endef
 $(foreach it,driver_c planner_c chooser_c step_panel live live_step live_dispatch,$(eval $(call part,$(it))))
