@@ -14,6 +14,8 @@ import sys
 WORD = re.compile(r'[^\s(){}.;,@"«»:`\[\]|]+')
 DECLARED = re.compile(r"(?m)^ *(?:(?:pub|abbrev|unfoldable|open|ruleset) +)*([^\s(){}.;,@\"«»:]+)((?: \{[^{}\n]*\})*) (:|=) ?(.*)$")
 RULESET = re.compile(r"(?m)^ *(?:pub +)?ruleset +(\S+) =")
+TOGETHER = re.compile(r"^ +((?:[a-z][^\s(){}.;,@\"«»:]*)(?: [a-z][^\s(){}.;,@\"«»:]*)+) : ")
+DATA = re.compile(r"^( *)(?:pub )?data .* where\s*$")
 RECORD = re.compile(r"^( *)(?:pub |open )*record .* where\s*$")
 MADE = re.compile(r"^(?:tie|goal)\.")
 OPERATOR = "◌"
@@ -45,10 +47,18 @@ def without_comments(text):
 def declared(text):
     """The names that a text declares, but for those of a function's goals; and which of them are fields."""
     names, fields = set(), set()
-    in_record = None
+    in_record = in_data = None
     for line in without_comments(text).split("\n"):
         if line.strip() and in_record is not None and len(line) - len(line.lstrip()) <= in_record:
             in_record = None
+        if line.strip() and in_data is not None and len(line) - len(line.lstrip()) <= in_data:
+            in_data = None
+        if DATA.match(line):
+            in_data = len(DATA.match(line)[1])
+        together = TOGETHER.match(line)
+        if in_data is not None and together:
+            # constructors of one type share a line
+            names.update(together[1].split())
         m = DECLARED.match(line)
         head = RECORD.match(line)
         if head:
