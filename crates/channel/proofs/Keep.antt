@@ -5,7 +5,7 @@ use Prim.Native.Nat.{ℕ}
 use native.Mathlib.Omega.{arith}
 use Rattle.channel.specs.Bags.{total}
 use Rattle.channel.specs.Views.{View}
-use Rattle.channel.specs.Events.{Place, sender-born, sender_arrives_lem, receiver-born, receiver_arrives_lem, sender_departs_lem, receiver_departs_lem, Transfer, send_passes_lem, send_carried_lem, send-advertised, send_held_lem, send_posted_lem, receive_passes_lem, receive_waits_lem, carried-answered, noted-answered, Delivery, offer_dropped, offer_answered_lem, offer_carried, offer_forwarded, offer_held, advert_answered, advert_noted_lem, call_taken, word_taken_lem, place_guard, placed, transfer_guard, transferred, delivery_guard, delivered, Event, place, transfer, delivery, guard, after, Change, none, event, blank}
+use Rattle.channel.specs.Events.{Place, sender_born_lem, sender_arrives_lem, receiver_born_lem, receiver_arrives_lem, sender_departs_lem, receiver_departs_lem, Transfer, send_passes_lem, send_carried_lem, send_advertised_lem, send_held_lem, send_posted_lem, receive_passes_lem, receive_waits_lem, carried_answered_lem, noted_answered_lem, Delivery, offer_dropped, offer_answered_lem, offer_carried, offer_forwarded, offer_held, advert_answered, advert_noted_lem, call_taken, word_taken_lem, place_guard, placed, transfer_guard, transferred, delivery_guard, delivered, Event, place, transfer, delivery, guard, after, Change, none, event, blank}
 use Rattle.channel.specs.Invariant.{Invariant}
 use Rattle.channel.proofs.PlacesKeep as places
 use Rattle.channel.proofs.TransfersKeep as transfers
@@ -14,9 +14,9 @@ use Rattle.channel.proofs.DeliveriesKeep as deliveries
 module _ (v : View) (i : Invariant v) where
   placed_keeps : (e : Place) → place_guard e v → Invariant (placed e v)
   unfolding place_guard placed
-  placed_keeps (sender-born d) g = places.sender_born_keeps v i d g
+  placed_keeps (sender_born_lem d) g = places.sender_born_keeps v i d g
   placed_keeps (sender_arrives_lem d) g = places.sender_arrives_keeps v i d g
-  placed_keeps (receiver-born d) g = places.receiver_born_keeps v i d g
+  placed_keeps (receiver_born_lem d) g = places.receiver_born_keeps v i d g
   placed_keeps (receiver_arrives_lem d) g = places.receiver_arrives_keeps v i d g
   placed_keeps sender_departs_lem g = places.sender_departs_keeps v i g
   placed_keeps (receiver_departs_lem e) g = places.receiver_departs_keeps v i e g
@@ -25,13 +25,13 @@ module _ (v : View) (i : Invariant v) where
   unfolding transfer_guard transferred
   transferred_keeps send_passes_lem g = transfers.send_passes_keeps v i g
   transferred_keeps send_carried_lem g = transfers.send_carried_keeps v i g
-  transferred_keeps send-advertised g = transfers.send_advertised_keeps v i g
+  transferred_keeps send_advertised_lem g = transfers.send_advertised_keeps v i g
   transferred_keeps send_held_lem g = transfers.send_held_keeps v i g
   transferred_keeps send_posted_lem g = transfers.send_posted_keeps v i g
   transferred_keeps receive_passes_lem g = transfers.receive_passes_keeps v i g
   transferred_keeps receive_waits_lem g = transfers.receive_waits_keeps v i g
-  transferred_keeps carried-answered g = transfers.carried_answered_keeps v i g
-  transferred_keeps noted-answered g = transfers.noted_answered_keeps v i g
+  transferred_keeps carried_answered_lem g = transfers.carried_answered_keeps v i g
+  transferred_keeps noted_answered_lem g = transfers.noted_answered_keeps v i g
 
   delivered_keeps : (p : ℕ) (a : Delivery) → delivery_guard p a v → Invariant (delivered p a v)
   unfolding delivery_guard delivered

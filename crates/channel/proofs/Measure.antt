@@ -11,7 +11,7 @@ use Rattle.channel.specs.Updates.{at_number}
 use Rattle.channel.specs.Bags.{In, one, without, total}
 use Rattle.channel.specs.Messages.{ChannelMessage, offer, advert, call, word, is_advert, adverts}
 use Rattle.channel.specs.Views.{View}
-use Rattle.channel.specs.Events.{Place, sender-born, sender_arrives_lem, receiver-born, receiver_arrives_lem, sender_departs_lem, receiver_departs_lem, Transfer, send_passes_lem, send_carried_lem, send-advertised, send_held_lem, send_posted_lem, receive_passes_lem, receive_waits_lem, carried-answered, noted-answered, Delivery, offer_dropped, offer_answered_lem, offer_carried, offer_forwarded, offer_held, advert_answered, advert_noted_lem, call_taken, word_taken_lem, place_guard, placed, transfer_guard, transferred, delivery_guard, delivered}
+use Rattle.channel.specs.Events.{Place, sender_born_lem, sender_arrives_lem, receiver_born_lem, receiver_arrives_lem, sender_departs_lem, receiver_departs_lem, Transfer, send_passes_lem, send_carried_lem, send_advertised_lem, send_held_lem, send_posted_lem, receive_passes_lem, receive_waits_lem, carried_answered_lem, noted_answered_lem, Delivery, offer_dropped, offer_answered_lem, offer_carried, offer_forwarded, offer_held, advert_answered, advert_noted_lem, call_taken, word_taken_lem, place_guard, placed, transfer_guard, transferred, delivery_guard, delivered}
 use Rattle.channel.specs.Invariant.{Invariant}
 use Rattle.channel.specs.Measure.{weight, extra, measure}
 use Rattle.channel.proofs.Bags.{total_append, total_post, total_without, total_same, in_at}
@@ -92,7 +92,7 @@ unfolding transfer_guard transferred measure weight is_advert extra
 transfer_adds send_passes_lem v i g = omega arith
 transfer_adds send_carried_lem v i g = omega arith
 transfer_adds send_held_lem v i g = omega arith
-transfer_adds send-advertised v i g =
+transfer_adds send_advertised_lem v i g =
     let a = total_append (weigh v) v.messages (adverts v.sender.at v.processors) in
     let b = total_adverts (weigh v) v.sender.at (λ x. omega arith) v.processors in
     let c = extra_most v.state.granted (total is_advert (v.messages ++ adverts v.sender.at v.processors)) in
@@ -107,18 +107,18 @@ transfer_adds send_posted_lem v i g =
     omega arith
 transfer_adds receive_passes_lem v i g = omega arith
 transfer_adds receive_waits_lem v i g = omega arith
-transfer_adds carried-answered v i g =
+transfer_adds carried_answered_lem v i g =
     let a = total_post (weigh v) v.messages (call v.state.carried.processor.0 v.receiver.at v.receiver.moves) in
     omega arith
-transfer_adds noted-answered v i g =
+transfer_adds noted_answered_lem v i g =
     let a = total_post (weigh v) v.messages (call (v.tables.noted v.receiver.at).0 v.receiver.at v.receiver.moves) in
     omega arith
 
 -- an end departs
 unfoldable pub is_departure : Place → Bool
-is_departure (sender-born d) = false
+is_departure (sender_born_lem d) = false
 is_departure (sender_arrives_lem d) = false
-is_departure (receiver-born d) = false
+is_departure (receiver_born_lem d) = false
 is_departure (receiver_arrives_lem d) = false
 is_departure sender_departs_lem = true
 is_departure (receiver_departs_lem e) = true
@@ -134,10 +134,10 @@ unborn d v i z (word x value) h = refl
 
 pub place_still : (e : Place) (v : View) → is_departure e ≡ false → Invariant v → place_guard e v → measure (placed e v) ≡ measure v
 unfolding place_guard placed measure is_departure
-place_still (sender-born d) v s i g = refl
+place_still (sender_born_lem d) v s i g = refl
 place_still (sender_arrives_lem d) v s i g = refl
 place_still (receiver_arrives_lem d) v s i g = refl
-place_still (receiver-born d) v s i g =
+place_still (receiver_born_lem d) v s i g =
     ap (◌+ extra v.state.granted (total is_advert v.messages)) (total_same _ _ v.messages (unborn d v i g.first))
 place_still sender_departs_lem v s i g = absurd (true≢false s)
 place_still (receiver_departs_lem e) v s i g = absurd (true≢false s)

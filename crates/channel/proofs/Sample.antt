@@ -14,7 +14,7 @@ use Rattle.channel.specs.Bags.{without}
 use Rattle.channel.specs.Hints.{hint_to}
 use Rattle.channel.specs.Views.{View}
 use Rattle.channel.specs.Places.{taking_over}
-use Rattle.channel.specs.Events.{Event, place, transfer, delivery, sender-born, receiver-born, receiver_departs_lem, receiver_arrives_lem, send_posted_lem, carried-answered, offer_forwarded, offer_held, call_taken, word_taken_lem, guard, after, blank, place_guard, placed, transfer_guard, transferred, delivery_guard, delivered}
+use Rattle.channel.specs.Events.{Event, place, transfer, delivery, sender_born_lem, receiver_born_lem, receiver_departs_lem, receiver_arrives_lem, send_posted_lem, carried_answered_lem, offer_forwarded, offer_held, call_taken, word_taken_lem, guard, after, blank, place_guard, placed, transfer_guard, transferred, delivery_guard, delivered}
 use Rattle.channel.specs.Invariant.{Invariant}
 use Rattle.channel.proofs.Keep.{Met, after_all, all_keep, starts}
 
@@ -25,8 +25,8 @@ evaluated = tt
 
 unfoldable pub sample : Word → List Event
 sample x =
-    place (sender-born 1) ∷ place (receiver-born 1) ∷ place (receiver_departs_lem 2) ∷ transfer send_posted_lem ∷ delivery 0 (offer_held 2 1 1 2)
-    ∷ place (receiver_arrives_lem 2) ∷ transfer carried-answered ∷ delivery 0 (call_taken 1 2 2 x) ∷ delivery 0 (word_taken_lem 2 x) ∷ []
+    place (sender_born_lem 1) ∷ place (receiver_born_lem 1) ∷ place (receiver_departs_lem 2) ∷ transfer send_posted_lem ∷ delivery 0 (offer_held 2 1 1 2)
+    ∷ place (receiver_arrives_lem 2) ∷ transfer carried_answered_lem ∷ delivery 0 (call_taken 1 2 2 x) ∷ delivery 0 (word_taken_lem 2 x) ∷ []
 
 pub sample_met : (x : Word) → Met (sample x) (blank 2)
 unfolding evaluated sample
@@ -49,7 +49,7 @@ sample_keeps x = all_keep (sample x) (blank 2) (sample_met x) (starts 2)
 
 -- the chase: the sender uses a pointer with count 2, the receiver moves to desk 3 and back to 2, with counts 3 and 4; the offer is forwarded twice
 unfoldable pub posted : List Event
-posted = place (sender-born 1) ∷ place (receiver-born 1) ∷ place (receiver_departs_lem 2) ∷ transfer send_posted_lem ∷ []
+posted = place (sender_born_lem 1) ∷ place (receiver_born_lem 1) ∷ place (receiver_departs_lem 2) ∷ transfer send_posted_lem ∷ []
 
 unfoldable pub hunt : List Event
 hunt =

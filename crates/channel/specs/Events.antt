@@ -10,14 +10,14 @@ use Rattle.channel.specs.Deliveries.{taken, Dropped, OfferAnswered, offer_answer
 
 -- an end is born, arrives or departs; with the desk
 pub data Place : Type 0 where
-  sender-born sender_arrives_lem receiver-born receiver_arrives_lem : ℕ → Place
+  sender_born_lem sender_arrives_lem receiver_born_lem receiver_arrives_lem : ℕ → Place
   sender_departs_lem : Place
   receiver_departs_lem : ℕ → Place
 
 -- a send or a receive
 pub data Transfer : Type 0 where
-  send_passes_lem send_carried_lem send-advertised send_held_lem send_posted_lem : Transfer
-  receive_passes_lem receive_waits_lem carried-answered noted-answered : Transfer
+  send_passes_lem send_carried_lem send_advertised_lem send_held_lem send_posted_lem : Transfer
+  receive_passes_lem receive_waits_lem carried_answered_lem noted_answered_lem : Transfer
 
 -- the delivery of a letter: what is read from it
 pub data Delivery : Type 0 where
@@ -27,17 +27,17 @@ pub data Delivery : Type 0 where
   word_taken_lem : (x : ℕ) (value : Word) → Delivery
 
 unfoldable pub place_guard : Place → View → Type 0
-place_guard (sender-born d) v = SenderBorn d v
+place_guard (sender_born_lem d) v = SenderBorn d v
 place_guard (sender_arrives_lem d) v = SenderArrives d v
-place_guard (receiver-born d) v = ReceiverBorn d v
+place_guard (receiver_born_lem d) v = ReceiverBorn d v
 place_guard (receiver_arrives_lem d) v = ReceiverArrives d v
 place_guard sender_departs_lem v = SenderDeparts v
 place_guard (receiver_departs_lem e) v = ReceiverDeparts e v
 
 unfoldable pub placed : Place → View → View
-placed (sender-born d) v = sender_born d v
+placed (sender_born_lem d) v = sender_born d v
 placed (sender_arrives_lem d) v = sender_arrives d v
-placed (receiver-born d) v = receiver_born d v
+placed (receiver_born_lem d) v = receiver_born d v
 placed (receiver_arrives_lem d) v = receiver_arrives d v
 placed sender_departs_lem v = sender_departs v
 placed (receiver_departs_lem e) v = receiver_departs e v
@@ -45,24 +45,24 @@ placed (receiver_departs_lem e) v = receiver_departs e v
 unfoldable pub transfer_guard : Transfer → View → Type 0
 transfer_guard send_passes_lem v = SendPasses v
 transfer_guard send_carried_lem v = SendCarried v
-transfer_guard send-advertised v = SendAdvertised v
+transfer_guard send_advertised_lem v = SendAdvertised v
 transfer_guard send_held_lem v = SendHeld v
 transfer_guard send_posted_lem v = SendPosted v
 transfer_guard receive_passes_lem v = ReceivePasses v
 transfer_guard receive_waits_lem v = ReceiveWaits v
-transfer_guard carried-answered v = CarriedAnswered v
-transfer_guard noted-answered v = NotedAnswered v
+transfer_guard carried_answered_lem v = CarriedAnswered v
+transfer_guard noted_answered_lem v = NotedAnswered v
 
 unfoldable pub transferred : Transfer → View → View
 transferred send_passes_lem v = send_passes v
 transferred send_carried_lem v = send_carried v
-transferred send-advertised v = send_advertised v
+transferred send_advertised_lem v = send_advertised v
 transferred send_held_lem v = send_held v
 transferred send_posted_lem v = send_posted v
 transferred receive_passes_lem v = receive_passes v
 transferred receive_waits_lem v = receive_waits v
-transferred carried-answered v = carried_answered v
-transferred noted-answered v = noted_answered v
+transferred carried_answered_lem v = carried_answered v
+transferred noted_answered_lem v = noted_answered v
 
 unfoldable pub delivery_guard : ℕ → Delivery → View → Type 0
 delivery_guard p (offer_dropped x d w k) v = Dropped p x d w k v

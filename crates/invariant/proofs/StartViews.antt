@@ -40,7 +40,7 @@ use Rattle.net.specs.States.{at_task}
 use Rattle.channel.specs.Updates.{at_number}
 use Rattle.channel.specs.Hints.{hint_to}
 use Rattle.channel.specs.Views.{offer_of, Sender, Receiver, Tables, View}
-use Rattle.channel.specs.Events.{place, sender-born, receiver-born, place_guard, placed, guard, after}
+use Rattle.channel.specs.Events.{place, sender_born_lem, receiver_born_lem, place_guard, placed, guard, after}
 use Rattle.channel.specs.Events as events
 use Rattle.channel.specs.Invariant.{Invariant}
 use Rattle.channel.proofs.Updates.{at_self}
@@ -251,13 +251,13 @@ module _ (n : ℕ) (l : 1 ≤ n) where
   unfolding events.blank guard after place_guard placed
   sender_holds false = starts n
   sender_holds true =
-      keeps (place (sender-born 1)) (events.blank n) (starts n) (record { nowhere = refl; first = refl; processor = omega arith; last = l })
+      keeps (place (sender_born_lem 1)) (events.blank n) (starts n) (record { nowhere = refl; first = refl; processor = omega arith; last = l })
 
   view_holds : (s u : Bool) → Invariant (view_then n s u)
   unfolding guard after place_guard placed
   view_holds s false = sender_holds s
   view_holds s true =
-      keeps (place (receiver-born 1)) (view_then n s false) (sender_holds s) (record { nowhere = refl; first = refl; processor = omega arith; last = l })
+      keeps (place (receiver_born_lem 1)) (view_then n s false) (sender_holds s) (record { nowhere = refl; first = refl; processor = omega arith; last = l })
 
 module _ (n : ℕ) (p : Plan) (g : Program) (c : ChannelId) where
   start_sender : (t : TaskId) → sender_view g c (start_tasks n p t) ≡ sender_then (same_task t first)

@@ -26,7 +26,7 @@ use Rattle.rules.specs.Local.{create_rule}
 use Rattle.net.specs.States.{Net, at_task}
 use Rattle.channel.specs.Bags.{one, without}
 use Rattle.channel.specs.Views.{View}
-use Rattle.channel.specs.Events.{sender-born, receiver-born, sender_arrives_lem, receiver_arrives_lem}
+use Rattle.channel.specs.Events.{sender_born_lem, receiver_born_lem, sender_arrives_lem, receiver_arrives_lem}
 use Rattle.channel.specs.Invariant.{Invariant}
 use Rattle.channel.specs.Measure.{measure}
 use Rattle.channel.proofs.Measure.{is_departure, place_still}
@@ -72,8 +72,8 @@ module _ (m : Programs) where
   placing_still : {v w : View} → Invariant v → Placing v w → measure w ≡ measure v
   unfolding is_departure
   placing_still {v} i none = refl
-  placing_still {v} i (sender_birth d g) = place_still (sender-born d) v refl i g
-  placing_still {v} i (receiver_birth d g) = place_still (receiver-born d) v refl i g
+  placing_still {v} i (sender_birth d g) = place_still (sender_born_lem d) v refl i g
+  placing_still {v} i (receiver_birth d g) = place_still (receiver_born_lem d) v refl i g
   placing_still {v} i (sender_arrival d g) = place_still (sender_arrives_lem d) v refl i g
   placing_still {v} i (receiver_arrival d g) = place_still (receiver_arrives_lem d) v refl i g
 

@@ -16,7 +16,7 @@ use Rattle.rules.specs.declared.rule.Received.{Received}
 use Rattle.rules.specs.declared.message.Message.{Message}
 use Rattle.net.specs.States.{Net}
 use Rattle.channel.specs.Views.{View}
-use Rattle.channel.specs.Events.{Event, Change, none, event, guard, after, place, sender-born, receiver-born, sender_arrives_lem, receiver_arrives_lem}
+use Rattle.channel.specs.Events.{Event, Change, none, event, guard, after, place, sender_born_lem, receiver_born_lem, sender_arrives_lem, receiver_arrives_lem}
 use Rattle.channel.specs.Events.{sender_departs_lem, receiver_departs_lem}
 use Rattle.channel.specs.Invariant.{Invariant}
 use Rattle.channel.specs.Bags.{one, without}
@@ -39,8 +39,8 @@ use Rattle.plan.specs.Users.{parent_of}
 placing_change : {v w : View} → Placing v w → Change v w
 unfolding guard after
 placing_change Transitions.Placing.none = none
-placing_change (sender_birth d g) = event (place (sender-born d)) g
-placing_change (receiver_birth d g) = event (place (receiver-born d)) g
+placing_change (sender_birth d g) = event (place (sender_born_lem d)) g
+placing_change (receiver_birth d g) = event (place (receiver_born_lem d)) g
 placing_change (sender_arrival d g) = event (place (sender_arrives_lem d)) g
 placing_change (receiver_arrival d g) = event (place (receiver_arrives_lem d)) g
 

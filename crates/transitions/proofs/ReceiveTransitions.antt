@@ -46,7 +46,7 @@ use Rattle.channel.specs.Updates.{at_number}
 use Rattle.channel.specs.Messages.{ChannelMessage}
 use Rattle.channel.specs.Views.{View, with_messages}
 use Rattle.channel.specs.Transfers.{Receives}
-use Rattle.channel.specs.Events.{Transfer, transfer_guard, transferred, receive_passes_lem, receive_waits_lem, carried-answered, noted-answered}
+use Rattle.channel.specs.Events.{Transfer, transfer_guard, transferred, receive_passes_lem, receive_waits_lem, carried_answered_lem, noted_answered_lem}
 use Rattle.channel.specs.Invariant.{Invariant}
 use Rattle.transitions.specs.Readings.{Reading, reading}
 use Rattle.transitions.specs.Progress.{program_of}
@@ -184,7 +184,7 @@ module _ (m : Programs) (a : plan_answer m ≡ Accepted) (h : Histories) (x : Re
         → Transitions (receive_waits site (granting (with_carried site.cell no_offer)) (call_to carried.processor c (x.tasks u)))
     unfolding transfer_guard transferred view_of receiver_view state_view messages_of flat word_in
     carried_transition more =
-        waits_transition carried-answered (granting (with_carried site.cell no_offer)) (call_to carried.processor c (x.tasks u))
+        waits_transition carried_answered_lem (granting (with_carried site.cell no_offer)) (call_to carried.processor c (x.tasks u))
         (posted_call c carried.processor _) refl
         (record { receive = about; counts = ltb-true _ _ more })
         (view_is refl refl refl (tables_same (x.entries c) processor.0) (rw add-one refl) refl)
@@ -197,7 +197,7 @@ module _ (m : Programs) (a : plan_answer m ≡ Accepted) (h : Histories) (x : Re
       noted_transition e =
           let first = eqb-true _ 0 (and_left (none_called site.cell) _ e) in
           let some-noted : noted.0 ≢ 0 = eqb-false _ _ (not-true (is_none noted) (and_right (none_called site.cell) _ e)) in
-          waits_transition noted-answered (granting (with_noted site.cell no_processor)) (call_to noted c (x.tasks u)) (posted_call c noted _) refl
+          waits_transition noted_answered_lem (granting (with_noted site.cell no_processor)) (call_to noted c (x.tasks u)) (posted_call c noted _) refl
           (record { receive = about; stale = ltb-false _ _ less; first = first; noted = omega arith })
           (view_is refl refl refl (tables_noted (x.entries c) processor.0 no_processor) (rw add-one refl) refl)
 

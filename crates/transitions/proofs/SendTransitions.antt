@@ -51,7 +51,7 @@ use Rattle.channel.specs.Bags.{one}
 use Rattle.channel.specs.Messages.{ChannelMessage, advert, adverts}
 use Rattle.channel.specs.Views.{View, with_messages}
 use Rattle.channel.specs.Transfers.{Sends}
-use Rattle.channel.specs.Events.{Transfer, transfer_guard, transferred, send_passes_lem, send_carried_lem, send-advertised, send_held_lem, send_posted_lem}
+use Rattle.channel.specs.Events.{Transfer, transfer_guard, transferred, send_passes_lem, send_carried_lem, send_advertised_lem, send_held_lem, send_posted_lem}
 use Rattle.channel.specs.Invariant.{Invariant}
 use Rattle.transitions.specs.Readings.{Reading, reading}
 use Rattle.transitions.specs.Progress.{program_of}
@@ -248,7 +248,7 @@ module _ (m : Programs) (a : plan_answer m ≡ Accepted) (h : Histories) (x : Re
     advertised_transition : is_unknown hint ≡ true → Transitions (send_waits site site.cell (Adverts c processor))
     unfolding transfer_guard transferred view_of sender_view receiver_view tables_view state_view
     advertised_transition unknown =
-        waits_transition send-advertised site.cell (Adverts c processor) (posted_adverts c processor x.processors) (adverts_words c processor x.processors)
+        waits_transition send_advertised_lem site.cell (Adverts c processor) (posted_adverts c processor x.processors) (adverts_words c processor x.processors)
         (record { send = about; away = eqb-false _ _ away; unknown = eqb-true _ _ unknown })
         (view_is refl refl refl (tables_same (x.entries c) processor.0) refl refl)
 

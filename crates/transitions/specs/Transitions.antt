@@ -28,7 +28,7 @@ use Rattle.net.specs.Effects.{word_after, overflow_after}
 use Rattle.channel.specs.Updates.{at_number}
 use Rattle.channel.specs.Bags.{one, without}
 use Rattle.channel.specs.Views.{View}
-use Rattle.channel.specs.Events.{Event, Transfer, Delivery, transfer, delivery, guard, after, sender-born, sender_arrives_lem, receiver-born}
+use Rattle.channel.specs.Events.{Event, Transfer, Delivery, transfer, delivery, guard, after, sender_born_lem, sender_arrives_lem, receiver_born_lem}
 use Rattle.channel.specs.Events.{receiver_arrives_lem, sender_departs_lem, receiver_departs_lem, place_guard, placed}
 use Rattle.transitions.specs.Readings.{Reading, kept_for}
 use Rattle.transitions.specs.Progress.{program_of}
@@ -126,8 +126,8 @@ pub record OwnTransition (m : Programs) (h : Histories) (x y : Reading) : Type 0
 -- a birth or an arrival of one end, or nothing
 pub data Placing (v : View) : View → Type 0 where
   none : Placing v v
-  sender_birth : (d : ℕ) → place_guard (sender-born d) v → Placing v (placed (sender-born d) v)
-  receiver_birth : (d : ℕ) → place_guard (receiver-born d) v → Placing v (placed (receiver-born d) v)
+  sender_birth : (d : ℕ) → place_guard (sender_born_lem d) v → Placing v (placed (sender_born_lem d) v)
+  receiver_birth : (d : ℕ) → place_guard (receiver_born_lem d) v → Placing v (placed (receiver_born_lem d) v)
   sender_arrival : (d : ℕ) → place_guard (sender_arrives_lem d) v → Placing v (placed (sender_arrives_lem d) v)
   receiver_arrival : (d : ℕ) → place_guard (receiver_arrives_lem d) v → Placing v (placed (receiver_arrives_lem d) v)
 
