@@ -353,8 +353,11 @@ def main():
     check = sys.argv[1:] == ['--check']
     if sys.argv[1:] and not check:
         sys.exit(__doc__)
-    names = re.findall(r'^(\w+):', read('crates.txt'), re.M)
+    names = re.findall(r'^(\w+)(?: staticlib)?:', read('crates.txt'), re.M)
     crates = [Crate(name) for name in names if os.path.isdir(os.path.join(TOP, 'crates', name))]
+    for folder in sorted(os.listdir(os.path.join(TOP, 'crates'))):
+        if folder not in names:
+            complain(os.path.join('crates', folder), 'no line of crates.txt that is read names it')
     edits = []
     for crate in crates:
         for part in 'must-fail', 'wrong':
