@@ -7,6 +7,7 @@ pub mod Joins
 pub mod Sums
 pub mod Fronts
 pub mod Choices
+pub mod Answers
 pub mod Updates
 pub mod Beginnings
 pub mod Counts

@@ -1,8 +1,6 @@
 -- What converting a file of the new edition answers and leaves behind.
-use Rattle.std.specs.Prelude.{◌≡◌, ℕ, List, length, take}
-use Rattle.plan.specs.declared.PlanAnswer.TheVariants.{Accepted}
-use Rattle.plan.specs.declared.WriteAnswer.{WriteAnswer}
-use Rattle.plan.specs.declared.WriteAnswer.TheVariants.{Written}
+use Rattle.std.specs.Prelude.{◌≡◌, ℕ, List, length, take, Ok}
+use Rattle.plan.specs.Answers.{WriteAnswer}
 use Rattle.plan.specs.Layout.{layout}
 use Rattle.plan.specs.Files.{file_programs, file_answer}
 use Rattle.plan.specs.Outcomes.{write_answer_after, output_after}
@@ -25,4 +23,4 @@ convert_output b out = output_after (convert_answer b out) (converted_file b) ou
 pub record Converted (b before : List ℕ) (r : WriteAnswer) (after : List ℕ) : Type 0 where
   pub answer : r ≡ convert_answer b before
   pub bytes : after ≡ convert_output b before
-  pub accepted : (n : ℕ) → r ≡ Written n → file_answer (take n after) ≡ Accepted
+  pub accepted : (n : ℕ) → r ≡ Ok n → file_answer (take n after) ≡ Ok tt

@@ -1,11 +1,10 @@
 -- A file read: its fields, the programs that it holds, and when it is refused.
-use Rattle.std.specs.Prelude.{ℕ, ◌+◌, ◌*◌, Bool, ◌&&◌, List, length, ◌==◌, nat_le, slice_index}
+use Rattle.std.specs.Prelude.{ℕ, ◌+◌, ◌*◌, Bool, ◌&&◌, List, length, ◌==◌, nat_le, slice_index, Err}
 use Rattle.base.specs.Choice.{unless, within}
 use Rattle.base.specs.Range.{below, sum_below}
 use Rattle.base.specs.Lists.{table}
 use Rattle.plan.specs.declared.Instruction.{Instruction}
-use Rattle.plan.specs.declared.PlanAnswer.{PlanAnswer}
-use Rattle.plan.specs.declared.PlanAnswer.TheVariants.{Refused}
+use Rattle.plan.specs.Answers.{PlanAnswer}
 use Rattle.plan.specs.declared.Refusal.TheVariants.{BadProcessors, BadLayout, BadInstruction}
 use Rattle.plan.specs.Programs.{Program, Programs}
 use Rattle.plan.specs.Layout.{offset_due}
@@ -69,10 +68,10 @@ file_programs b = table (file_tasks b) (file_program b)
 -- refusals 2 to 6 of a file
 unfoldable pub file_answer : List ℕ → PlanAnswer
 file_answer b =
-    unless (layout_ok b) (Refused BadLayout)
-    (unless (instructions_ok (file_programs b)) (Refused BadInstruction)
+    unless (layout_ok b) (Err BadLayout)
+    (unless (instructions_ok (file_programs b)) (Err BadInstruction)
     (structure_answer (file_programs b)))
 
 -- "Start: 1, desks not 1..6", then 2 to 6
 unfoldable pub start_answer : ℕ → List ℕ → PlanAnswer
-start_answer n b = unless (within 1 6 n) (Refused BadProcessors) (file_answer b)
+start_answer n b = unless (within 1 6 n) (Err BadProcessors) (file_answer b)

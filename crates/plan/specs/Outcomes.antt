@@ -1,11 +1,9 @@
 -- What reading, writing and checking a plan answer and leave behind.
-use Rattle.std.specs.Prelude.{◌≡◌, ℕ, List, [], ◌++◌, length, drop, nat_le}
+use Rattle.std.specs.Prelude.{◌≡◌, ℕ, List, [], ◌++◌, length, drop, nat_le, Ok, Err}
 use Rattle.base.specs.Choice.{pick, unless}
 use Rattle.plan.specs.declared.Refusal.TheVariants.{OutputShort}
-use Rattle.plan.specs.declared.PlanAnswer.{PlanAnswer}
-use Rattle.plan.specs.declared.PlanAnswer.TheVariants.{Accepted, Refused}
-use Rattle.plan.specs.declared.WriteAnswer.{WriteAnswer}
-use Rattle.plan.specs.declared.WriteAnswer.TheVariants.{Written, Unwritten}
+use Rattle.plan.specs.Answers.{PlanAnswer}
+use Rattle.plan.specs.Answers.{WriteAnswer}
 use Rattle.plan.specs.declared.PlanRead.{PlanRead}
 use Rattle.plan.specs.Answers.{answer_number, is_accepted}
 use Rattle.plan.specs.Programs.{Programs, canonical}
@@ -19,16 +17,16 @@ plan_read b = record { answer = file_answer b; plan = canonical (pick (is_accept
 
 -- "Writing a plan: 2 to 6 by the same conditions, 20 if the output is short": the answer after 2 to 6
 abbrev pub write_answer_after : PlanAnswer → ℕ → ℕ → WriteAnswer
-write_answer_after Accepted size room = unless (nat_le size room) (Unwritten OutputShort) (Written size)
-write_answer_after (Refused r) size room = Unwritten r
+write_answer_after (Ok tt) size room = unless (nat_le size room) (Err OutputShort) (Ok size)
+write_answer_after (Err r) size room = Err r
 
 unfoldable pub write_answer : Programs → List ℕ → WriteAnswer
 write_answer m out = write_answer_after (plan_answer m) (length (layout m)) (length out)
 
 -- "it then stays as it was. Bytes behind a written plan are unchanged."
 abbrev pub output_after : WriteAnswer → List ℕ → List ℕ → List ℕ
-output_after (Written size) file out = file ++ drop size out
-output_after (Unwritten r) file out = out
+output_after (Ok size) file out = file ++ drop size out
+output_after (Err r) file out = out
 
 unfoldable pub write_output : Programs → List ℕ → List ℕ
 write_output m out = output_after (write_answer m out) (layout m) out

@@ -1,11 +1,10 @@
 -- When a plan is refused, 2 to 6. "Each number is tested over the whole plan before the next."
-use Rattle.std.specs.Prelude.{ℕ, Bool, false, not, ◌&&◌, ◌||◌, [], ◌∷◌, length, ◌==◌, nat_le}
+use Rattle.std.specs.Prelude.{ℕ, Bool, false, not, ◌&&◌, ◌||◌, [], ◌∷◌, length, ◌==◌, nat_le, Ok, Err}
 use Rattle.base.specs.Choice.{pick, unless, within}
 use Rattle.base.specs.Range.{up_to}
 use Rattle.base.specs.Lists.{every}
 use Rattle.plan.specs.declared.Instruction.{Instruction}
-use Rattle.plan.specs.declared.PlanAnswer.{PlanAnswer}
-use Rattle.plan.specs.declared.PlanAnswer.TheVariants.{Accepted, Refused}
+use Rattle.plan.specs.Answers.{PlanAnswer}
 use Rattle.plan.specs.declared.Refusal.TheVariants.{BadLayout, BadInstruction, BadFinish, BadCreate, BadChannel}
 use Rattle.plan.specs.Kinds.{op_create, op_sync, op_finish, op_send, op_receive, op_set, op_add, is_finish}
 use Rattle.plan.specs.Programs.{Program, Programs}
@@ -74,14 +73,14 @@ channels_ok m = up_to 128 (channel_ok m)
 -- refusals 4 to 6
 unfoldable pub structure_answer : Programs → PlanAnswer
 structure_answer m =
-    unless (finishes_ok m) (Refused BadFinish)
-    (unless (creates_ok m) (Refused BadCreate)
-    (unless (channels_ok m) (Refused BadChannel)
-    Accepted))
+    unless (finishes_ok m) (Err BadFinish)
+    (unless (creates_ok m) (Err BadCreate)
+    (unless (channels_ok m) (Err BadChannel)
+    (Ok tt)))
 
 -- refusals 2 to 6 of a plan that is in no file
 unfoldable pub plan_answer : Programs → PlanAnswer
 plan_answer m =
-    unless (sizes_ok m) (Refused BadLayout)
-    (unless (instructions_ok m) (Refused BadInstruction)
+    unless (sizes_ok m) (Err BadLayout)
+    (unless (instructions_ok m) (Err BadInstruction)
     (structure_answer m))

@@ -1,10 +1,9 @@
 -- When a file of the new edition is refused.
-use Rattle.std.specs.Prelude.{ℕ, Bool, true, false, not, ◌&&◌, List, [], ◌∷◌, length, ◌==◌, nat_le}
+use Rattle.std.specs.Prelude.{ℕ, Bool, true, false, not, ◌&&◌, List, [], ◌∷◌, length, ◌==◌, nat_le, Err}
 use Rattle.base.specs.Choice.{pick, unless, within}
 use Rattle.base.specs.Lists.{every}
 use Rattle.plan.specs.declared.Instruction.{Instruction}
-use Rattle.plan.specs.declared.PlanAnswer.{PlanAnswer}
-use Rattle.plan.specs.declared.PlanAnswer.TheVariants.{Refused}
+use Rattle.plan.specs.Answers.{PlanAnswer}
 use Rattle.plan.specs.declared.Refusal.TheVariants.{BadLayout, BadInstruction, BadRepeat, RepeatedCreate, TooLong}
 use Rattle.plan.specs.Kinds.{op_create}
 use Rattle.plan.specs.Programs.{Program, Programs}
@@ -54,9 +53,9 @@ lengths_ok m = every (λ g. nat_le (length (written_out g)) 64) m
 -- written-out plan"; "a task left empty is refused by 4", by which the last instruction is a finish
 unfoldable pub repeats_answer : List ℕ → PlanAnswer
 repeats_answer b =
-    unless (layout_ok b) (Refused BadLayout)
-    (unless (new_instructions_ok (file_programs b)) (Refused BadInstruction)
-    (unless (paired_ok (file_programs b)) (Refused BadRepeat)
-    (unless (repeated_ok (file_programs b)) (Refused RepeatedCreate)
-    (unless (lengths_ok (file_programs b)) (Refused TooLong)
+    unless (layout_ok b) (Err BadLayout)
+    (unless (new_instructions_ok (file_programs b)) (Err BadInstruction)
+    (unless (paired_ok (file_programs b)) (Err BadRepeat)
+    (unless (repeated_ok (file_programs b)) (Err RepeatedCreate)
+    (unless (lengths_ok (file_programs b)) (Err TooLong)
     (structure_answer (written_out_plan (file_programs b)))))))

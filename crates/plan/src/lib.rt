@@ -10,20 +10,21 @@ ghost use Rattle.plan.specs.Words.{level_of, with_level, set_word, add_word};
 // serves as another. 0 means none."
 
 // A task's number, 1 to 64 (document 001's THREAD).
-#[derive(Clone, Copy)]
+#[derive(Clone, Copy, PartialEq, Eq)]
 pub struct TaskId(pub u8);
 
 // A processor's number, 1 to 6: the paper's "desk" (document 001's PE).
-#[derive(Clone, Copy)]
+#[derive(Clone, Copy, PartialEq, Eq)]
 pub struct ProcessorId(pub u8);
 
 // A channel's number, 1 to 128 (document 001's CHANNEL).
-#[derive(Clone, Copy)]
+#[derive(Clone, Copy, PartialEq, Eq)]
 pub struct ChannelId(pub u8);
 
 // "instructions of 4 bytes: kind, a zero byte, a 16-bit argument": the paper's kind is the opcode,
 // its argument the operand. "The second byte of set and add, 0 to 3, says which one is meant": the
-// level. A plan value can hold an unknown opcode, so the opcodes are numbers.
+// level. A plan value can hold an unknown opcode, and instruction_of and code_of turn every number into an instruction and back, so the
+// opcodes are numbers.
 #[derive(Clone, Copy)]
 pub struct Instruction {
     pub opcode: u8,
@@ -33,7 +34,7 @@ pub struct Instruction {
 
 // "A task's word .. hold four numbers, level 0 first", of 16 bits each: what a task stores and channels
 // pass on. Its operations are in specs/Words.
-#[derive(Clone, Copy)]
+#[derive(Clone, Copy, PartialEq, Eq)]
 pub struct Word(pub u16, pub u16, pub u16, pub u16);
 
 // What an add gives: the wrapped word, and whether the sum passed 65,535.
@@ -76,7 +77,7 @@ pub struct Plan {
 
 // The refusals of "Start", of "Writing a plan" and of converting a plan with repeats; specs/Answers gives
 // each its number.
-#[derive(Clone, Copy)]
+#[derive(Clone, Copy, PartialEq, Eq)]
 pub enum Refusal {
     BadProcessors,
     BadLayout,
@@ -90,24 +91,11 @@ pub enum Refusal {
     TooLong,
 }
 
-// What is answered about a plan.
-#[derive(Clone, Copy)]
-pub enum PlanAnswer {
-    Accepted,
-    Refused(Refusal),
-}
-
-// What is answered where a plan is written: how many bytes it took, or why none was written.
-#[derive(Clone, Copy)]
-pub enum WriteAnswer {
-    Written(usize),
-    Unwritten(Refusal),
-}
-
-// What reading a file gives: the plan, which is empty where the file is refused.
+// What reading a file gives: the plan, which is empty where the file is refused. It is no Result, since the law read_clear and the
+// definition rig_of speak of the plan of every file.
 #[derive(Clone, Copy)]
 pub struct PlanRead {
-    pub answer: PlanAnswer,
+    pub answer: Result<(), Refusal>,
     pub plan: Plan,
 }
 
@@ -131,15 +119,13 @@ impl Refusal {
     }
 }
 
-impl PlanAnswer {
-    // 0 for acceptance, else the refusal's number.
-    pub fn number(self) -> u32
-        ensures { result ≡ answer_number self }
-    {
-        match self {
-            PlanAnswer::Accepted => 0,
-            PlanAnswer::Refused(r) => r.number(),
-        }
+// 0 for acceptance, else the refusal's number.
+pub fn answer_number(a: Result<(), Refusal>) -> u32
+    ensures { result ≡ answer_number a }
+{
+    match a {
+        Ok(()) => 0,
+        Err(r) => r.number(),
     }
 }
 
@@ -165,38 +151,34 @@ impl Instruction {
 
 impl Word {
     // Level k, 0 to 3.
+    #[tactic(auto, unfolding(crate::specs::Words::level_of))]
     fn level(self, k: u8) -> u16
         ensures { result ≡ level_of self k }
     {
-        if k == 0 {
-            return self.0;
+        match k {
+            0 => self.0,
+            1 => self.1,
+            2 => self.2,
+            _ => self.3,
         }
-        if k == 1 {
-            return self.1;
-        }
-        if k == 2 {
-            return self.2;
-        }
-        self.3
     }
 
     // The word with n at level k.
-    fn with_level(self, k: u8, n: u16) -> Word
+    #[tactic(auto, unfolding(crate::specs::Words::with_level))]
+    fn with_level(mut self, k: u8, n: u16) -> Word
         ensures { result ≡ with_level self k n }
     {
-        if k == 0 {
-            return Word(n, self.1, self.2, self.3);
+        match k {
+            0 => self.0 = n,
+            1 => self.1 = n,
+            2 => self.2 = n,
+            _ => self.3 = n,
         }
-        if k == 1 {
-            return Word(self.0, n, self.2, self.3);
-        }
-        if k == 2 {
-            return Word(self.0, self.1, n, self.3);
-        }
-        Word(self.0, self.1, self.2, n)
+        self
     }
 
     // "Set stores the task's word": one level of it.
+    #[tactic(auto, unfolding(crate::specs::Words::set_word))]
     pub fn set(self, i: Instruction) -> Word
         ensures { result ≡ set_word self i }
     {
@@ -208,10 +190,9 @@ impl Word {
         ensures { result ≡ add_word self i }
     {
         let old = self.level(i.level);
-        let sum = std::num::wrapping_add_u16(old, i.operand);
-        let word = self.with_level(i.level, sum);
+        let sum = old.wrapping_add(i.operand);
         Sum {
-            word: word,
+            word: self.with_level(i.level, sum),
             overflow: sum < old,
         }
     }

@@ -1,12 +1,11 @@
 -- Cases of the sets of ready tasks, and of calls of a dispatcher.
 use mathlib.Core.Path.{◌≡◌, refl}
 use mathlib.Core.List.{List, [], ◌∷◌}
+use Rattle.std.specs.Prelude.{None, Some}
+use Rattle.std.specs.Prelude.{Ok, Err}
 use Rattle.rules.specs.declared.message.Message.{Message}
 use Rattle.rules.specs.declared.message.Message.TheVariants.{Advert, Migration}
-use Rattle.rules.specs.declared.rule.Received.TheVariants.{Nothing}
-use Rattle.rules.specs.declared.step.StepAnswer.TheVariants.{Accepted, BadSystem, NoProcessor, FinishWithChildren}
-use Rattle.rules.specs.declared.step.Report.{Report}
-use Rattle.rules.specs.declared.dispatch.Turn.TheVariants.{Skipped, Made}
+use Rattle.rules.specs.declared.step.StepRefusal.TheVariants.{BadSystem, NoProcessor, FinishWithChildren}
 use Rattle.rules.specs.declared.dispatch.Dispatched.{Dispatched}
 use Rattle.rules.specs.declared.system.System.{System}
 use Rattle.rules.specs.Numbers.{task_id, channel_id}
@@ -101,11 +100,11 @@ ready_passed = refl
 abbrev first : Dispatched
 first = ruled_dispatch moving (processor 1)
 
-first_delivery : first.delivery ≡ Skipped
+first_delivery : first.delivery ≡ None
 unfolding evaluated
 first_delivery = refl
 
-first_run : first.run ≡ Made (run 1) (record { answer = FinishWithChildren; received = Nothing })
+first_run : first.run ≡ Some ((run 1), (record { answer = Err FinishWithChildren; received = None }))
 unfolding evaluated
 first_run = refl
 
@@ -113,7 +112,7 @@ first_chosen : first.system.chosen ≡ 1 ∷ 0 ∷ 0 ∷ 0 ∷ 0 ∷ 0 ∷ []
 unfolding evaluated
 first_chosen = refl
 
-second_run : (ruled_dispatch first.system (processor 1)).run ≡ Made (run 2) (record { answer = Accepted; received = Nothing })
+second_run : (ruled_dispatch first.system (processor 1)).run ≡ Some ((run 2), (record { answer = Ok tt; received = None }))
 unfolding evaluated
 second_run = refl
 
@@ -121,11 +120,11 @@ second_run = refl
 abbrev arriving : Dispatched
 arriving = ruled_dispatch moving (processor 2)
 
-arriving_delivery : arriving.delivery ≡ Made (deliver 1) (record { answer = Accepted; received = Nothing })
+arriving_delivery : arriving.delivery ≡ Some ((deliver 1), (record { answer = Ok tt; received = None }))
 unfolding evaluated
 arriving_delivery = refl
 
-arriving_run : arriving.run ≡ Made (run 3) (record { answer = Accepted; received = Nothing })
+arriving_run : arriving.run ≡ Some ((run 3), (record { answer = Ok tt; received = None }))
 unfolding evaluated
 arriving_run = refl
 
@@ -134,7 +133,7 @@ unfolding evaluated
 arriving_chosen = refl
 
 -- a desk with nothing to do
-idle : ruled_dispatch start (processor 2) ≡ record { answer = Accepted; delivery = Skipped; run = Skipped; system = start }
+idle : ruled_dispatch start (processor 2) ≡ record { answer = Ok tt; delivery = None; run = None; system = start }
 unfolding evaluated
 idle = refl
 
@@ -143,21 +142,21 @@ idle = refl
 abbrev other_set : System
 other_set = with_tasks start (record { records = start.tasks.records; ready = 1 ∷ 2 ∷ 0 ∷ 0 ∷ 0 ∷ 0 ∷ [] })
 
-refused_set : dispatched other_set (processor 1) ≡ record { answer = BadSystem; delivery = Skipped; run = Skipped; system = other_set }
+refused_set : dispatched other_set (processor 1) ≡ record { answer = Err BadSystem; delivery = None; run = None; system = other_set }
 unfolding evaluated
 refused_set = refl
 
 abbrev chosen_above : System
 chosen_above = with_chosen start (0 ∷ 0 ∷ 0 ∷ 0 ∷ 0 ∷ 4 ∷ [])
 
-refused_choice : dispatched chosen_above (processor 3) ≡ record { answer = BadSystem; delivery = Skipped; run = Skipped; system = chosen_above }
+refused_choice : dispatched chosen_above (processor 3) ≡ record { answer = Err BadSystem; delivery = None; run = None; system = chosen_above }
 unfolding evaluated
 refused_choice = refl
 
-refused_desk_0 : dispatched start (processor 0) ≡ record { answer = NoProcessor; delivery = Skipped; run = Skipped; system = start }
+refused_desk_0 : dispatched start (processor 0) ≡ record { answer = Err NoProcessor; delivery = None; run = None; system = start }
 unfolding evaluated
 refused_desk_0 = refl
 
-refused_desk_3 : dispatched start (processor 3) ≡ record { answer = NoProcessor; delivery = Skipped; run = Skipped; system = start }
+refused_desk_3 : dispatched start (processor 3) ≡ record { answer = Err NoProcessor; delivery = None; run = None; system = start }
 unfolding evaluated
 refused_desk_3 = refl

@@ -2,12 +2,12 @@
 use mathlib.Core.Path.{◌≡◌, refl}
 use mathlib.Core.Bool.{true, false}
 use mathlib.Core.List.{[], ◌∷◌}
+use Rattle.std.specs.Prelude.{Some}
+use Rattle.std.specs.Prelude.{Ok}
 use Rattle.plan.proofs.Edges.{does_on}
 use Rattle.plan.specs.declared.Word.{Word}
 use Rattle.plan.specs.Kinds.{op_set, op_add}
 use Rattle.plan.specs.Words.{levels, set_word, add_word}
-use Rattle.rules.specs.declared.rule.Received.TheVariants.{Word as Got}
-use Rattle.rules.specs.declared.step.StepAnswer.TheVariants.{Accepted}
 use Rattle.rules.specs.Trace.{step_line}
 use Rattle.rules.proofs.Sites.{one}
 use Rattle.rules.proofs.Evaluated.{evaluated}
@@ -46,7 +46,7 @@ unfolding evaluated
 add_third = refl
 
 -- `7 0 1 1 2 3 65535`
-four_line : step_line 7 (record { answer = Accepted; received = Got one four })
+four_line : step_line 7 (record { answer = Ok tt; received = Some (one, four) })
     ≡ 55 ∷ 32 ∷ 48 ∷ 32 ∷ 49 ∷ 32 ∷ 49 ∷ 32 ∷ 50 ∷ 32 ∷ 51 ∷ 32 ∷ 54 ∷ 53 ∷ 53 ∷ 51 ∷ 53 ∷ 10 ∷ []
 unfolding evaluated
 four_line = refl

@@ -5,12 +5,12 @@ use mathlib.Core.Bool.{true, false}
 use mathlib.Core.List.{List, [], ◌∷◌, ◌++◌, map}
 use Prim.Native.Nat.{ℕ}
 use lib.ListN.{length}
+use Rattle.std.specs.Prelude.{None, Some}
 use Rattle.plan.specs.Numbers.{channel_id}
 use Rattle.plan.specs.Programs.{canonical}
 use Rattle.plan.specs.Words.{levels}
 use Rattle.rules.specs.declared.log.LogsAnswer.{LogsAnswer}
 use Rattle.rules.specs.declared.log.LogsAnswer.TheVariants.{Yes, No, BadLength, BadRecord}
-use Rattle.rules.specs.declared.rule.Received.TheVariants.{Nothing, Word as Got}
 use Rattle.rules.specs.declared.step.Step.{Step}
 use Rattle.rules.specs.declared.system.System.{System}
 use Rattle.rules.specs.Networks.{messages}
@@ -30,7 +30,7 @@ worked = started 2 (canonical ((create 2 ∷ set 7 ∷ send 3 ∷ sync ∷ finis
 abbrev called : List Step
 called = run 1 ∷ run 1 ∷ move 2 2 ∷ run 1 ∷ deliver 2 ∷ deliver 1 ∷ run 2 ∷ deliver 1 ∷ []
 
-word_leaves_lem : sent_in worked called ≡ Nothing ∷ Nothing ∷ Nothing ∷ Nothing ∷ Nothing ∷ Nothing ∷ Nothing ∷ Got (channel_id 3) seven ∷ []
+word_leaves_lem : sent_in worked called ≡ None ∷ None ∷ None ∷ None ∷ None ∷ None ∷ None ∷ Some ((channel_id 3), seven) ∷ []
 unfolding evaluated letter_word posted_word leaving sent_by sent_in
 word_leaves_lem = refl
 
@@ -52,7 +52,7 @@ unfolding evaluated letter_word posted_word leaving sent_by sent_in words_on
 sent_once = refl
 
 -- on one desk it passes directly: it leaves and is received by one step, whether the send or the receive is second; a refused step sends nothing
-passed_by_receive : sent_in worked (run 1 ∷ run 1 ∷ run 1 ∷ run 1 ∷ run 2 ∷ []) ≡ Nothing ∷ Nothing ∷ Nothing ∷ Nothing ∷ Got (channel_id 3) seven ∷ []
+passed_by_receive : sent_in worked (run 1 ∷ run 1 ∷ run 1 ∷ run 1 ∷ run 2 ∷ []) ≡ None ∷ None ∷ None ∷ None ∷ Some ((channel_id 3), seven) ∷ []
 unfolding evaluated letter_word posted_word leaving sent_by sent_in
 passed_by_receive = refl
 
@@ -62,7 +62,7 @@ passed_by_send = refl
 
 -- a record of a log with four levels
 abbrev entry : ℕ → ℕ → ℕ → ℕ → ℕ → List ℕ
-entry c x y z w = log_record (Got (channel_id c) (levels x y z w))
+entry c x y z w = log_record (Some ((channel_id c), (levels x y z w)))
 
 record_bytes : entry 258 1 256 65535 772 ≡ 2 ∷ 1 ∷ 1 ∷ 0 ∷ 0 ∷ 1 ∷ 255 ∷ 255 ∷ 4 ∷ 3 ∷ []
 unfolding log_record

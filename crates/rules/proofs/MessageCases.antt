@@ -1,11 +1,11 @@
 -- Each way of an offer, an advert, a call and a word letter: the sender is at desk 1, the receiver at desk 2 or 3.
 use mathlib.Core.Path.{◌≡◌, refl}
 use mathlib.Core.Bool.{true, false}
+use Rattle.std.specs.Prelude.{None, Some}
 use Rattle.plan.specs.declared.Word.{Word as WordOf}
 use Rattle.rules.specs.declared.channel.Hint.{Hint}
 use Rattle.rules.specs.declared.message.Message.TheVariants.{Offered, ReadyToReceive, Data}
 use Rattle.rules.specs.declared.rule.Posting.TheVariants.{Nothing, Single}
-use Rattle.rules.specs.declared.rule.Received.TheVariants.{Nothing as NoWord, Word}
 use Rattle.rules.specs.Tasks.{taking}
 use Rattle.rules.specs.Cells.{hint, offer, with_hint, with_held, with_noted, with_granted, with_awaiting, with_carried}
 use Rattle.rules.specs.Offers.{kept, offer_rule, advert_rule}
@@ -89,18 +89,18 @@ advert_elsewhere = refl
 
 -- a call at desk 1 from desk 2: the desk learns where the receiver is, unless it knows better
 call_taken : call_rule (site true 2 true (with_hint empty (hint (processor 3) 3))) one (processor 1) (hint (processor 2) 4)
-    ≡ record { sender = talker false; receiver = listener 2; cell = with_hint empty (hint (processor 2) 4); posting = Single (Data one (processor 2) seven); received = NoWord }
+    ≡ record { sender = talker false; receiver = listener 2; cell = with_hint empty (hint (processor 2) 4); posting = Single (Data one (processor 2) seven); received = None }
 unfolding evaluated
 call_taken = refl
 
 call_older : call_rule (site true 2 true (with_hint empty (hint (processor 3) 5))) one (processor 1) (hint (processor 2) 4)
-    ≡ record { sender = talker false; receiver = listener 2; cell = with_hint empty (hint (processor 3) 5); posting = Single (Data one (processor 2) seven); received = NoWord }
+    ≡ record { sender = talker false; receiver = listener 2; cell = with_hint empty (hint (processor 3) 5); posting = Single (Data one (processor 2) seven); received = None }
 unfolding evaluated
 call_older = refl
 
 -- a word letter at desk 2: the receiver takes it, and the mark is cleared
 data_taken : data_rule (site false 2 true (with_awaiting (with_granted empty 1) true)) one (processor 2) seven
-    ≡ record { sender = talker false; receiver = taking (listener 2) seven; cell = with_granted empty 1; posting = Nothing; received = Word one seven }
+    ≡ record { sender = talker false; receiver = taking (listener 2) seven; cell = with_granted empty 1; posting = Nothing; received = Some (one, seven) }
 unfolding evaluated
 data_taken = refl
 

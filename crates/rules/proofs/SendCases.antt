@@ -2,10 +2,10 @@
 use mathlib.Core.Path.{◌≡◌, refl}
 use mathlib.Core.Bool.{true, false}
 use mathlib.Core.List.{[], ◌∷◌}
+use Rattle.std.specs.Prelude.{Some}
 use Rattle.rules.specs.declared.task.TaskState.TheVariants.{Receiving}
 use Rattle.rules.specs.declared.message.Message.TheVariants.{Offered, ReadyToReceive}
 use Rattle.rules.specs.declared.rule.Posting.TheVariants.{Nothing, Single, Adverts}
-use Rattle.rules.specs.declared.rule.Received.TheVariants.{Word}
 use Rattle.rules.specs.Numbers.{channel_id}
 use Rattle.rules.specs.Tasks.{with_state, with_pc, advanced, taking}
 use Rattle.rules.specs.Cells.{hint, offer, with_hint, with_held, with_noted, with_granted, with_awaiting, with_carried}
@@ -18,7 +18,7 @@ use Rattle.rules.proofs.Evaluated.{evaluated}
 
 -- the receiver is here and receives: the word passes, and the number called becomes 5
 send_passes_lem : send_rule (site false 1 true empty) one 5
-    ≡ record { sender = advanced (talker false); receiver = taking (listener 1) seven; cell = with_granted empty 5; posting = Nothing; received = Word one seven }
+    ≡ record { sender = advanced (talker false); receiver = taking (listener 1) seven; cell = with_granted empty 5; posting = Nothing; received = Some (one, seven) }
 unfolding evaluated
 send_passes_lem = refl
 
@@ -60,7 +60,7 @@ send_waiting = refl
 
 -- the sender is here and sends: the word passes, the number called becomes 5, a carried offer is dropped
 receive_passes_lem : receive_rule (site true 1 false (with_carried empty (offer (processor 1) 5))) one 5
-    ≡ record { sender = talker false; receiver = advanced (taking (listener 1) seven); cell = with_granted empty 5; posting = Nothing; received = Word one seven }
+    ≡ record { sender = talker false; receiver = advanced (taking (listener 1) seven); cell = with_granted empty 5; posting = Nothing; received = Some (one, seven) }
 unfolding evaluated
 receive_passes_lem = refl
 

@@ -2,6 +2,8 @@
 use mathlib.Core.Path.{◌≡◌, refl}
 use mathlib.Core.Bool.{true, false}
 use mathlib.Core.List.{[], ◌∷◌, map}
+use Rattle.std.specs.Prelude.{None, Some}
+use Rattle.std.specs.Prelude.{Ok, Err}
 use Rattle.plan.specs.declared.Refusal.TheVariants.{BadFinish}
 use Rattle.plan.proofs.Edges.{word_of}
 use Rattle.plan.specs.Programs.{canonical}
@@ -9,9 +11,8 @@ use Rattle.plan.specs.Words.{zero_word}
 use Rattle.rules.specs.declared.task.Task.{Task}
 use Rattle.rules.specs.declared.task.TaskState.TheVariants.{Unborn, Ready, Waiting, Sending, Receiving, Moving}
 use Rattle.rules.specs.declared.message.Message.TheVariants.{Terminated, Migration}
-use Rattle.rules.specs.declared.rule.Received.TheVariants.{Nothing, Word}
-use Rattle.rules.specs.declared.step.StepAnswer.TheVariants.{Accepted, BadSystem, NoTask, NotReady, FinishWithChildren, NetworkFull, NoMessage, NoProcessor, AlreadyThere, MoveWithChildren, MovesSpent, BadStep}
-use Rattle.rules.specs.declared.step.RunAnswer.TheVariants.{Traced, Unstarted, BadSteps, OutputShort}
+use Rattle.rules.specs.declared.step.StepRefusal.TheVariants.{BadSystem, NoTask, NotReady, FinishWithChildren, NetworkFull, NoMessage, NoProcessor, AlreadyThere, MoveWithChildren, MovesSpent, BadStep}
+use Rattle.rules.specs.declared.step.RunRefusal.TheVariants.{Unstarted, BadSteps, OutputShort}
 use Rattle.rules.specs.declared.system.System.{System}
 use Rattle.rules.specs.Numbers.{task_id, channel_id, no_processor}
 use Rattle.rules.specs.Answers.{step_number, run_number}
@@ -32,11 +33,11 @@ use Rattle.rules.proofs.SoundEdges.{program}
 use Rattle.rules.proofs.Evaluated.{evaluated}
 
 -- the paper's numbers, in the order of the types
-step_numbers : map step_number (Accepted ∷ BadSystem ∷ NoTask ∷ NotReady ∷ FinishWithChildren ∷ NetworkFull ∷ NoMessage ∷ NoProcessor ∷ AlreadyThere ∷ MoveWithChildren ∷ MovesSpent ∷ BadStep ∷ [])
+step_numbers : map step_number ((Ok tt) ∷ (Err BadSystem) ∷ (Err NoTask) ∷ (Err NotReady) ∷ (Err FinishWithChildren) ∷ (Err NetworkFull) ∷ (Err NoMessage) ∷ (Err NoProcessor) ∷ (Err AlreadyThere) ∷ (Err MoveWithChildren) ∷ (Err MovesSpent) ∷ (Err BadStep) ∷ [])
     ≡ 0 ∷ 9 ∷ 10 ∷ 11 ∷ 12 ∷ 13 ∷ 14 ∷ 15 ∷ 16 ∷ 17 ∷ 18 ∷ 19 ∷ []
 step_numbers = refl
 
-run_numbers : map run_number (Traced ∷ Unstarted BadFinish ∷ BadSteps ∷ OutputShort ∷ []) ≡ 0 ∷ 4 ∷ 8 ∷ 20 ∷ []
+run_numbers : map run_number ((Ok tt) ∷ Err (Unstarted BadFinish) ∷ (Err BadSteps) ∷ (Err OutputShort) ∷ []) ≡ 0 ∷ 4 ∷ 8 ∷ 20 ∷ []
 run_numbers = refl
 
 -- records field by field: before birth, at birth at desk 2, on the way from desk 2, after an arrival at desk 3
@@ -114,74 +115,74 @@ abbrev spent : Task → Task
 spent x = with_moves x 9999
 
 -- run: 10, 11, 12 before 13; 13 with one letter too many, and none
-run_of_none : run_answer small (task_id 2) ≡ NoTask
+run_of_none : run_answer small (task_id 2) ≡ Err NoTask
 unfolding evaluated small
 run_of_none = refl
 
-run_of_zero : run_answer small (task_id 0) ≡ NoTask
+run_of_zero : run_answer small (task_id 0) ≡ Err NoTask
 unfolding evaluated small
 run_of_zero = refl
 
-run_unborn : run_answer family (task_id 2) ≡ NotReady
+run_unborn : run_answer family (task_id 2) ≡ Err NotReady
 unfolding evaluated family
 run_unborn = refl
 
-run_early : run_answer (crowded 256 (with_second parting)) (task_id 2) ≡ FinishWithChildren
+run_early : run_answer (crowded 256 (with_second parting)) (task_id 2) ≡ Err FinishWithChildren
 unfolding evaluated family crowded
 run_early = refl
 
-run_full : run_answer (crowded 256 (with_second ending)) (task_id 2) ≡ NetworkFull
+run_full : run_answer (crowded 256 (with_second ending)) (task_id 2) ≡ Err NetworkFull
 unfolding evaluated family crowded
 run_full = refl
 
-run_fits : run_answer (crowded 255 (with_second ending)) (task_id 2) ≡ Accepted
+run_fits : run_answer (crowded 255 (with_second ending)) (task_id 2) ≡ Ok tt
 unfolding evaluated family crowded
 run_fits = refl
 
 -- deliver: 14 before the first position and behind the last
-deliver_zero : deliver_answer (crowded 2 small) 0 ≡ NoMessage
+deliver_zero : deliver_answer (crowded 2 small) 0 ≡ Err NoMessage
 unfolding evaluated small crowded
 deliver_zero = refl
 
-deliver_last : deliver_answer (crowded 2 small) 2 ≡ Accepted
+deliver_last : deliver_answer (crowded 2 small) 2 ≡ Ok tt
 unfolding evaluated small crowded
 deliver_last = refl
 
-deliver_behind : deliver_answer (crowded 2 small) 3 ≡ NoMessage
+deliver_behind : deliver_answer (crowded 2 small) 3 ≡ Err NoMessage
 unfolding evaluated small crowded
 deliver_behind = refl
 
 -- move: 10 before 15, 15 before 11, 11 before 16, 16 before 18, 18 before 13, 13; a count of 9,998 moves; "A ready task with living children may
 -- now move"
-move_of_none : move_answer family (task_id 4) (processor 3) ≡ NoTask
+move_of_none : move_answer family (task_id 4) (processor 3) ≡ Err NoTask
 unfolding evaluated family
 move_of_none = refl
 
-move_nowhere : move_answer family (task_id 2) (processor 3) ≡ NoProcessor
+move_nowhere : move_answer family (task_id 2) (processor 3) ≡ Err NoProcessor
 unfolding evaluated family
 move_nowhere = refl
 
-move_waiting : move_answer (with_second (with_state parting Waiting)) (task_id 2) (processor 2) ≡ NotReady
+move_waiting : move_answer (with_second (with_state parting Waiting)) (task_id 2) (processor 2) ≡ Err NotReady
 unfolding evaluated family
 move_waiting = refl
 
-move_there : move_answer (with_second (spent parting)) (task_id 2) (processor 2) ≡ AlreadyThere
+move_there : move_answer (with_second (spent parting)) (task_id 2) (processor 2) ≡ Err AlreadyThere
 unfolding evaluated family
 move_there = refl
 
-move_parting : move_answer (with_second parting) (task_id 2) (processor 1) ≡ Accepted
+move_parting : move_answer (with_second parting) (task_id 2) (processor 1) ≡ Ok tt
 unfolding evaluated family
 move_parting = refl
 
-move_spent : move_answer (crowded 256 (with_second (spent ending))) (task_id 2) (processor 1) ≡ MovesSpent
+move_spent : move_answer (crowded 256 (with_second (spent ending))) (task_id 2) (processor 1) ≡ Err MovesSpent
 unfolding evaluated family crowded
 move_spent = refl
 
-move_full : move_answer (crowded 256 (with_second (with_moves ending 9998))) (task_id 2) (processor 1) ≡ NetworkFull
+move_full : move_answer (crowded 256 (with_second (with_moves ending 9998))) (task_id 2) (processor 1) ≡ Err NetworkFull
 unfolding evaluated family crowded
 move_full = refl
 
-move_last : move_answer (crowded 255 (with_second (with_moves ending 9998))) (task_id 2) (processor 1) ≡ Accepted
+move_last : move_answer (crowded 255 (with_second (with_moves ending 9998))) (task_id 2) (processor 1) ≡ Ok tt
 unfolding evaluated family crowded
 move_last = refl
 
@@ -192,7 +193,7 @@ unfolding evaluated
 malformed = refl
 
 -- 9 before 19; 9 asks about the number of desks and the plan
-nine_first : step_answer (blank 7 small.plan) (raw 4 0 0) ≡ BadSystem
+nine_first : step_answer (blank 7 small.plan) (raw 4 0 0) ≡ Err BadSystem
 unfolding evaluated small
 nine_first = refl
 
@@ -205,7 +206,7 @@ unfolding evaluated
 bad_plan = refl
 
 -- a refused step leaves the rig
-refused_stays : ruled_step small (deliver 1) ≡ record { report = record { answer = NoMessage; received = Nothing }; system = small }
+refused_stays : ruled_step small (deliver 1) ≡ record { report = record { answer = Err NoMessage; received = None }; system = small }
 unfolding evaluated small
 refused_stays = refl
 
@@ -240,7 +241,7 @@ unfolding evaluated family
 ended_found = refl
 
 -- "A channel's received words": those of channel 1, in order
-received_in_order : received_on one (record { answer = Accepted; received = Word one seven } ∷ record { answer = Accepted; received = Word (channel_id 2) zero_word } ∷ record { answer = BadStep; received = Nothing } ∷ record { answer = Accepted; received = Word one (word_of 8) } ∷ [])
+received_in_order : received_on one (record { answer = Ok tt; received = Some (one, seven) } ∷ record { answer = Ok tt; received = Some ((channel_id 2), zero_word) } ∷ record { answer = Err BadStep; received = None } ∷ record { answer = Ok tt; received = Some (one, (word_of 8)) } ∷ [])
     ≡ seven ∷ word_of 8 ∷ []
 unfolding evaluated
 received_in_order = refl

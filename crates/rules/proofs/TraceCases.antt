@@ -3,12 +3,12 @@ use mathlib.Core.Path.{◌≡◌, refl}
 use mathlib.Core.Bool.{true, false}
 use mathlib.Core.List.{List, [], ◌∷◌, ◌++◌}
 use Prim.Native.Nat.{ℕ}
+use Rattle.std.specs.Prelude.{None, Some}
+use Rattle.std.specs.Prelude.{Ok, Err}
 use Rattle.plan.proofs.Edges.{single}
-use Rattle.plan.specs.declared.PlanAnswer.TheVariants.{Accepted, Refused}
 use Rattle.plan.specs.declared.Refusal.TheVariants.{BadFinish}
-use Rattle.rules.specs.declared.rule.Received.TheVariants.{Nothing, Word}
-use Rattle.rules.specs.declared.step.StepAnswer.TheVariants.{BadStep, Accepted as Ok}
-use Rattle.rules.specs.declared.step.RunAnswer.TheVariants.{Traced, Unstarted, BadSteps, OutputShort}
+use Rattle.rules.specs.declared.step.StepRefusal.TheVariants.{BadStep}
+use Rattle.rules.specs.declared.step.RunRefusal.TheVariants.{Unstarted, BadSteps, OutputShort}
 use Rattle.rules.specs.Trace.{decimal, step_line, end_line, step_lines, refused_line}
 use Rattle.rules.specs.StepFiles.{file_steps, answer_after, fitting, written_after, printed}
 use Rattle.rules.proofs.Scripts.{raw}
@@ -29,11 +29,11 @@ unfolding evaluated
 greatest = refl
 
 -- `12 0 1 7 0 0 0` and `2000 19`
-word_line : step_line 12 (record { answer = Ok; received = Word one seven }) ≡ 49 ∷ 50 ∷ 32 ∷ 48 ∷ 32 ∷ 49 ∷ 32 ∷ 55 ∷ 32 ∷ 48 ∷ 32 ∷ 48 ∷ 32 ∷ 48 ∷ 10 ∷ []
+word_line : step_line 12 (record { answer = Ok tt; received = Some (one, seven) }) ≡ 49 ∷ 50 ∷ 32 ∷ 48 ∷ 32 ∷ 49 ∷ 32 ∷ 55 ∷ 32 ∷ 48 ∷ 32 ∷ 48 ∷ 32 ∷ 48 ∷ 10 ∷ []
 unfolding evaluated
 word_line = refl
 
-refused_line_lem : step_line 2000 (record { answer = BadStep; received = Nothing }) ≡ 50 ∷ 48 ∷ 48 ∷ 48 ∷ 32 ∷ 49 ∷ 57 ∷ 10 ∷ []
+refused_line_lem : step_line 2000 (record { answer = Err BadStep; received = None }) ≡ 50 ∷ 48 ∷ 48 ∷ 48 ∷ 32 ∷ 49 ∷ 57 ∷ 10 ∷ []
 unfolding evaluated
 refused_line_lem = refl
 
@@ -43,7 +43,7 @@ unfolding evaluated crowded small
 end_line_lem = refl
 
 -- `1 0` and `2 19`; `refused 8`
-two_lines_lem : step_lines 0 (record { answer = Ok; received = Nothing } ∷ record { answer = BadStep; received = Nothing } ∷ [])
+two_lines_lem : step_lines 0 (record { answer = Ok tt; received = None } ∷ record { answer = Err BadStep; received = None } ∷ [])
     ≡ (49 ∷ 32 ∷ 48 ∷ 10 ∷ []) ∷ (50 ∷ 32 ∷ 49 ∷ 57 ∷ 10 ∷ []) ∷ []
 unfolding evaluated
 two_lines_lem = refl
@@ -79,32 +79,32 @@ unfolding evaluated
 fits_one = refl
 
 -- the answers about them: 0, 20, 8, 4
-traced : answer_after Accepted true lines 5 ≡ Traced
+traced : answer_after (Ok tt) true lines 5 ≡ Ok tt
 unfolding evaluated
 traced = refl
 
-short : answer_after Accepted true lines 4 ≡ OutputShort
+short : answer_after (Ok tt) true lines 4 ≡ Err OutputShort
 unfolding evaluated
 short = refl
 
-malformed : answer_after Accepted false lines 4 ≡ BadSteps
+malformed : answer_after (Ok tt) false lines 4 ≡ Err BadSteps
 unfolding evaluated
 malformed = refl
 
-unstarted : answer_after (Refused BadFinish) false lines 4 ≡ Unstarted BadFinish
+unstarted : answer_after (Err BadFinish) false lines 4 ≡ Err (Unstarted BadFinish)
 unfolding evaluated
 unstarted = refl
 
 -- what is written: all, what fits, nothing
-written_all : written_after Traced lines 5 ≡ 1 ∷ 2 ∷ 3 ∷ 4 ∷ 5 ∷ []
+written_all : written_after (Ok tt) lines 5 ≡ 1 ∷ 2 ∷ 3 ∷ 4 ∷ 5 ∷ []
 unfolding evaluated
 written_all = refl
 
-written_short : written_after OutputShort lines 4 ≡ 1 ∷ 2 ∷ 3 ∷ []
+written_short : written_after (Err OutputShort) lines 4 ≡ 1 ∷ 2 ∷ 3 ∷ []
 unfolding evaluated
 written_short = refl
 
-written_nothing : written_after BadSteps lines 4 ++ written_after (Unstarted BadFinish) lines 4 ≡ []
+written_nothing : written_after (Err BadSteps) lines 4 ++ written_after (Err (Unstarted BadFinish)) lines 4 ≡ []
 unfolding evaluated
 written_nothing = refl
 

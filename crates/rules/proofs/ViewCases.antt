@@ -2,11 +2,10 @@
 use mathlib.Core.Path.{◌≡◌, refl}
 use mathlib.Core.List.{[], ◌∷◌}
 use lib.ListN.{length, replicate, drop}
-use Rattle.rules.specs.declared.step.StepAnswer.TheVariants.{BadSystem, NoTask}
+use Rattle.std.specs.Prelude.{Ok, Err}
+use Rattle.rules.specs.declared.step.StepRefusal.TheVariants.{BadSystem, NoTask}
 use Rattle.rules.specs.declared.system.System.{System}
 use Rattle.rules.specs.declared.task.TaskState.TheVariants.{Ready}
-use Rattle.rules.specs.declared.view.TabletAnswer.TheVariants.{Shown, Refused}
-use Rattle.rules.specs.declared.view.DriverAnswer.TheVariants.{Shown as DriverShown, Refused as DriverRefused}
 use Rattle.rules.specs.Numbers.{task_id}
 use Rattle.rules.specs.Systems.{with_chosen}
 use Rattle.rules.specs.Steps.{ruled_steps, move_step}
@@ -34,24 +33,24 @@ panel_outside = refl
 abbrev shown : System
 shown = (ruled_steps (start_on 1 ((create 2 ∷ set 7 ∷ finish ∷ []) ∷ (finish ∷ []) ∷ [])) (run 1 ∷ run 1 ∷ [])).system
 
-tablet_shown : tablet_of shown (task_id 1) ≡ Shown (record { task = task_id 1; state = Ready; processor = processor 1; pc = 3 })
+tablet_shown : tablet_of shown (task_id 1) ≡ Ok (record { task = task_id 1; state = Ready; processor = processor 1; pc = 3 })
 unfolding evaluated
 tablet_shown = refl
 
 driver_shown : driver_of shown (task_id 1)
-    ≡ DriverShown (record { tablet = record { task = task_id 1; state = Ready; processor = processor 1; pc = 3 }; word = seven; children = 2; living = 1 })
+    ≡ Ok (record { tablet = record { task = task_id 1; state = Ready; processor = processor 1; pc = 3 }; word = seven; children = 2; living = 1 })
 unfolding evaluated
 driver_shown = refl
 
 -- "either view refuses by 9, then by 10"
-tablet_ten : tablet_of shown (task_id 3) ≡ Refused NoTask
+tablet_ten : tablet_of shown (task_id 3) ≡ Err NoTask
 unfolding evaluated
 tablet_ten = refl
 
-driver_ten : driver_of shown (task_id 0) ≡ DriverRefused NoTask
+driver_ten : driver_of shown (task_id 0) ≡ Err NoTask
 unfolding evaluated
 driver_ten = refl
 
-tablet_nine : tablet_of (with_chosen shown (3 ∷ 0 ∷ 0 ∷ 0 ∷ 0 ∷ 0 ∷ [])) (task_id 3) ≡ Refused BadSystem
+tablet_nine : tablet_of (with_chosen shown (3 ∷ 0 ∷ 0 ∷ 0 ∷ 0 ∷ 0 ∷ [])) (task_id 3) ≡ Err BadSystem
 unfolding evaluated
 tablet_nine = refl

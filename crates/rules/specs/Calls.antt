@@ -1,5 +1,5 @@
 -- Deliver: a call and a word letter. "Where that isn't so, the letter is removed without effect".
-use Rattle.std.specs.Prelude.{◌&&◌}
+use Rattle.std.specs.Prelude.{◌&&◌, None, Some}
 use Rattle.base.specs.Choice.{pick}
 use Rattle.plan.specs.declared.ProcessorId.{ProcessorId}
 use Rattle.plan.specs.declared.ChannelId.{ChannelId}
@@ -8,7 +8,6 @@ use Rattle.rules.specs.declared.channel.Hint.{Hint}
 use Rattle.rules.specs.declared.message.Message.TheVariants.{Data}
 use Rattle.rules.specs.declared.rule.Site.{Site}
 use Rattle.rules.specs.declared.rule.Posting.TheVariants.{Nothing, Single}
-use Rattle.rules.specs.declared.rule.Received.TheVariants.{Nothing as NoWord, Word}
 use Rattle.rules.specs.declared.rule.Outcome.{Outcome}
 use Rattle.rules.specs.Tasks.{is_at, readied, taking}
 use Rattle.rules.specs.Cells.{newer, with_hint, cleared}
@@ -24,7 +23,7 @@ call_rule x c d h =
       receiver = x.receiver;
       cell = with_hint x.cell (newer x.cell.entry.hint h);
       posting = Single (Data c h.processor x.sender.word);
-      received = NoWord;
+      received = None;
     })
     (kept x x.cell Nothing)
 
@@ -37,6 +36,6 @@ data_rule x c d w =
       receiver = taking x.receiver w;
       cell = cleared x.cell;
       posting = Nothing;
-      received = Word c w;
+      received = Some (c, w);
     })
     (kept x x.cell Nothing)

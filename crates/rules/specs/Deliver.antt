@@ -1,5 +1,5 @@
 -- "Deliver: one letter, by its position from 1".
-use Rattle.std.specs.Prelude.{ℕ}
+use Rattle.std.specs.Prelude.{ℕ, Ok, Err}
 use Rattle.base.specs.Choice.{pick, unless, within}
 use Rattle.plan.specs.declared.TaskId.{TaskId}
 use Rattle.plan.specs.declared.ProcessorId.{ProcessorId}
@@ -11,8 +11,8 @@ use Rattle.rules.specs.declared.message.Message.{Message}
 use Rattle.rules.specs.declared.message.Message.TheVariants.{Empty, Offered, Advert, ReadyToReceive, Data, Terminated, Migration}
 use Rattle.rules.specs.declared.rule.Site.{Site}
 use Rattle.rules.specs.declared.rule.Outcome.{Outcome}
-use Rattle.rules.specs.declared.step.StepAnswer.{StepAnswer}
-use Rattle.rules.specs.declared.step.StepAnswer.TheVariants.{Accepted, NoMessage}
+use Rattle.rules.specs.Answers.{StepAnswer}
+use Rattle.rules.specs.declared.step.StepRefusal.TheVariants.{NoMessage}
 use Rattle.rules.specs.declared.system.System.{System}
 use Rattle.rules.specs.Tasks.{is_in}
 use Rattle.rules.specs.Networks.{message_at, dequeued}
@@ -53,4 +53,4 @@ delivered r p = opened (with_network r (dequeued r.network p)) (message_at r.net
 
 -- "Deliver: 14, no letter there."
 unfoldable pub deliver_answer : System → ℕ → StepAnswer
-deliver_answer r p = unless (within 1 r.network.used p) NoMessage Accepted
+deliver_answer r p = unless (within 1 r.network.used p) (Err NoMessage) (Ok tt)

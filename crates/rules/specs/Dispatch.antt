@@ -1,16 +1,15 @@
 -- The dispatcher of a desk: one call, and a list of steps and calls.
-use Rattle.std.specs.Prelude.{Bool, List, [], ◌∷◌, ◌++◌, ℕ, zero, suc, ◌+◌, ◌-◌, eqb, set}
+use Rattle.std.specs.Prelude.{List, [], ◌∷◌, ℕ, zero, suc, ◌-◌, eqb, set, None, Some, Ok, Err}
 use Rattle.base.specs.Choice.{pick, unless}
 use Rattle.base.specs.Sets.{member}
 use Rattle.plan.specs.declared.ProcessorId.{ProcessorId}
 use Rattle.rules.specs.declared.message.Message.{Message}
 use Rattle.rules.specs.declared.message.Message.TheVariants.{Empty, Offered, Advert, ReadyToReceive, Data, Terminated, Migration}
 use Rattle.rules.specs.declared.step.Step.{Step}
-use Rattle.rules.specs.declared.step.StepAnswer.{StepAnswer}
-use Rattle.rules.specs.declared.step.StepAnswer.TheVariants.{Accepted, BadSystem, NoProcessor}
+use Rattle.rules.specs.Answers.{StepAnswer}
+use Rattle.rules.specs.declared.step.StepRefusal.TheVariants.{BadSystem, NoProcessor}
 use Rattle.rules.specs.declared.step.Report.{Report}
-use Rattle.rules.specs.declared.dispatch.Turn.{Turn}
-use Rattle.rules.specs.declared.dispatch.Turn.TheVariants.{Skipped, Made}
+use Rattle.rules.specs.Reports.{Turn}
 use Rattle.rules.specs.declared.dispatch.Dispatched.{Dispatched}
 use Rattle.rules.specs.declared.system.System.{System}
 use Rattle.rules.specs.Numbers.{no_processor, same_processor, processor_ok}
@@ -55,10 +54,10 @@ pub record Turned : Type 0 where
 
 -- an ordinary step is made, whatever its answer
 abbrev pub made : System → Step → Turned
-made r s = record { turn = Made s (step r s).report; system = (step r s).system }
+made r s = record { turn = Some (s, (step r s).report); system = (step r s).system }
 
 abbrev pub skipped : System → Turned
-skipped r = record { turn = Skipped; system = r }
+skipped r = record { turn = None; system = r }
 
 -- "first delivers the earliest letter addressed to the desk, if there is one"
 unfoldable pub delivery_turn : System → ProcessorId → Turned
@@ -85,23 +84,23 @@ unfoldable pub ruled_dispatch : System → ProcessorId → Dispatched
 ruled_dispatch r d =
     let a = delivery_turn r d in
     let b = run_turn a.system d in
-    record { answer = Accepted; delivery = a.turn; run = b.turn; system = b.system }
+    record { answer = Ok tt; delivery = a.turn; run = b.turn; system = b.system }
 
 -- "It refuses a rig by 9, .. then a desk outside the rig by 15, and changes nothing."
 abbrev pub undispatched : System → StepAnswer → Dispatched
-undispatched r a = record { answer = a; delivery = Skipped; run = Skipped; system = r }
+undispatched r a = record { answer = a; delivery = None; run = None; system = r }
 
 unfoldable pub dispatched : System → ProcessorId → Dispatched
 dispatched r d =
-    unless (system_ok r) (undispatched r BadSystem)
-    (unless (processor_ok r.processors d) (undispatched r NoProcessor)
+    unless (system_ok r) (undispatched r (Err BadSystem))
+    (unless (processor_ok r.processors d) (undispatched r (Err NoProcessor))
     (ruled_dispatch r d))
 
 -- "it returns those steps, each with answer and received word"
 unfoldable pub step_of : Turn → List Step
-step_of Skipped = []
-step_of (Made s q) = s ∷ []
+step_of None = []
+step_of (Some (s, q)) = s ∷ []
 
 unfoldable pub report_of : Turn → List Report
-report_of Skipped = []
-report_of (Made s q) = q ∷ []
+report_of None = []
+report_of (Some (s, q)) = q ∷ []

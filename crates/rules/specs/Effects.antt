@@ -1,5 +1,5 @@
 -- How a rule is applied to the rig: what it may touch is fetched, and what it leaves is stored.
-use Rattle.std.specs.Prelude.{Bool, ℕ, zero, suc}
+use Rattle.std.specs.Prelude.{Bool, ℕ, zero, suc, None}
 use Rattle.base.specs.Choice.{pick}
 use Rattle.plan.specs.declared.TaskId.{TaskId}
 use Rattle.plan.specs.declared.ProcessorId.{ProcessorId}
@@ -12,8 +12,7 @@ use Rattle.rules.specs.declared.rule.Site.{Site}
 use Rattle.rules.specs.declared.rule.Outcome.{Outcome}
 use Rattle.rules.specs.declared.rule.Posting.{Posting}
 use Rattle.rules.specs.declared.rule.Posting.TheVariants.{Nothing}
-use Rattle.rules.specs.declared.rule.Received.{Received}
-use Rattle.rules.specs.declared.rule.Received.TheVariants.{Nothing as NoWord}
+use Rattle.rules.specs.Reports.{Received}
 use Rattle.rules.specs.declared.system.Store.{Store}
 use Rattle.rules.specs.declared.system.System.{System}
 use Rattle.rules.specs.Numbers.{channel_id, same_task}
@@ -29,10 +28,10 @@ pub record Effect : Type 0 where
 
 -- the rig is changed, and that is all
 abbrev pub changed : System → Effect
-changed r = record { system = r; posting = Nothing; received = NoWord }
+changed r = record { system = r; posting = Nothing; received = None }
 
 abbrev pub changed_posting : System → Posting → Effect
-changed_posting r p = record { system = r; posting = p; received = NoWord }
+changed_posting r p = record { system = r; posting = p; received = None }
 
 -- the rig then, with the letters in its mail
 unfoldable pub completed : Effect → System

@@ -1,5 +1,5 @@
 -- A rig with all words and marks erased, and the arguments of sets and adds: what "Words don't reach a tablet at all" is said by.
-use Rattle.std.specs.Prelude.{false, ◌||◌, map, eqb}
+use Rattle.std.specs.Prelude.{false, ◌||◌, map, eqb, None, Some}
 use Rattle.base.specs.Choice.{pick}
 use Rattle.plan.specs.declared.Instruction.{Instruction}
 use Rattle.plan.specs.declared.Plan.{Plan}
@@ -11,8 +11,7 @@ use Rattle.rules.specs.declared.message.Message.{Message}
 use Rattle.rules.specs.declared.message.Message.TheVariants.{Empty, Offered, Advert, ReadyToReceive, Data, Terminated, Migration}
 use Rattle.rules.specs.declared.message.Slot.{Slot}
 use Rattle.rules.specs.declared.message.Network.{Network}
-use Rattle.rules.specs.declared.rule.Received.{Received}
-use Rattle.rules.specs.declared.rule.Received.TheVariants.{Nothing, Word}
+use Rattle.rules.specs.Reports.{Received}
 use Rattle.rules.specs.declared.step.Report.{Report}
 use Rattle.rules.specs.declared.step.Stepped.{Stepped}
 use Rattle.rules.specs.declared.system.TaskTable.{TaskTable}
@@ -69,8 +68,8 @@ erase r =
 
 -- what a step gives: that a word was received on a channel is kept, which one is not
 unfoldable pub erased_received : Received → Received
-erased_received Nothing = Nothing
-erased_received (Word c w) = Word c zero_word
+erased_received None = None
+erased_received (Some (c, w)) = Some (c, zero_word)
 
 abbrev pub erased_report : Report → Report
 erased_report q = record { answer = q.answer; received = erased_received q.received }

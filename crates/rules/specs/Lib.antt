@@ -2,6 +2,7 @@
 -- the dispatcher, the panel, views of a task, trace and step file; whether a plan finishes; what is sent, and the logs.
 pub mod Numbers
 pub mod Answers
+pub mod Reports
 pub mod Hints
 pub mod Tasks
 pub mod Places

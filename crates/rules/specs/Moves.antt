@@ -1,5 +1,5 @@
 -- "Move: a ready task from d to e".
-use Rattle.std.specs.Prelude.{Bool, not, ℕ, ◌+◌, eqb}
+use Rattle.std.specs.Prelude.{Bool, not, ℕ, ◌+◌, eqb, Ok, Err}
 use Rattle.base.specs.Choice.{unless}
 use Rattle.plan.specs.declared.TaskId.{TaskId}
 use Rattle.plan.specs.declared.ProcessorId.{ProcessorId}
@@ -8,8 +8,8 @@ use Rattle.rules.specs.declared.task.TaskState.TheVariants.{Ready}
 use Rattle.rules.specs.declared.channel.Cell.{Cell}
 use Rattle.rules.specs.declared.message.Message.TheVariants.{Migration}
 use Rattle.rules.specs.declared.rule.Posting.TheVariants.{Single}
-use Rattle.rules.specs.declared.step.StepAnswer.{StepAnswer}
-use Rattle.rules.specs.declared.step.StepAnswer.TheVariants.{Accepted, NoTask, NotReady, NetworkFull, NoProcessor, AlreadyThere, MovesSpent}
+use Rattle.rules.specs.Answers.{StepAnswer}
+use Rattle.rules.specs.declared.step.StepRefusal.TheVariants.{NoTask, NotReady, NetworkFull, NoProcessor, AlreadyThere, MovesSpent}
 use Rattle.rules.specs.declared.system.System.{System}
 use Rattle.rules.specs.Numbers.{task_number_ok, processor_ok, most_moves}
 use Rattle.rules.specs.Hints.{hint}
@@ -38,13 +38,13 @@ moved r t e =
 -- may now move .. Refusal 17 never occurs now.": task t of so many, with record x, would leave for desk e of so many
 abbrev pub move_tests : ℕ → ℕ → TaskId → Task → ProcessorId → Bool → StepAnswer
 move_tests tasks processors t x e fitting =
-    unless (task_number_ok tasks t) NoTask
-    (unless (processor_ok processors e) NoProcessor
-    (unless (is_in Ready x) NotReady
-    (unless (not (is_at e x)) AlreadyThere
-    (unless (not (eqb x.moves most_moves)) MovesSpent
-    (unless fitting NetworkFull
-    Accepted)))))
+    unless (task_number_ok tasks t) (Err NoTask)
+    (unless (processor_ok processors e) (Err NoProcessor)
+    (unless (is_in Ready x) (Err NotReady)
+    (unless (not (is_at e x)) (Err AlreadyThere)
+    (unless (not (eqb x.moves most_moves)) (Err MovesSpent)
+    (unless fitting (Err NetworkFull)
+    (Ok tt))))))
 
 -- of the rig
 unfoldable pub move_answer : System → TaskId → ProcessorId → StepAnswer

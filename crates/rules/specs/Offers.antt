@@ -1,5 +1,5 @@
 -- Deliver: an offer letter and an advert. "Here \"receiving\" is on the letter's channel."
-use Rattle.std.specs.Prelude.{not, ◌&&◌}
+use Rattle.std.specs.Prelude.{not, ◌&&◌, None}
 use Rattle.base.specs.Choice.{pick}
 use Rattle.plan.specs.declared.ProcessorId.{ProcessorId}
 use Rattle.plan.specs.declared.ChannelId.{ChannelId}
@@ -10,7 +10,6 @@ use Rattle.rules.specs.declared.message.Message.TheVariants.{Offered}
 use Rattle.rules.specs.declared.rule.Site.{Site}
 use Rattle.rules.specs.declared.rule.Posting.{Posting}
 use Rattle.rules.specs.declared.rule.Posting.TheVariants.{Nothing, Single}
-use Rattle.rules.specs.declared.rule.Received.TheVariants.{Nothing as NoWord}
 use Rattle.rules.specs.declared.rule.Outcome.{Outcome}
 use Rattle.rules.specs.Tasks.{is_at}
 pub use Rattle.rules.specs.Hints.{points_on}
@@ -19,7 +18,7 @@ use Rattle.rules.specs.Receive.{call_to}
 
 -- both tasks stay as they are
 abbrev pub kept : Site → Cell → Posting → Outcome
-kept x cell posting = record { sender = x.sender; receiver = x.receiver; cell = cell; posting = posting; received = NoWord }
+kept x cell posting = record { sender = x.sender; receiver = x.receiver; cell = cell; posting = posting; received = None }
 
 -- "Offer at d: if it no longer counts and the receiver is here, dropped. Receiver here, receiving and not called: answered. Receiver here
 -- otherwise: carried. Not here: if d's pointer names another desk with a larger count than the letter's, forwarded there with that count;

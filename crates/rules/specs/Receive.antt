@@ -1,5 +1,5 @@
 -- Run: "Receive on c."
-use Rattle.std.specs.Prelude.{not, ◌&&◌, ℕ}
+use Rattle.std.specs.Prelude.{not, ◌&&◌, ℕ, None, Some}
 use Rattle.base.specs.Choice.{pick}
 use Rattle.plan.specs.declared.ProcessorId.{ProcessorId}
 use Rattle.plan.specs.declared.ChannelId.{ChannelId}
@@ -10,7 +10,6 @@ use Rattle.rules.specs.declared.message.Message.TheVariants.{ReadyToReceive}
 use Rattle.rules.specs.declared.rule.Site.{Site}
 use Rattle.rules.specs.declared.rule.Posting.{Posting}
 use Rattle.rules.specs.declared.rule.Posting.TheVariants.{Nothing, Single}
-use Rattle.rules.specs.declared.rule.Received.TheVariants.{Nothing as NoWord, Word}
 use Rattle.rules.specs.declared.rule.Outcome.{Outcome}
 use Rattle.rules.specs.Numbers.{no_processor, is_none}
 use Rattle.rules.specs.Tasks.{is_at, with_state, advanced, readied, taking}
@@ -28,13 +27,13 @@ receive_passes x c w =
       receiver = advanced (taking x.receiver x.sender.word);
       cell = with_carried (passing x.cell w) no_offer;
       posting = Nothing;
-      received = Word c x.sender.word;
+      received = Some (c, x.sender.word);
     }
 
 -- "Else it is receiving": the cell then, and what is posted
 unfoldable pub receive_waits : Site → Cell → Posting → Outcome
 receive_waits x cell posting =
-    record { sender = x.sender; receiver = advanced (with_state x.receiver Receiving); cell = cell; posting = posting; received = NoWord }
+    record { sender = x.sender; receiver = advanced (with_state x.receiver Receiving); cell = cell; posting = posting; received = None }
 
 -- "If its sender is sending on c at d: the word passes directly .. Else it is receiving; a carried offer that counts, else if called is 0 an
 -- advert noted at d, is answered: it is removed, called goes up by one and a call letter .. goes to the offering desk."; w is the number

@@ -1,5 +1,5 @@
 -- "Run: one instruction of a ready task at desk d".
-use Rattle.std.specs.Prelude.{Bool, not, ◌&&◌, ℕ, ◌-◌, eqb}
+use Rattle.std.specs.Prelude.{Bool, not, ◌&&◌, ℕ, ◌-◌, eqb, Ok, Err}
 use Rattle.base.specs.Choice.{pick, unless}
 use Rattle.plan.specs.declared.TaskId.{TaskId}
 use Rattle.plan.specs.declared.ChannelId.{ChannelId}
@@ -8,8 +8,8 @@ use Rattle.plan.specs.Kinds.{op_create, op_sync, op_finish, op_send, op_receive,
 use Rattle.plan.specs.Users.{sender_of, receiver_of, parent_of}
 use Rattle.rules.specs.declared.task.Task.{Task}
 use Rattle.rules.specs.declared.task.TaskState.TheVariants.{Ready}
-use Rattle.rules.specs.declared.step.StepAnswer.{StepAnswer}
-use Rattle.rules.specs.declared.step.StepAnswer.TheVariants.{Accepted, NoTask, NotReady, FinishWithChildren, NetworkFull}
+use Rattle.rules.specs.Answers.{StepAnswer}
+use Rattle.rules.specs.declared.step.StepRefusal.TheVariants.{NoTask, NotReady, FinishWithChildren, NetworkFull}
 use Rattle.rules.specs.declared.system.System.{System}
 use Rattle.rules.specs.Numbers.{task_id, channel_id, task_number_ok}
 use Rattle.rules.specs.Tasks.{is_in, is_childless}
@@ -91,11 +91,11 @@ ends_early x i = is_finish i && not (is_childless x)
 -- many, with record x, would run instruction i
 abbrev pub run_tests : ℕ → TaskId → Task → Instruction → Bool → StepAnswer
 run_tests tasks t x i fitting =
-    unless (task_number_ok tasks t) NoTask
-    (unless (is_in Ready x) NotReady
-    (unless (not (ends_early x i)) FinishWithChildren
-    (unless fitting NetworkFull
-    Accepted)))
+    unless (task_number_ok tasks t) (Err NoTask)
+    (unless (is_in Ready x) (Err NotReady)
+    (unless (not (ends_early x i)) (Err FinishWithChildren)
+    (unless fitting (Err NetworkFull)
+    (Ok tt))))
 
 -- of the rig
 abbrev pub finishes_early : System → TaskId → Bool

@@ -1,5 +1,5 @@
 -- Run: "Send on c, the sender's w-th on that channel by its instructions, from 1."
-use Rattle.std.specs.Prelude.{not, ◌&&◌, ℕ}
+use Rattle.std.specs.Prelude.{not, ◌&&◌, ℕ, None, Some}
 use Rattle.base.specs.Choice.{pick}
 use Rattle.plan.specs.declared.ChannelId.{ChannelId}
 use Rattle.rules.specs.declared.task.TaskState.TheVariants.{Sending}
@@ -8,7 +8,6 @@ use Rattle.rules.specs.declared.message.Message.TheVariants.{Offered}
 use Rattle.rules.specs.declared.rule.Site.{Site}
 use Rattle.rules.specs.declared.rule.Posting.{Posting}
 use Rattle.rules.specs.declared.rule.Posting.TheVariants.{Nothing, Single, Adverts}
-use Rattle.rules.specs.declared.rule.Received.TheVariants.{Nothing as NoWord, Word}
 use Rattle.rules.specs.declared.rule.Outcome.{Outcome}
 use Rattle.rules.specs.Numbers.{same_processor}
 use Rattle.rules.specs.Tasks.{is_at, with_state, advanced, taking}
@@ -22,13 +21,13 @@ send_passes x c w =
       receiver = taking x.receiver x.sender.word;
       cell = passing x.cell w;
       posting = Nothing;
-      received = Word c x.sender.word;
+      received = Some (c, x.sender.word);
     }
 
 -- "Else the sender is sending": what then becomes of the offer
 unfoldable pub send_waits : Site → Cell → Posting → Outcome
 send_waits x cell posting =
-    record { sender = advanced (with_state x.sender Sending); receiver = x.receiver; cell = cell; posting = posting; received = NoWord }
+    record { sender = advanced (with_state x.sender Sending); receiver = x.receiver; cell = cell; posting = posting; received = None }
 
 -- "If the receiver is at d, receiving on c and has not called: the word passes directly .. Else the sender is sending, and: receiver at d, it
 -- carries offer (d, w); else pointer unknown, an advert to every other desk ..; else pointer names d, the offer is held at d; else an offer

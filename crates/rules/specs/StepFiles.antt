@@ -1,15 +1,14 @@
 -- A run over a step file: what is answered, and what the lent output holds then.
-use Rattle.std.specs.Prelude.{Bool, ◌&&◌, List, [], ◌∷◌, ◌++◌, ℕ, ◌+◌, ◌-◌, ◌*◌, ◌/◌, ◌%◌, length, drop, eqb, leb}
+use Rattle.std.specs.Prelude.{Bool, ◌&&◌, List, [], ◌∷◌, ◌++◌, ℕ, ◌+◌, ◌-◌, ◌*◌, ◌/◌, ◌%◌, length, drop, eqb, leb, Ok, Err}
 use Rattle.base.specs.Choice.{pick, unless}
 use Rattle.base.specs.Lists.{table}
-use Rattle.plan.specs.declared.PlanAnswer.{PlanAnswer}
-use Rattle.plan.specs.declared.PlanAnswer.TheVariants.{Accepted, Refused}
+use Rattle.plan.specs.Answers.{PlanAnswer}
 use Rattle.plan.specs.Programs.{canonical}
 use Rattle.plan.specs.Layout.{bytes16}
 use Rattle.plan.specs.Files.{byte_at, word16, file_programs, start_answer}
 use Rattle.rules.specs.declared.step.Step.{Step}
-use Rattle.rules.specs.declared.step.RunAnswer.{RunAnswer}
-use Rattle.rules.specs.declared.step.RunAnswer.TheVariants.{Traced, Unstarted, BadSteps, OutputShort}
+use Rattle.rules.specs.Answers.{RunAnswer}
+use Rattle.rules.specs.declared.step.RunRefusal.TheVariants.{Unstarted, BadSteps, OutputShort}
 use Rattle.rules.specs.declared.system.System.{System}
 use Rattle.rules.specs.Answers.{run_number}
 use Rattle.rules.specs.Starts.{started}
@@ -47,8 +46,8 @@ steps_ok b = eqb (length b % 4) 0 && leb (length b / 4) 2000
 
 -- in the order 1 to 6, 8, 20: of lines in an output of `room` bytes
 abbrev pub answer_after : PlanAnswer → Bool → List (List ℕ) → ℕ → RunAnswer
-answer_after (Refused a) ok lines room = Unstarted a
-answer_after Accepted ok lines room = unless ok BadSteps (unless (leb (length (text lines)) room) OutputShort Traced)
+answer_after (Err a) ok lines room = Err (Unstarted a)
+answer_after (Ok tt) ok lines room = unless ok (Err BadSteps) (unless (leb (length (text lines)) room) (Err OutputShort) (Ok tt))
 
 unfoldable pub run_file_answer : ℕ → List ℕ → List ℕ → List ℕ → RunAnswer
 run_file_answer n p b out = answer_after (start_answer n p) (steps_ok b) (trace_lines (start_of n p) (file_steps b)) (length out)
@@ -60,10 +59,10 @@ fitting room (l ∷ ls) = pick (leb (length l) room) (l ++ fitting (room - lengt
 
 -- what is written: at 1 to 8 "the output is untouched"; else what fits
 abbrev pub written_after : RunAnswer → List (List ℕ) → ℕ → List ℕ
-written_after Traced lines room = text lines
-written_after (Unstarted a) lines room = []
-written_after BadSteps lines room = []
-written_after OutputShort lines room = fitting room lines
+written_after (Ok tt) lines room = text lines
+written_after (Err (Unstarted a)) lines room = []
+written_after (Err BadSteps) lines room = []
+written_after (Err OutputShort) lines room = fitting room lines
 
 unfoldable pub run_file_text : ℕ → List ℕ → List ℕ → List ℕ → List ℕ
 run_file_text n p b out = written_after (run_file_answer n p b out) (trace_lines (start_of n p) (file_steps b)) (length out)

@@ -1,14 +1,13 @@
 -- One step, a list of steps, and the report of rest.
-use Rattle.std.specs.Prelude.{Bool, not, ◌&&◌, List, [], ◌∷◌, ◌++◌, ℕ, eqb}
+use Rattle.std.specs.Prelude.{Bool, not, ◌&&◌, List, [], ◌∷◌, ◌++◌, ℕ, eqb, None, Some, Ok, Err}
 use Rattle.base.specs.Choice.{pick, unless}
 use Rattle.base.specs.Range.{up_to}
 use Rattle.plan.specs.declared.ChannelId.{ChannelId}
 use Rattle.plan.specs.declared.Word.{Word as WordOf}
-use Rattle.rules.specs.declared.rule.Received.{Received}
-use Rattle.rules.specs.declared.rule.Received.TheVariants.{Nothing, Word}
+use Rattle.rules.specs.Reports.{Received}
 use Rattle.rules.specs.declared.step.Step.{Step}
-use Rattle.rules.specs.declared.step.StepAnswer.{StepAnswer}
-use Rattle.rules.specs.declared.step.StepAnswer.TheVariants.{Accepted, BadSystem, BadStep}
+use Rattle.rules.specs.Answers.{StepAnswer}
+use Rattle.rules.specs.declared.step.StepRefusal.TheVariants.{BadSystem, BadStep}
 use Rattle.rules.specs.declared.step.Report.{Report}
 use Rattle.rules.specs.declared.step.Stepped.{Stepped}
 use Rattle.rules.specs.declared.system.System.{System}
@@ -48,10 +47,10 @@ kind_answer r s =
 
 -- "Step: 9, ..; 19, .. Then run: .. Deliver: .. Move: .."
 unfoldable pub ruled_answer : System → Step → StepAnswer
-ruled_answer r s = unless (well_formed s) BadStep (kind_answer r s)
+ruled_answer r s = unless (well_formed s) (Err BadStep) (kind_answer r s)
 
 unfoldable pub step_answer : System → Step → StepAnswer
-step_answer r s = unless (system_ok r) BadSystem (ruled_answer r s)
+step_answer r s = unless (system_ok r) (Err BadSystem) (ruled_answer r s)
 
 -- what an accepted step does
 unfoldable pub performed : System → Step → Effect
@@ -63,10 +62,10 @@ performed r s =
 
 -- a refused step: "The rig stays as it was."
 abbrev pub refused : System → StepAnswer → Stepped
-refused r a = record { report = record { answer = a; received = Nothing }; system = r }
+refused r a = record { report = record { answer = a; received = None }; system = r }
 
 abbrev pub accepted : Effect → Stepped
-accepted e = record { report = record { answer = Accepted; received = e.received }; system = completed e }
+accepted e = record { report = record { answer = Ok tt; received = e.received }; system = completed e }
 
 -- a step that is answered a
 unfoldable pub answered : System → Step → StepAnswer → Stepped
@@ -113,8 +112,8 @@ ruled_steps r ss = steps_by ruled_step r ss
 
 -- "A channel's received words are those passed directly or taken from a word letter on it, in order, just as the steps' trace lines report"
 unfoldable pub word_on : ChannelId → Received → List WordOf
-word_on c Nothing = []
-word_on c (Word e w) = pick (same_channel e c) (w ∷ []) []
+word_on c None = []
+word_on c (Some (e, w)) = pick (same_channel e c) (w ∷ []) []
 
 unfoldable pub received_on : ChannelId → List Report → List WordOf
 received_on c [] = []

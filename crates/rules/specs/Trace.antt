@@ -1,10 +1,9 @@
 -- The trace's lines. "Fields are decimal, one space between, a line feed after each line."
-use Rattle.std.specs.Prelude.{List, [], ◌∷◌, ◌++◌, ℕ, zero, suc, ◌+◌, ◌/◌, ◌%◌, ltb}
+use Rattle.std.specs.Prelude.{List, [], ◌∷◌, ◌++◌, ℕ, zero, suc, ◌+◌, ◌/◌, ◌%◌, ltb, None, Some}
 use Rattle.base.specs.Choice.{pick}
 use Rattle.base.specs.Range.{joined}
 use Rattle.plan.specs.Words.{word_numbers}
-use Rattle.rules.specs.declared.rule.Received.{Received}
-use Rattle.rules.specs.declared.rule.Received.TheVariants.{Nothing, Word}
+use Rattle.rules.specs.Reports.{Received}
 use Rattle.rules.specs.declared.step.Report.{Report}
 use Rattle.rules.specs.declared.system.System.{System}
 use Rattle.rules.specs.Numbers.{task_id}
@@ -28,8 +27,8 @@ fields (n ∷ ns) = 32 ∷ (decimal n ++ fields ns)
 
 -- "if a word was received, channel and word"
 abbrev pub received_fields : Received → List ℕ
-received_fields Nothing = []
-received_fields (Word c w) = c.0 ∷ word_numbers w
+received_fields None = []
+received_fields (Some (c, w)) = c.0 ∷ word_numbers w
 
 -- "step number, answer (0 accepted) and, if a word was received, channel and word": the line of the k-th step
 unfoldable pub step_line : ℕ → Report → List ℕ

@@ -5,7 +5,7 @@ use plan::{ChannelId, ProcessorId, TaskId, Word};
 // A letter. Each names the desk that it goes to; that of an offer and of an ended letter is its hint's.
 #[derive(Clone, Copy)]
 pub enum Message {
-    // no letter: what an unused slot holds
+    // no letter: what an unused slot holds; the mail is an array of structs that each hold a letter, so there is no Option
     Empty,
     // offer letter: the channel, the offer, the pointer that it follows
     Offered(ChannelId, Offer, Hint),

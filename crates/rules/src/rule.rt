@@ -26,21 +26,14 @@ pub enum Posting {
     Adverts(ChannelId, ProcessorId),
 }
 
-// The word that was received, if one was, and its channel.
-#[derive(Clone, Copy)]
-pub enum Received {
-    Nothing,
-    Word(ChannelId, Word),
-}
-
-// What such a rule leaves behind.
+// What such a rule leaves behind, and the word that was received, if one was, with its channel.
 #[derive(Clone, Copy)]
 pub struct Outcome {
     pub sender: Task,
     pub receiver: Task,
     pub cell: Cell,
     pub posting: Posting,
-    pub received: Received,
+    pub received: Option<(ChannelId, Word)>,
 }
 
 // What a finish leaves behind: the task, its parent, what the task's desk keeps for the parent, the letter.

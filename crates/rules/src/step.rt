@@ -1,7 +1,6 @@
-// Steps and their answers.
-use crate::rule::Received;
+// Steps, and why they are refused.
 use crate::system::System;
-use plan::Refusal;
+use plan::{ChannelId, Refusal, Word};
 
 // "A step is 4 bytes: kind (1 run, 2 deliver, 3 move), task, 16-bit number."
 #[derive(Clone, Copy)]
@@ -11,10 +10,9 @@ pub struct Step {
     pub number: u16,
 }
 
-// What a step is answered; specs/Answers gives the number of each.
-#[derive(Clone, Copy)]
-pub enum StepAnswer {
-    Accepted,
+// Why a step is refused; specs/Answers gives the number of each.
+#[derive(Clone, Copy, PartialEq, Eq)]
+pub enum StepRefusal {
     BadSystem,
     NoTask,
     NotReady,
@@ -28,11 +26,11 @@ pub enum StepAnswer {
     BadStep,
 }
 
-// What a trace line reports of a step.
+// What a trace line reports of a step: its answer, and the word that was received, if one was, with its channel.
 #[derive(Clone, Copy)]
 pub struct Report {
-    pub answer: StepAnswer,
-    pub received: Received,
+    pub answer: Result<(), StepRefusal>,
+    pub received: Option<(ChannelId, Word)>,
 }
 
 // What a step gives: its report, and the rig then.
@@ -42,10 +40,9 @@ pub struct Stepped {
     pub system: System,
 }
 
-// What a step file is answered; specs/Answers gives the number of each.
+// Why a step file is refused; specs/Answers gives the number of each.
 #[derive(Clone, Copy)]
-pub enum RunAnswer {
-    Traced,
+pub enum RunRefusal {
     Unstarted(Refusal),
     BadSteps,
     OutputShort,

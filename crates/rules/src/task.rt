@@ -6,7 +6,7 @@ use crate::channel::Hint;
 use plan::{ProcessorId, Word};
 
 // "a state (unborn, ready, waiting, sending, receiving, moving, done)"
-#[derive(Clone, Copy)]
+#[derive(Clone, Copy, PartialEq, Eq)]
 pub enum TaskState {
     Unborn,
     Ready,
@@ -40,40 +40,26 @@ pub struct Task {
 // "move, birth and arrival as methods by value": each hands the record back.
 impl Task {
     // The record in another state.
-    pub fn with_state(self, s: TaskState) -> Task
+    pub fn with_state(mut self, s: TaskState) -> Task
         ensures { result ≡ with_state self s }
     {
-        let processor = self.processor;
-        let origin = self.origin;
-        let word = self.word;
-        Task {
-            state: s,
-            processor: processor,
-            pc: self.pc,
-            origin: origin,
-            word: word,
-            overflow: self.overflow,
-            moves: self.moves,
-            children: self.children,
-        }
+        self.state = s;
+        self
     }
 
-    // Birth at desk d with a pointer to its parent, whatever the record was.
-    pub fn birth(mut self, d: ProcessorId, origin: Hint) -> Task
-        ensures { result ≡ born d origin }
+    // Birth at a desk with a pointer to its parent, whatever the record was.
+    pub fn birth(mut self, at: ProcessorId, origin: Hint) -> Task
+        ensures { result ≡ born at origin }
     {
-        let at = d;
+        self.state = TaskState::Ready;
         self.processor = at;
         self.pc = 1;
-        let own = origin;
-        self.origin = own;
-        let zero = Word(0, 0, 0, 0);
-        self.word = zero;
+        self.origin = origin;
+        self.word = Word(0, 0, 0, 0);
         self.overflow = false;
         self.moves = 1;
         self.children = 0;
-        let ready = TaskState::Ready;
-        self.with_state(ready)
+        self
     }
 
     // "Its count goes up by one"; a count of 9,999 is refused before, by 18.
@@ -81,9 +67,8 @@ impl Task {
         requires { self.moves < 9999 }
         ensures { result ≡ departed self }
     {
-        self.moves = self.moves + 1;
-        let nowhere = ProcessorId(0);
-        self.processor = nowhere;
+        self.moves += 1;
+        self.processor = ProcessorId(0);
         self.with_state(TaskState::Moving)
     }
 

@@ -1,5 +1,4 @@
 // What tablets and the driver show of a task.
-use crate::step::StepAnswer;
 use crate::task::TaskState;
 use plan::{ProcessorId, TaskId, Word};
 
@@ -19,18 +18,4 @@ pub struct DriverView {
     pub word: Word,
     pub children: u64,
     pub living: u32,
-}
-
-// What a tablet is given: a record, or the answer of a refusal.
-#[derive(Clone, Copy)]
-pub enum TabletAnswer {
-    Shown(TabletView),
-    Refused(StepAnswer),
-}
-
-// What the driver is given.
-#[derive(Clone, Copy)]
-pub enum DriverAnswer {
-    Shown(DriverView),
-    Refused(StepAnswer),
 }

@@ -9,4 +9,4 @@ unfolding add_word
 returns c =
     let old = c.level-old.result in
     let operand = c.args.i.operand in
-    rw (c.with_level-word.ensures, c.wrapping_add_u16-sum.ensures.value, wraps old operand (search rules) (search rules), c.level-old.ensures) refl
+    rw (c.with_level.ensures, wraps old operand (search rules) (search rules), c.level-old.ensures) refl
