@@ -11,7 +11,7 @@ use Rattle.plan.specs.declared.ProcessorId.{ProcessorId}
 use Rattle.rules.specs.declared.channel.Offer.{Offer}
 use Rattle.rules.specs.Cells.{larger}
 use Rattle.channel.specs.Bags.{In}
-use Rattle.channel.specs.Messages.{ChannelMessage, offer, call, is_call, is_word, calls, words, kind, adverts}
+use Rattle.channel.specs.Messages.{ChannelMessage, offer, call, is_call, is_word, kind, adverts}
 use Rattle.channel.specs.Views.{View, offer_of, with_messages, sending_is, sent_is, receiving_is, received_is, noted_are, granted_is, awaiting_is, carried_is}
 use Rattle.channel.specs.Transfers.{Sends, SendPasses, send_passes, SendCarried, send_carried, SendAdvertised, send_advertised, SendHeld, send_held, SendPosted, send_posted, ReceivePasses, receive_passes, ReceiveWaits, receive_waits, answered, CarriedAnswered, carried_answered, NotedAnswered, noted_answered}
 use Rattle.channel.specs.Invariant.{Live, CallOk, by_message, by_held, by_carried, by_adverts, Invariant}

@@ -6,10 +6,10 @@ use Prim.Native.Nat.{ℕ, ◌-◌, ◌≤◌}
 use native.Mathlib.Omega.{arith}
 use lib.ListN.{length}
 use borrow.Author.Tests.{eq-eqb}
+use Rattle.std.specs.Prelude.{Ok}
 use Rattle.base.specs.Choice.{within}
 use Rattle.base.proofs.Tests.{and_both, or_cases, is_true, within_low, within_high}
 use Rattle.plan.specs.declared.Plan.{Plan}
-use Rattle.plan.specs.declared.PlanAnswer.TheVariants.{Accepted as PlanAccepted}
 use Rattle.plan.specs.declared.TaskId.{TaskId}
 use Rattle.plan.specs.declared.ChannelId.{ChannelId}
 use Rattle.plan.specs.declared.Instruction.{Instruction}
@@ -53,7 +53,7 @@ pub record Blocked (r : System) (t : TaskId) : Type 0 where
   pub channel : within 1 128 (last_in (task_program r t) (task_at r t)).operand ≡ true
 
 -- a task of a rig that a run reaches
-module _ (p : Plan) (a : plan_answer (programs p) ≡ PlanAccepted) {r : System} {w : ChannelId → List Word} (k : Kept p r w) (t : TaskId)
+module _ (p : Plan) (a : plan_answer (programs p) ≡ Ok tt) {r : System} {w : ChannelId → List Word} (k : Kept p r w) (t : TaskId)
     (number : within 1 (length (programs p)) t.0 ≡ true) where
   abbrev z : Task
   z = task_at r t
@@ -88,7 +88,7 @@ module _ (p : Plan) (a : plan_answer (programs p) ≡ PlanAccepted) {r : System}
       record { place_low = last_some g z (omega (arith, is, side_some side)); place = omega (arith, few, short); channel = rw k.plan there }
 
 -- at rest or not
-pub sends_or_receives : (n : ℕ) (p : Plan) (ss : List Step) → 1 ≤ n → n ≤ 6 → plan_answer (programs p) ≡ PlanAccepted → (t : TaskId)
+pub sends_or_receives : (n : ℕ) (p : Plan) (ss : List Step) → 1 ≤ n → n ≤ 6 → plan_answer (programs p) ≡ Ok tt → (t : TaskId)
     → within 1 p.tasks t.0 ≡ true → let r = (from n p ss).system in
     is_in Sending (task_at r t) || is_in Receiving (task_at r t) ≡ true → Blocked r t
 sends_or_receives n p ss some few a t is e =

@@ -5,11 +5,11 @@ use mathlib.Core.List.{List, [], ◌∷◌, ◌++◌}
 use Prim.Native.Nat.{ℕ, ◌+◌, ◌≤◌}
 use native.Mathlib.Omega.{arith}
 use borrow.Author.Tests.{eqb-true, eq-eqb, ne_eqb, le-ltb}
+use Rattle.std.specs.Prelude.{Ok}
 use Rattle.base.specs.Choice.{pick}
 use Rattle.base.specs.Lists.{count}
 use Rattle.base.proofs.Counts.{count_append}
 use Rattle.base.proofs.Tests.{and_left, and_right, and_both, tests_differ, is_false}
-use Rattle.plan.specs.declared.PlanAnswer.TheVariants.{Accepted as PlanAccepted}
 use Rattle.plan.specs.declared.Plan.{Plan}
 use Rattle.plan.specs.declared.ChannelId.{ChannelId}
 use Rattle.plan.specs.declared.Word.{Word}
@@ -22,7 +22,6 @@ use Rattle.rules.specs.declared.message.Message.TheVariants.{Offered}
 use Rattle.rules.specs.declared.message.Network.{Network}
 use Rattle.rules.specs.declared.rule.Posting.{Posting}
 use Rattle.rules.specs.declared.step.Step.{Step}
-use Rattle.rules.specs.declared.step.StepAnswer.TheVariants.{Accepted}
 use Rattle.rules.specs.declared.system.System.{System}
 use Rattle.rules.specs.Answers.{is_accepted}
 use Rattle.rules.specs.Numbers.{channel_number_ok}
@@ -45,7 +44,7 @@ use Rattle.claim.proofs.OneOffer.{Alone, alone}
 use Rattle.claim.proofs.OfferLetters.{older, older_is, older_few, letter_channel, letter_count}
 use Rattle.claim.proofs.Chased.{Chased, step_keeps}
 
-module _ (p : Plan) (a : plan_answer (programs p) ≡ PlanAccepted) (c : ChannelId) (w : ℕ) (number : channel_number_ok c ≡ true) where
+module _ (p : Plan) (a : plan_answer (programs p) ≡ Ok tt) (c : ChannelId) (w : ℕ) (number : channel_number_ok c ≡ true) where
   -- a list of steps; a refused one forwards nothing
   refused_off : (r : System) (s : Step) → is_accepted (step_answer r s) ≡ false → forwards c w r s ≡ false
   unfolding forwards
@@ -65,12 +64,12 @@ module _ (p : Plan) (a : plan_answer (programs p) ≡ PlanAccepted) (c : Channel
       (λ e. omega (arith, chase {r = (step r s).system} (kept_step p a h s) us (pick (forwards c w r s) 1 0 + k) (step_keeps p a c w number h s e x)))
 
 -- a send that posts an offer along the pointer `hint`
-module _ (p : Plan) (a : plan_answer (programs p) ≡ PlanAccepted) {r : System} {got : ChannelId → List Word} (k : Kept p r got) (s : Step)
+module _ (p : Plan) (a : plan_answer (programs p) ≡ Ok tt) {r : System} {got : ChannelId → List Word} (k : Kept p r got) (s : Step)
     (c : ChannelId) (o : Offer) (hint : Hint) (posts : Posts r s c o hint) where
   abbrev w : ℕ
   w = o.number
 
-  yes : step_answer r s ≡ Accepted
+  yes : step_answer r s ≡ Ok tt
   yes = accepted_is (step_answer r s) posts.accepted
 
   no_delivery : is_deliver s ≡ false

@@ -6,11 +6,11 @@ use Prim.Native.Nat.{ℕ, suc, ◌+◌, ◌≤◌}
 use native.Mathlib.Omega.{arith}
 use lib.Dec.{ltb}
 use borrow.Author.Tests.{ltb-false, le-ltb}
+use Rattle.std.specs.Prelude.{Ok}
 use Rattle.base.specs.Choice.{pick}
 use Rattle.base.specs.Lists.{count}
 use Rattle.base.proofs.Counts.{count_append}
 use Rattle.base.proofs.Tests.{and_right, within_low, within_high, tests_differ, is_false}
-use Rattle.plan.specs.declared.PlanAnswer.TheVariants.{Accepted as PlanAccepted}
 use Rattle.plan.specs.declared.Plan.{Plan}
 use Rattle.plan.specs.declared.ChannelId.{ChannelId}
 use Rattle.plan.specs.declared.Word.{Word}
@@ -22,7 +22,6 @@ use Rattle.rules.specs.declared.message.Message.{Message}
 use Rattle.rules.specs.declared.message.Message.TheVariants.{Offered}
 use Rattle.rules.specs.declared.rule.Posting.{Posting}
 use Rattle.rules.specs.declared.step.Step.{Step}
-use Rattle.rules.specs.declared.step.StepAnswer.TheVariants.{Accepted}
 use Rattle.rules.specs.declared.system.System.{System}
 use Rattle.rules.specs.Answers.{is_accepted}
 use Rattle.rules.specs.Numbers.{channel_number_ok}
@@ -55,14 +54,14 @@ pub record Chased (m : Programs) (r : System) (c : ChannelId) (w k : ℕ) : Type
   pub young : count (older c w k) (messages r.network) ≡ 0
   pub below : k ≤ (task_at r (receiver_of m c)).moves
 
-module _ (p : Plan) (a : plan_answer (programs p) ≡ PlanAccepted) (c : ChannelId) (w : ℕ) (number : channel_number_ok c ≡ true) where
+module _ (p : Plan) (a : plan_answer (programs p) ≡ Ok tt) (c : ChannelId) (w : ℕ) (number : channel_number_ok c ≡ true) where
   abbrev m : Programs
   m = programs p
 
   abbrev moves : System → ℕ
   moves r = (task_at r (receiver_of m c)).moves
 
-  module _ {r : System} {got : ChannelId → List Word} (h : Kept p r got) (s : Step) (yes : step_answer r s ≡ Accepted) where
+  module _ {r : System} {got : ChannelId → List Word} (h : Kept p r got) (s : Step) (yes : step_answer r s ≡ Ok tt) where
     abbrev then : System
     then = (step r s).system
 

@@ -5,6 +5,7 @@ use mathlib.Core.List.{List, ◌++◌}
 use native.Mathlib.Omega.{arith}
 use lib.Dec.{eqb}
 use borrow.Author.Tests.{eqb-true}
+use Rattle.std.specs.Prelude.{Ok}
 use Rattle.base.specs.Choice.{within}
 use Rattle.base.proofs.Tests.{within_low, within_high}
 use Rattle.plan.specs.declared.Plan.{Plan}
@@ -15,9 +16,8 @@ use Rattle.plan.specs.Kinds.{op_create}
 use Rattle.plan.specs.Programs.{programs}
 use Rattle.plan_laws.proofs.Answers.{and_parts}
 use Rattle.plan_laws.proofs.Programs.{create_operand}
-use Rattle.rules.specs.declared.rule.Received.{Received}
+use Rattle.rules.specs.Reports.{Received}
 use Rattle.rules.specs.declared.step.Report.{Report}
-use Rattle.rules.specs.declared.step.StepAnswer.TheVariants.{Accepted}
 use Rattle.rules.specs.declared.step.Stepped.{Stepped}
 use Rattle.rules.specs.declared.system.System.{System}
 use Rattle.rules.specs.Numbers.{task_id}
@@ -43,8 +43,8 @@ use Rattle.claim.specs.Statement.{from}
 use Rattle.claim.specs.Commute.{after_run, posted_by, RunsAfter, RunsCommute}
 use Rattle.claim.proofs.Whole.{list_kept}
 
-module _ {p : Plan} {r : System} {w : ChannelId → List Word} (k : Kept p r w) (t : TaskId) (yes : step_answer r (run_step t.0) ≡ Accepted) where
-  run_passed : run_answer r t ≡ Accepted
+module _ {p : Plan} {r : System} {w : ChannelId → List Word} (k : Kept p r w) (t : TaskId) (yes : step_answer r (run_step t.0) ≡ Ok tt) where
+  run_passed : run_answer r t ≡ Ok tt
   run_passed = sym (answer_run r (run_step t.0) refl) ∙ (step_passed r (run_step t.0) yes).rule
 
   -- whom the task is about to create
@@ -69,7 +69,7 @@ module _ {p : Plan} {r : System} {w : ChannelId → List Word} (k : Kept p r w) 
   runs = record { accepted = yes; nowhere = new }
 
 -- a run that is accepted, as a step
-module _ (r : System) (t : TaskId) (yes : step_answer r (run_step t.0) ≡ Accepted) where
+module _ (r : System) (t : TaskId) (yes : step_answer r (run_step t.0) ≡ Ok tt) where
   stepped : step r (run_step t.0) ≡ accepted (ran r t)
   stepped = step_accepted r (run_step t.0) yes ∙ ap accepted (performed_run r (run_step t.0) refl)
 
@@ -78,10 +78,10 @@ module _ (r : System) (t : TaskId) (yes : step_answer r (run_step t.0) ≡ Accep
 
 -- what an accepted step reports
 abbrev report_of : Received → Report
-report_of x = record { answer = Accepted; received = x }
+report_of x = record { answer = Ok tt; received = x }
 
 -- the second of two
-module _ (r : System) (t u : TaskId) (t-yes : step_answer r (run_step t.0) ≡ Accepted) (u-yes : step_answer r (run_step u.0) ≡ Accepted)
+module _ (r : System) (t u : TaskId) (t-yes : step_answer r (run_step t.0) ≡ Ok tt) (u-yes : step_answer r (run_step u.0) ≡ Ok tt)
     (next : Second r t u) where
   abbrev q : System
   q = completed (ran r t)

@@ -3,7 +3,7 @@ use mathlib.Core.Path.{◌≡◌}
 use mathlib.Core.Bool.{true}
 use mathlib.Core.List.{List}
 use Prim.Native.Nat.{ℕ, ◌≤◌}
-use Rattle.plan.specs.declared.PlanAnswer.TheVariants.{Accepted}
+use Rattle.std.specs.Prelude.{Ok}
 use Rattle.plan.specs.declared.Plan.{Plan}
 use Rattle.plan.specs.Programs.{programs}
 use Rattle.plan.specs.Refusals.{plan_answer}
@@ -14,7 +14,7 @@ use Rattle.claim.specs.Corollaries.{Shows}
 use Rattle.claim.proofs.Whole.{list_kept, Rested, rested}
 use Rattle.claim.proofs.Demand3.{normal, all_received}
 
-module _ (n : ℕ) (p : Plan) (ss : List Step) (some : 1 ≤ n) (few : n ≤ 6) (a : plan_answer (programs p) ≡ Accepted) where
+module _ (n : ℕ) (p : Plan) (ss : List Step) (some : 1 ≤ n) (few : n ≤ 6) (a : plan_answer (programs p) ≡ Ok tt) where
   pub on_to_rest : Rested (from n p ss).system
   on_to_rest = rested p a (list_kept n p some few a ss)
 

@@ -5,13 +5,13 @@ use mathlib.Core.List.{List, [], ◌∷◌, ◌++◌, append-nil}
 use Prim.Native.Nat.{ℕ, ◌+◌, ◌*◌, ◌≤◌}
 use native.Mathlib.Omega.{arith}
 use lib.ListN.{length}
+use Rattle.std.specs.Prelude.{Ok}
 use Rattle.base.specs.Choice.{within}
 use Rattle.base.specs.Lists.{every}
 use Rattle.base.specs.Beginnings.{Beginning}
 use Rattle.base.proofs.Tests.{is_false, tests_differ}
 use Rattle.base.proofs.Beginnings.{beginning_trans}
 use Rattle.net.specs.Machines.{Normal}
-use Rattle.plan.specs.declared.PlanAnswer.TheVariants.{Accepted as PlanAccepted}
 use Rattle.plan.specs.declared.Plan.{Plan}
 use Rattle.plan.specs.declared.TaskId.{TaskId}
 use Rattle.plan.specs.declared.ChannelId.{ChannelId}
@@ -53,7 +53,7 @@ use Rattle.claim.proofs.Whole.{start_kept, list_kept, start_work, rested}
 use Rattle.invariant.proofs.Rest.{Resting, rest_normal, at_rest_same}
 use Rattle.claim.proofs.Finds.{finds}
 
-module _ (p : Plan) (a : plan_answer (programs p) ≡ PlanAccepted) where
+module _ (p : Plan) (a : plan_answer (programs p) ≡ Ok tt) where
   abbrev m : Programs
   m = programs p
 
@@ -132,7 +132,7 @@ module _ (p : Plan) (a : plan_answer (programs p) ≡ PlanAccepted) where
           record { state = e.state; place = e.pc; word = e.word; overflow = e.overflow }
 
 -- for every accepted plan, 1 to 6 desks and every list of steps
-module _ (n : ℕ) (p : Plan) (ss : List Step) (some : 1 ≤ n) (few : n ≤ 6) (a : plan_answer (programs p) ≡ PlanAccepted) where
+module _ (n : ℕ) (p : Plan) (ss : List Step) (some : 1 ≤ n) (few : n ≤ 6) (a : plan_answer (programs p) ≡ Ok tt) where
   abbrev rig : System
   rig = (from n p ss).system
 

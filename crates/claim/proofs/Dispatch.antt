@@ -5,13 +5,13 @@ use mathlib.Core.List.{List, [], ◌∷◌}
 use mathlib.Core.Logic.{◌≢◌}
 use Prim.Native.Nat.{ℕ, ◌≤◌}
 use native.Mathlib.Omega.{arith}
+use Rattle.std.specs.Prelude.{Ok, Err}
 use Rattle.plan.specs.declared.Plan.{Plan}
-use Rattle.plan.specs.declared.PlanAnswer.TheVariants.{Accepted as PlanAccepted}
 use Rattle.plan.specs.declared.ProcessorId.{ProcessorId}
 use Rattle.plan.specs.Programs.{programs}
 use Rattle.plan.specs.Refusals.{plan_answer}
 use Rattle.rules.specs.declared.step.Step.{Step}
-use Rattle.rules.specs.declared.step.StepAnswer.TheVariants.{BadSystem}
+use Rattle.rules.specs.declared.step.StepRefusal.TheVariants.{BadSystem}
 use Rattle.rules.specs.declared.system.System.{System}
 use Rattle.rules.specs.Numbers.{processor_ok}
 use Rattle.rules.specs.Answers.{step_number}
@@ -35,7 +35,7 @@ but_accepted b test [] = refl
 but_accepted {r = r} {q = q} b test (s ∷ ss) = rw (but_answer b s, but_accepted {r = (step r s).system} {q = (step q s).system} (but_step b s) test ss) refl
 
 -- a rig that 9 does not refuse answers no call by it
-pub call_not_nine : (r : System) (d : ProcessorId) → system_ok r ≡ true → (dispatched r d).answer ≢ BadSystem
+pub call_not_nine : (r : System) (d : ProcessorId) → system_ok r ≡ true → (dispatched r d).answer ≢ Err BadSystem
 unfolding dispatched ruled_dispatch
 call_not_nine r d ok e =
     either (processor_ok r.processors d)
@@ -43,7 +43,7 @@ call_not_nine r d ok e =
     (λ off. let z : step_number (dispatched r d).answer ≡ 15 = rw (ok, off) refl in omega (arith, z, ap step_number e))
 
 -- after events from the start
-module _ (n : ℕ) (p : Plan) (es : List Event) (some : 1 ≤ n) (few : n ≤ 6) (a : plan_answer (programs p) ≡ PlanAccepted) where
+module _ (n : ℕ) (p : Plan) (es : List Event) (some : 1 ≤ n) (few : n ≤ 6) (a : plan_answer (programs p) ≡ Ok tt) where
   abbrev ss : List Step
   ss = (mixed n p es).steps
 

@@ -3,10 +3,11 @@ use mathlib.Core.Path.{◌≡◌, refl, sym, ◌∙◌, ap, subst}
 use mathlib.Core.Bool.{true}
 use mathlib.Core.List.{List, [], ◌∷◌, ◌++◌}
 use Prim.Native.Nat.{ℕ}
+use Rattle.std.specs.Prelude.{Err}
 use Rattle.plan.specs.declared.ProcessorId.{ProcessorId}
 use Rattle.rules.specs.declared.step.Report.{Report}
-use Rattle.rules.specs.declared.step.StepAnswer.{StepAnswer}
-use Rattle.rules.specs.declared.step.StepAnswer.TheVariants.{BadSystem, NoProcessor}
+use Rattle.rules.specs.Answers.{StepAnswer}
+use Rattle.rules.specs.declared.step.StepRefusal.TheVariants.{BadSystem, NoProcessor}
 use Rattle.rules.specs.declared.dispatch.Dispatched.{Dispatched}
 use Rattle.rules.specs.declared.system.System.{System}
 use Rattle.rules.specs.Numbers.{processor_ok}
@@ -29,8 +30,8 @@ pub dispatched_cases : (P : Dispatched → Type 0) (r : System) (d : ProcessorId
 unfolding dispatched
 dispatched_cases P r d refuses rules =
     either (system_ok r)
-    (λ ok. either (processor_ok r.processors d) (λ at. rw (ok, at) (rules ok at)) (λ off. rw (ok, off) (refuses NoProcessor)))
-    (λ bad. rw bad (refuses BadSystem))
+    (λ ok. either (processor_ok r.processors d) (λ at. rw (ok, at) (rules ok at)) (λ off. rw (ok, off) (refuses (Err NoProcessor))))
+    (λ bad. rw bad (refuses (Err BadSystem)))
 
 -- what it leaves, and that 9 refuses the last choices before and after it, or neither
 record Runs (r : System) (d : ProcessorId) (o : Dispatched) : Type 0 where

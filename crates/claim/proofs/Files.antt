@@ -3,9 +3,9 @@ use mathlib.Core.Path.{◌≡◌}
 use mathlib.Core.Bool.{true}
 use mathlib.Core.List.{List}
 use Prim.Native.Nat.{ℕ}
+use Rattle.std.specs.Prelude.{Ok}
 use Rattle.base.specs.Choice.{within}
 use Rattle.base.proofs.Tests.{within_low, within_high}
-use Rattle.plan.specs.declared.PlanAnswer.TheVariants.{Accepted}
 use Rattle.plan.specs.declared.Refusal.TheVariants.{BadProcessors}
 use Rattle.plan.specs.Files.{file_programs, file_answer, start_answer}
 use Rattle.plan.specs.Programs.{programs, canonical}
@@ -17,12 +17,12 @@ use Rattle.rules.specs.StepFiles.{file_steps}
 use Rattle.claim.specs.Statement.{Demand3}
 use Rattle.claim.proofs.Demand3.{demand_3}
 
-module _ (n : ℕ) (b : List ℕ) (accepted : start_answer n b ≡ Accepted) where
+module _ (n : ℕ) (b : List ℕ) (accepted : start_answer n b ≡ Ok tt) where
   processors : within 1 6 n ≡ true
   unfolding start_answer
   processors = (unless_accepted (within 1 6 n) BadProcessors (file_answer b) accepted).0
 
-  plan_ok : plan_answer (file_programs b) ≡ Accepted
+  plan_ok : plan_answer (file_programs b) ≡ Ok tt
   unfolding start_answer
   plan_ok = file_plan_lem b (unless_accepted (within 1 6 n) BadProcessors (file_answer b) accepted).1
 

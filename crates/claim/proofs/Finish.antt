@@ -2,16 +2,16 @@
 use mathlib.Core.Path.{◌≡◌, refl, sym, ap, ◌∙◌}
 use mathlib.Core.Bool.{Bool, true, false, not, ◌&&◌}
 use mathlib.Core.List.{List, [], ◌++◌}
-use Prim.Native.Nat.{ℕ, suc, ◌-◌, ◌≤◌}
+use Prim.Native.Nat.{ℕ, suc, ◌≤◌}
 use native.Mathlib.Omega.{arith}
 use lib.ListN.{length}
+use Rattle.std.specs.Prelude.{Ok}
 use Rattle.base.specs.Choice.{within}
 use Rattle.base.specs.Range.{joined}
 use Rattle.base.specs.Sets.{member}
 use Rattle.base.proofs.Folds.{fold_same}
 use Rattle.base.proofs.Tests.{within_low, within_high, within_both}
 use Rattle.plan.specs.declared.Plan.{Plan}
-use Rattle.plan.specs.declared.PlanAnswer.TheVariants.{Accepted as PlanAccepted}
 use Rattle.plan.specs.declared.TaskId.{TaskId}
 use Rattle.plan.specs.declared.ChannelId.{ChannelId}
 use Rattle.plan.specs.declared.Word.{Word}
@@ -57,7 +57,7 @@ module _ (p : Plan) (r q : System) (here : r.plan ≡ p) (there : q.plan ≡ p) 
   unfolding stuck_at
   same_stuck = rw (same.state, same_depends) refl
 
-module _ (p : Plan) (a : plan_answer (programs p) ≡ PlanAccepted) where
+module _ (p : Plan) (a : plan_answer (programs p) ≡ Ok tt) where
   abbrev m : Programs
   m = programs p
 

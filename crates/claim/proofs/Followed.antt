@@ -8,6 +8,7 @@ use native.Mathlib.Omega.{arith}
 use native.Mathlib.Decide.{ℕ_discrete}
 use lib.Dec.{eqb, ltb}
 use lib.ListN.{length, take, drop}
+use Rattle.std.specs.Prelude.{Ok}
 use Rattle.base.specs.Choice.{pick}
 use Rattle.base.proofs.Choices.{pick_either}
 use Rattle.base.proofs.Tests.{and_false}
@@ -16,7 +17,6 @@ use Rattle.plan.specs.declared.ProcessorId.{ProcessorId}
 use Rattle.rules.specs.declared.message.Message.{Message}
 use Rattle.rules.specs.declared.message.Message.TheVariants.{Empty}
 use Rattle.rules.specs.declared.step.Step.{Step}
-use Rattle.rules.specs.declared.step.StepAnswer.TheVariants.{Accepted}
 use Rattle.rules.specs.declared.system.System.{System}
 use Rattle.rules.specs.Answers.{is_accepted}
 use Rattle.rules.specs.Networks.{messages}
@@ -53,7 +53,7 @@ unfolding followed
 followed_but b [] k = refl
 followed_but {r = r} {q = q} b (s ∷ ss) k = rw (but_answer b s) (followed_but {r = (step r s).system} {q = (step q s).system} (but_step b s) ss _)
 
-pub followed_delivery : (r : System) (i : ℕ) (ss : List Step) (k : ℕ) → step_answer r (deliver_step i) ≡ Accepted
+pub followed_delivery : (r : System) (i : ℕ) (ss : List Step) (k : ℕ) → step_answer r (deliver_step i) ≡ Ok tt
     → followed r (deliver_step i ∷ ss) k ≡ followed (step r (deliver_step i)).system ss (position_without i k)
 unfolding followed
 followed_delivery r i ss k e = ap (λ (b : Bool). followed (step r (deliver_step i)).system ss (pick b (position_without i k) k)) (ap is_accepted e)

@@ -3,12 +3,13 @@ use mathlib.Core.Path.{◌≡◌, refl, sym, ◌∙◌, ap, subst, subst₂}
 use mathlib.Core.Bool.{true, false}
 use mathlib.Core.List.{List, [], ◌∷◌, ◌++◌}
 use mathlib.Core.Logic.{inl, inr, by_cases}
-use Prim.Native.Nat.{ℕ, ◌+◌, ◌-◌, ◌≤◌}
+use Prim.Native.Nat.{ℕ, ◌-◌, ◌≤◌}
 use native.Mathlib.Omega.{arith}
 use native.Mathlib.Decide.{ℕ_discrete}
 use lib.Dec.{eqb, leb}
 use lib.ListN.{length, get_or, take, drop}
 use borrow.Author.Tests.{eqb-true, eq-eqb, ne_eqb}
+use Rattle.std.specs.Prelude.{Ok}
 use Rattle.base.specs.Choice.{pick}
 use Rattle.base.specs.Lists.{count}
 use Rattle.base.proofs.Tests.{and_right, every_at}
@@ -17,7 +18,6 @@ use Rattle.plan.specs.declared.ProcessorId.{ProcessorId}
 use Rattle.rules.specs.declared.message.Message.{Message}
 use Rattle.rules.specs.declared.message.Message.TheVariants.{Empty}
 use Rattle.rules.specs.declared.step.Step.{Step}
-use Rattle.rules.specs.declared.step.StepAnswer.TheVariants.{Accepted}
 use Rattle.rules.specs.declared.dispatch.Dispatched.{Dispatched}
 use Rattle.rules.specs.declared.system.System.{System}
 use Rattle.rules.specs.Numbers.{processor_id, same_processor, processor_ok}
@@ -67,7 +67,7 @@ module _ (n : ℕ) (p : Plan) (d : ProcessorId) where
         ap (λ (o : Dispatched). (returned o).steps) (ruled l d desk_there)
         ∙ (let own : eqb i 0 ≡ false = ne_eqb i 0 (λ z. omega (arith, first.some)) in rw own refl)
 
-    delivered_first : step_answer r (deliver_step i) ≡ Accepted
+    delivered_first : step_answer r (deliver_step i) ≡ Ok tt
     delivered_first = deliver_accepted r l.ok i first.some (omega (arith, first.first, there, length_mail l))
 
     one_fewer : Follows d 1 r k (step r (deliver_step i)).system (position_without i k)

@@ -4,15 +4,14 @@ use mathlib.Core.Bool.{Bool, true, false}
 use mathlib.Core.List.{List, [], ◌∷◌, ◌++◌, append_assoc}
 use Prim.Native.Nat.{◌+◌, ◌≤◌}
 use native.Mathlib.Omega.{arith}
+use Rattle.std.specs.Prelude.{Ok}
 use Rattle.base.proofs.Tests.{is_false, and_true, and_false}
-use Rattle.plan.specs.declared.PlanAnswer.TheVariants.{Accepted as PlanAccepted}
 use Rattle.plan.specs.declared.Plan.{Plan}
 use Rattle.plan.specs.declared.ChannelId.{ChannelId}
 use Rattle.plan.specs.declared.Word.{Word}
 use Rattle.plan.specs.Programs.{programs}
 use Rattle.plan.specs.Refusals.{plan_answer}
 use Rattle.rules.specs.declared.step.Step.{Step}
-use Rattle.rules.specs.declared.step.StepAnswer.TheVariants.{Accepted}
 use Rattle.rules.specs.declared.step.Stepped.{Stepped}
 use Rattle.rules.specs.declared.system.System.{System}
 use Rattle.rules.specs.Answers.{is_accepted}
@@ -30,7 +29,7 @@ either true f g = f refl
 either false f g = g refl
 
 -- a step is refused, or accepted
-pub step_either : {C : Type 0} (r : System) (s : Step) → (is_accepted (step_answer r s) ≡ false → C) → (step_answer r s ≡ Accepted → C) → C
+pub step_either : {C : Type 0} (r : System) (s : Step) → (is_accepted (step_answer r s) ≡ false → C) → (step_answer r s ≡ Ok tt → C) → C
 step_either r s refusal acceptance =
     either (is_accepted (step_answer r s)) (λ e. acceptance (accepted_is (step_answer r s) e)) refusal
 
@@ -43,7 +42,7 @@ module _ (r : System) (s : Step) where
   left e = ap (λ (o : Stepped). o.system) (stays e)
 
   module _ (test : Step → Bool) (ss : List Step) where
-    pub counted : step_answer r s ≡ Accepted → accepted_of test r (s ∷ ss) ≡ flag (test s) + accepted_of test (step r s).system ss
+    pub counted : step_answer r s ≡ Ok tt → accepted_of test r (s ∷ ss) ≡ flag (test s) + accepted_of test (step r s).system ss
     unfolding accepted_of
     counted e = let all : is_accepted (step_answer r s) ≡ true = ap is_accepted e in rw (all, and_true (test s)) refl
 
@@ -51,7 +50,7 @@ module _ (r : System) (s : Step) where
     unfolding accepted_of
     uncounted e = rw (e, and_false (test s), left e) (omega arith)
 
-module _ (p : Plan) (a : plan_answer (programs p) ≡ PlanAccepted) where
+module _ (p : Plan) (a : plan_answer (programs p) ≡ Ok tt) where
   pub kept_step : {r : System} {w : ChannelId → List Word} → Kept p r w → (s : Step)
       → Kept p (step r s).system (λ c. w c ++ word_on c (step r s).report.received)
   unfolding word_on

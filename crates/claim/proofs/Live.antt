@@ -4,8 +4,8 @@ use mathlib.Core.Bool.{true}
 use mathlib.Core.List.{List, [], ◌∷◌}
 use Prim.Native.Nat.{ℕ, ◌-◌, ◌≤◌}
 use lib.ListN.{length-set}
+use Rattle.std.specs.Prelude.{Ok}
 use Rattle.plan.specs.declared.Plan.{Plan}
-use Rattle.plan.specs.declared.PlanAnswer.TheVariants.{Accepted}
 use Rattle.plan.specs.declared.ProcessorId.{ProcessorId}
 use Rattle.plan.specs.Programs.{programs}
 use Rattle.plan.specs.Refusals.{plan_answer}
@@ -88,7 +88,7 @@ module _ {n : ℕ} {p : Plan} {r : System} (l : Live n p r) where
       rw tasks at (last_few r d (system_passed r l.ok).chosen)
 
 -- from the start
-pub live_mixed : (n : ℕ) (p : Plan) (es : List Event) → 1 ≤ n → n ≤ 6 → plan_answer (programs p) ≡ Accepted → Live n p (mixed n p es).system
+pub live_mixed : (n : ℕ) (p : Plan) (es : List Event) → 1 ≤ n → n ≤ 6 → plan_answer (programs p) ≡ Ok tt → Live n p (mixed n p es).system
 live_mixed n p es some few a =
     live_events
     (record { shaped = started_shaped n p; ok = started_ok n p some few a; plan = started_plan n p; processors = started_processors n p })

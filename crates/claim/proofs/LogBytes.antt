@@ -3,13 +3,14 @@ use mathlib.Core.Path.{◌≡◌, refl, sym, ap, ap₂, ◌∙◌}
 use mathlib.Core.Bool.{Bool, true, ◌&&◌, and_assoc}
 use mathlib.Core.List.{List, [], ◌∷◌, ◌++◌, append_assoc, append-nil}
 use mathlib.Core.Logic.{by_cases}
-use Prim.Native.Nat.{ℕ, suc, ◌+◌, ◌-◌, ◌*◌, ◌/◌, ◌%◌, ◌≤◌}
+use Prim.Native.Nat.{ℕ, suc, ◌+◌, ◌*◌, ◌/◌, ◌%◌, ◌≤◌}
 use native.Mathlib.Decide.{ℕ_discrete}
 use native.Mathlib.Omega.{arith}
 use lib.Dec.{eqb}
 use lib.ListN.{length, get_or}
 use lib.Seq.{get_or-append-add}
 use borrow.Author.Tests.{eq-eqb, ne_eqb, le-leb}
+use Rattle.std.specs.Prelude.{None, Some}
 use Rattle.base.specs.Choice.{pick, within}
 use Rattle.base.specs.Lists.{every}
 use Rattle.base.specs.Range.{fold, below, joined}
@@ -21,8 +22,7 @@ use Rattle.plan.specs.declared.Word.{Word as WordOf}
 use Rattle.plan.specs.Files.{word16}
 use Rattle.plan.specs.Numbers.{channel_id}
 use Rattle.plan.specs.Words.{levels}
-use Rattle.rules.specs.declared.rule.Received.{Received}
-use Rattle.rules.specs.declared.rule.Received.TheVariants.{Nothing, Word}
+use Rattle.rules.specs.Reports.{Received}
 use Rattle.rules.specs.Steps.{word_on}
 use Rattle.rules.specs.Logs.{words_on, log_record, log_of}
 use Rattle.rules.specs.LogFiles.{record_channel, record_word, records_in, logged_on, log_length_ok, log_channels_ok}
@@ -30,23 +30,23 @@ use Rattle.claim.proofs.PassedFew.{sum_tick, tally}
 
 -- a word on a channel that there is
 unfoldable pub channel_there : Received → Bool
-channel_there Nothing = true
-channel_there (Word c w) = within 1 128 c.0
+channel_there None = true
+channel_there (Some (c, w)) = within 1 128 c.0
 
 -- how many words
 unfoldable pub word_count : List Received → ℕ
 word_count [] = 0
-word_count (Nothing ∷ xs) = word_count xs
-word_count (Word c w ∷ xs) = suc (word_count xs)
+word_count (None ∷ xs) = word_count xs
+word_count (Some (c, w) ∷ xs) = suc (word_count xs)
 
 -- as many as on all channels
 pub count_tally : (xs : List Received) → every channel_there xs ≡ true → tally (λ c. words_on c xs) ≡ word_count xs
 unfolding words_on word_on word_count every channel_there
 count_tally [] h = sum_const 0 128
-count_tally (Nothing ∷ xs) h = count_tally xs h
-count_tally (Word e w ∷ xs) h =
+count_tally (None ∷ xs) h = count_tally xs h
+count_tally (Some (e, w) ∷ xs) h =
     let there : within 1 128 e.0 ≡ true = and_left (within 1 128 e.0) _ h in
-    let more : (k : ℕ) → length (words_on (channel_id (suc k)) (Word e w ∷ xs)) ≡ length (words_on (channel_id (suc k)) xs) + pick (eqb (suc k) e.0) 1 0 =
+    let more : (k : ℕ) → length (words_on (channel_id (suc k)) (Some (e, w) ∷ xs)) ≡ length (words_on (channel_id (suc k)) xs) + pick (eqb (suc k) e.0) 1 0 =
     λ k. by_cases
     (ℕ_discrete (suc k) e.0)
     (λ (q : suc k ≡ e.0). rw (eq-eqb (suc k) e.0 q, eq-eqb e.0 (suc k) (sym q)) (omega arith))
@@ -54,7 +54,7 @@ count_tally (Word e w ∷ xs) h =
     let one : ◌≡◌ {A = ℕ} (pick (within 1 128 e.0) 1 0) 1 = rw there refl in
     omega (
       arith,
-      sum_tick 128 e.0 (λ k. length (words_on (channel_id (suc k)) xs)) (λ k. length (words_on (channel_id (suc k)) (Word e w ∷ xs))) more,
+      sum_tick 128 e.0 (λ k. length (words_on (channel_id (suc k)) xs)) (λ k. length (words_on (channel_id (suc k)) (Some (e, w) ∷ xs))) more,
       one,
       count_tally xs (and_right (within 1 128 e.0) _ h),
     )
@@ -74,7 +74,7 @@ fold_one op e unit f = unit (f 0)
 -- a record in front of a log
 module _ (e : ChannelId) (w : WordOf) (rest : List ℕ) where
   abbrev log : List ℕ
-  log = log_record (Word e w) ++ rest
+  log = log_record (Some (e, w)) ++ rest
 
   ten_more : length log ≡ 10 + length rest
   unfolding log_record
@@ -85,7 +85,7 @@ module _ (e : ChannelId) (w : WordOf) (rest : List ℕ) where
 
   byte_behind : (j : ℕ) → get_or log (10 + j) 0 ≡ get_or rest j 0
   unfolding log_record
-  byte_behind j = get_or-append-add (log_record (Word e w)) rest j 0
+  byte_behind j = get_or-append-add (log_record (Some (e, w))) rest j 0
 
   number_behind : (j : ℕ) → word16 log (10 + j) ≡ word16 rest j
   number_behind j =
@@ -125,11 +125,11 @@ module _ (e : ChannelId) (w : WordOf) (rest : List ℕ) where
     read_behind : (k : ℕ) → read log (1 + k) ≡ read rest k
     read_behind k = ap₂ (λ (n : ℕ) (v : WordOf). pick (eqb n c.0) (v ∷ []) []) (channel_behind k) (word_behind k)
 
-    read_front : read log 0 ≡ word_on c (Word e w)
+    read_front : read log 0 ≡ word_on c (Some (e, w))
     unfolding word_on
     read_front = ap₂ (λ (n : ℕ) (v : WordOf). pick (eqb n c.0) (v ∷ []) []) channel_front word_front
 
-    logged_more : logged_on c log ≡ word_on c (Word e w) ++ logged_on c rest
+    logged_more : logged_on c log ≡ word_on c (Some (e, w)) ++ logged_on c rest
     unfolding logged_on
     logged_more =
         ap (λ (n : ℕ). joined n (read log)) one_more_lem
@@ -149,14 +149,14 @@ module _ (e : ChannelId) (w : WordOf) (rest : List ℕ) where
 pub log_length : (xs : List Received) → length (log_of xs) ≡ 10 * word_count xs
 unfolding log_of log_record word_count
 log_length [] = refl
-log_length (Nothing ∷ xs) = log_length xs
-log_length (Word c w ∷ xs) = omega (arith, log_length xs)
+log_length (None ∷ xs) = log_length xs
+log_length (Some (c, w) ∷ xs) = omega (arith, log_length xs)
 
-log_without : (xs : List Received) → log_of (Nothing ∷ xs) ≡ log_of xs
+log_without : (xs : List Received) → log_of (None ∷ xs) ≡ log_of xs
 unfolding log_of log_record
 log_without xs = refl
 
-words_without : (c : ChannelId) (xs : List Received) → words_on c (Nothing ∷ xs) ≡ words_on c xs
+words_without : (c : ChannelId) (xs : List Received) → words_on c (None ∷ xs) ≡ words_on c xs
 unfolding words_on word_on
 words_without c xs = refl
 
@@ -171,14 +171,14 @@ there_nothing = refl
 pub logged_words : (c : ChannelId) (xs : List Received) → logged_on c (log_of xs) ≡ words_on c xs
 unfolding log_of words_on
 logged_words c [] = logged_nothing c
-logged_words c (Nothing ∷ xs) = ap (logged_on c) (log_without xs) ∙ logged_words c xs ∙ sym (words_without c xs)
-logged_words c (Word e w ∷ xs) = logged_more e w (log_of xs) c ∙ ap (word_on c (Word e w) ++◌) (logged_words c xs)
+logged_words c (None ∷ xs) = ap (logged_on c) (log_without xs) ∙ logged_words c xs ∙ sym (words_without c xs)
+logged_words c (Some (e, w) ∷ xs) = logged_more e w (log_of xs) c ∙ ap (word_on c (Some (e, w)) ++◌) (logged_words c xs)
 
 pub log_there : (xs : List Received) → every channel_there xs ≡ true → log_channels_ok (log_of xs) ≡ true
 unfolding log_of every channel_there
 log_there [] h = there_nothing
-log_there (Nothing ∷ xs) h = ap log_channels_ok (log_without xs) ∙ log_there xs h
-log_there (Word e w ∷ xs) h =
+log_there (None ∷ xs) h = ap log_channels_ok (log_without xs) ∙ log_there xs h
+log_there (Some (e, w) ∷ xs) h =
     there_more e w (log_of xs) ∙ and_both (within 1 128 e.0) _ (and_left (within 1 128 e.0) _ h) (log_there xs (and_right (within 1 128 e.0) _ h))
 
 pub log_short : (xs : List Received) → word_count xs ≤ 4096 → log_length_ok (log_of xs) ≡ true

@@ -6,6 +6,7 @@ use Prim.Native.Nat.{ℕ, zero, suc, ◌/◌, ◌%◌, ◌<◌}
 use native.Mathlib.Omega.{arith}
 use lib.ListN.{take}
 use borrow.Author.Tests.{lt-ltb}
+use Rattle.std.specs.Prelude.{None, Some}
 use Rattle.base.specs.Choice.{pick, within}
 use Rattle.base.specs.Lists.{every}
 use Rattle.base.proofs.Choices.{pick_either}
@@ -16,8 +17,7 @@ use Rattle.plan.specs.Numbers.{same_channel}
 use Rattle.rules.specs.declared.message.Message.{Message}
 use Rattle.rules.specs.declared.message.Message.TheVariants.{Empty, Offered, Advert, ReadyToReceive, Data, Terminated, Migration}
 use Rattle.rules.specs.declared.message.Slot.{Slot}
-use Rattle.rules.specs.declared.rule.Received.{Received}
-use Rattle.rules.specs.declared.rule.Received.TheVariants.{Nothing, Word}
+use Rattle.rules.specs.Reports.{Received}
 use Rattle.rules.specs.declared.system.System.{System}
 use Rattle.rules.specs.Networks.{messages}
 use Rattle.rules.specs.Steps.{word_on}
@@ -63,7 +63,7 @@ low_byte n = lt-ltb (n % 256) 256 (omega arith)
 high_byte : (n : ℕ) → n < 65536 → is_byte (n / 256) ≡ true
 high_byte n l = lt-ltb (n / 256) 256 (omega arith)
 
-record_bytes : (c : ChannelId) (w : WordOf) → within 1 128 c.0 ≡ true → word_fits w ≡ true → every is_byte (log_record (Word c w)) ≡ true
+record_bytes : (c : ChannelId) (w : WordOf) → within 1 128 c.0 ≡ true → word_fits w ≡ true → every is_byte (log_record (Some (c, w))) ≡ true
 unfolding log_record every
 record_bytes c w there h =
     let f = fits w h in
@@ -73,19 +73,19 @@ record_bytes c w there h =
 pub log_bytes : (xs : List Received) → every channel_there xs ≡ true → ((c : ChannelId) → every word_fits (words_on c xs) ≡ true) → every is_byte (log_of xs) ≡ true
 unfolding log_of every channel_there words_on
 log_bytes [] there all = refl
-log_bytes (Nothing ∷ xs) there all = nothing (log_bytes xs there (λ c. none c (all c)))
+log_bytes (None ∷ xs) there all = nothing (log_bytes xs there (λ c. none c (all c)))
   where
-    none : (c : ChannelId) → every word_fits (word_on c Nothing ++ words_on c xs) ≡ true → every word_fits (words_on c xs) ≡ true
+    none : (c : ChannelId) → every word_fits (word_on c None ++ words_on c xs) ≡ true → every word_fits (words_on c xs) ≡ true
     none c e = unfold word_on in e
 
-    nothing : every is_byte (log_of xs) ≡ true → every is_byte (log_record Nothing ++ log_of xs) ≡ true
+    nothing : every is_byte (log_of xs) ≡ true → every is_byte (log_record None ++ log_of xs) ≡ true
     nothing e = unfold log_record in e
-log_bytes (Word e w ∷ xs) there all =
-    every_append is_byte (log_record (Word e w)) (log_of xs)
+log_bytes (Some (e, w) ∷ xs) there all =
+    every_append is_byte (log_record (Some (e, w))) (log_of xs)
     ∙ and_both _ _ (record_bytes e w (and_left (within 1 128 e.0) _ there) (first (all e)))
-    (log_bytes xs (and_right (within 1 128 e.0) _ there) (λ c. and_right (every word_fits (word_on c (Word e w))) _ (sym (every_append word_fits (word_on c (Word e w)) (words_on c xs)) ∙ all c)))
+    (log_bytes xs (and_right (within 1 128 e.0) _ there) (λ c. and_right (every word_fits (word_on c (Some (e, w)))) _ (sym (every_append word_fits (word_on c (Some (e, w))) (words_on c xs)) ∙ all c)))
   where
-    first : every word_fits (word_on e (Word e w) ++ words_on e xs) ≡ true → word_fits w ≡ true
+    first : every word_fits (word_on e (Some (e, w)) ++ words_on e xs) ≡ true → word_fits w ≡ true
     first h =
         let q : every word_fits (w ∷ words_on e xs) ≡ true = rw (word_here e e w refl) at h in
         and_left (word_fits w) _ q

@@ -6,6 +6,7 @@ use Prim.Native.Nat.{ℕ, suc, ◌≤◌}
 use native.Mathlib.Omega.{arith}
 use lib.ListN.{length, length-append}
 use borrow.Author.Tests.{eq-eqb}
+use Rattle.std.specs.Prelude.{None, Some, Ok}
 use Rattle.base.specs.Beginnings.{Beginning}
 use Rattle.base.specs.Choice.{within}
 use Rattle.base.specs.Lists.{every}
@@ -13,14 +14,12 @@ use Rattle.base.proofs.Sums.{sum_le}
 use Rattle.base.proofs.Tests.{and_both, every_append, is_true, within_low, within_high}
 use Rattle.plan.specs.declared.ChannelId.{ChannelId}
 use Rattle.plan.specs.declared.Plan.{Plan}
-use Rattle.plan.specs.declared.PlanAnswer.TheVariants.{Accepted}
 use Rattle.plan.specs.declared.Word.{Word as WordOf}
 use Rattle.plan.specs.Numbers.{channel_id}
 use Rattle.plan.specs.Programs.{programs}
 use Rattle.plan.specs.Refusals.{plan_answer}
 use Rattle.rules.specs.declared.log.LogsAnswer.TheVariants.{Yes}
-use Rattle.rules.specs.declared.rule.Received.{Received}
-use Rattle.rules.specs.declared.rule.Received.TheVariants.{Nothing, Word}
+use Rattle.rules.specs.Reports.{Received}
 use Rattle.rules.specs.declared.step.Step.{Step}
 use Rattle.rules.specs.declared.system.System.{System}
 use Rattle.rules.specs.Networks.{messages}
@@ -60,11 +59,11 @@ no_words_before (x ∷ xs) ys e = let q : ◌≡◌ {A = ℕ} 0 1 = cc in absurd
 words_there : (xs : List Received) → ((c : ChannelId) → within 1 128 c.0 ≡ false → words_on c xs ≡ []) → every channel_there xs ≡ true
 unfolding words_on word_on every channel_there
 words_there [] none = refl
-words_there (Nothing ∷ xs) none = words_there xs none
-words_there (Word e w ∷ xs) none =
+words_there (None ∷ xs) none = words_there xs none
+words_there (Some (e, w) ∷ xs) none =
     and_both (within 1 128 e.0) _
     (is_true (within 1 128 e.0) (λ out. let z : w ∷ words_on e xs ≡ [] = rw (eq-eqb e.0 e.0 refl) at (none e out) in let q : ◌≡◌ {A = ℕ} 0 1 = cc in omega arith))
-    (words_there xs (λ c out. no_words_behind (word_on c (Word e w)) (words_on c xs) (none c out)))
+    (words_there xs (λ c out. no_words_behind (word_on c (Some (e, w))) (words_on c xs) (none c out)))
 
 -- logs that neither 24 nor 25 refuses, each channel's received list a beginning of its sent list
 passes : (s r : List ℕ) → log_length_ok s ≡ true → log_length_ok r ≡ true → log_channels_ok s ≡ true → log_channels_ok r ≡ true
@@ -76,7 +75,7 @@ passes s r a b c d all =
     (record { holds = λ k l u h. is_begins (logged_on (channel_id k) r) (logged_on (channel_id k) s) (all (channel_id k)); few = omega arith; fails = λ l. absurd (omega arith) }) in
     rw (a, b, c, d, none) refl
 
-module _ (n : ℕ) (p : Plan) (ss : List Step) (some : 1 ≤ n) (few : n ≤ 6) (a : plan_answer (programs p) ≡ Accepted) where
+module _ (n : ℕ) (p : Plan) (ss : List Step) (some : 1 ≤ n) (few : n ≤ 6) (a : plan_answer (programs p) ≡ Ok tt) where
   abbrev start : System
   start = started n p
 

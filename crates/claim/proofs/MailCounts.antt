@@ -6,6 +6,7 @@ use Prim.Native.Nat.{ℕ, zero, suc, ◌+◌, ◌-◌, ◌≤◌}
 use native.Mathlib.Omega.{arith}
 use lib.Dec.{eqb}
 use lib.ListN.{length, take, drop}
+use Rattle.std.specs.Prelude.{Ok}
 use Rattle.base.specs.Choice.{pick}
 use Rattle.base.specs.Lists.{count}
 use Rattle.base.specs.Range.{fold, joined}
@@ -18,7 +19,6 @@ use Rattle.rules.specs.declared.message.Message.TheVariants.{Advert}
 use Rattle.rules.specs.declared.rule.Posting.{Posting}
 use Rattle.rules.specs.declared.rule.Posting.TheVariants.{Nothing, Single, Adverts}
 use Rattle.rules.specs.declared.step.Step.{Step}
-use Rattle.rules.specs.declared.step.StepAnswer.TheVariants.{Accepted}
 use Rattle.rules.specs.declared.system.System.{System}
 use Rattle.rules.specs.Numbers.{processor_id}
 use Rattle.rules.specs.Networks.{messages, message_at, dequeued, messages_of}
@@ -44,7 +44,7 @@ abbrev pub takes : System → Step → (Message → Bool) → ℕ
 takes r s test = pick (is_deliver s && test (message_at r.network s.number)) 1 0
 
 -- an accepted step: the letters that it leaves, and behind them those that it posts
-module _ (r : System) (s : Step) (z : Shaped r) (yes : step_answer r s ≡ Accepted) where
+module _ (r : System) (s : Step) (z : Shaped r) (yes : step_answer r s ≡ Ok tt) where
   pub mail_joined : messages (step r s).system.network ≡ messages (standing r s) ++ messages_of r.processors (performed r s).posting
   unfolding completed
   mail_joined =

@@ -9,11 +9,11 @@ use native.Mathlib.Omega.{arith}
 use lib.Dec.{eqb}
 use lib.ListN.{length}
 use borrow.Author.Tests.{eqb-false}
+use Rattle.std.specs.Prelude.{Ok}
 use Rattle.base.specs.Lists.{every}
 use Rattle.base.proofs.Choices.{pick_either}
 use Rattle.base.proofs.Tests.{within_low, within_high, up_to_at, is_false, and_true}
 use Rattle.plan.specs.declared.Plan.{Plan}
-use Rattle.plan.specs.declared.PlanAnswer.TheVariants.{Accepted as PlanAccepted}
 use Rattle.plan.specs.declared.TaskId.{TaskId}
 use Rattle.plan.specs.declared.ChannelId.{ChannelId}
 use Rattle.plan.specs.declared.Word.{Word}
@@ -87,7 +87,7 @@ never_seventeen r s e = go (system_ok r) refl
 abbrev CountsTo : ℕ → System → Type 0
 CountsTo k r = (t : TaskId) → (task_at r t).moves ≤ k
 
-module _ (p : Plan) (a : plan_answer (programs p) ≡ PlanAccepted) where
+module _ (p : Plan) (a : plan_answer (programs p) ≡ Ok tt) where
   -- after a step of a rig that a run reaches, accepted or not
   step_counts : {r : System} {w : ChannelId → List Word} → Kept p r w → (s : Step) (k : ℕ) → 1 ≤ k → CountsTo k r
       → CountsTo (flag (is_move s && is_accepted (step_answer r s)) + k) (step r s).system

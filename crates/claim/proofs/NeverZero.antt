@@ -2,18 +2,18 @@
 use mathlib.Core.Path.{◌≡◌, refl, sym, ap, ◌∙◌}
 use mathlib.Core.Bool.{true, false, not}
 use mathlib.Core.List.{List, [], ◌∷◌}
-use Prim.Native.Nat.{suc, ◌-◌, ◌≤◌}
+use Prim.Native.Nat.{suc, ◌≤◌}
 use native.Mathlib.Omega.{arith}
 use lib.Dec.{eqb}
 use lib.ListN.{length}
 use borrow.Author.Tests.{ne_eqb}
+use Rattle.std.specs.Prelude.{Ok}
 use Rattle.base.specs.Choice.{within}
 use Rattle.base.specs.Lists.{every}
 use Rattle.base.proofs.Choices.{pick_cases}
 use Rattle.base.proofs.Joins.{every_joined}
 use Rattle.base.proofs.Tests.{tests_differ, within_low, within_high, within_both}
 use Rattle.plan.specs.declared.Plan.{Plan}
-use Rattle.plan.specs.declared.PlanAnswer.TheVariants.{Accepted as PlanAccepted}
 use Rattle.plan.specs.declared.TaskId.{TaskId}
 use Rattle.plan.specs.declared.ChannelId.{ChannelId}
 use Rattle.plan.specs.declared.Word.{Word}
@@ -44,7 +44,7 @@ use Rattle.claim.proofs.Lowest.{lowest_some}
 use Rattle.claim.proofs.Blocked.{both_ends}
 
 -- a task of a rig that a run reaches
-module _ (p : Plan) (a : plan_answer (programs p) ≡ PlanAccepted) {r : System} {w : ChannelId → List Word} (k : Kept p r w) (t : TaskId)
+module _ (p : Plan) (a : plan_answer (programs p) ≡ Ok tt) {r : System} {w : ChannelId → List Word} (k : Kept p r w) (t : TaskId)
     (number : within 1 (length (programs p)) t.0 ≡ true) where
   abbrev z : Task
   z = task_at r t

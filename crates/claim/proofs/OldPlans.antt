@@ -2,9 +2,9 @@
 use mathlib.Core.Path.{◌≡◌, refl, ◌∙◌}
 use mathlib.Core.Bool.{Bool, true}
 use mathlib.Core.List.{List, [], ◌∷◌}
-use Prim.Native.Nat.{ℕ}
 use lib.Dec.{leb}
 use borrow.Author.Tests.{eqb-true}
+use Rattle.std.specs.Prelude.{None, Some}
 use Rattle.base.specs.Lists.{every}
 use Rattle.base.proofs.Choices.{pick_either}
 use Rattle.base.proofs.Tests.{and_left, and_right, and_both, every_at, every_append}
@@ -15,10 +15,8 @@ use Rattle.plan.specs.Kinds.{no_instruction}
 use Rattle.plan.specs.Numbers.{same_channel}
 use Rattle.plan.specs.Programs.{Programs, program_at, programs}
 use Rattle.plan.specs.Words.{with_level, set_word, add_word}
-use Rattle.rules.specs.declared.rule.Received.{Received}
-use Rattle.rules.specs.declared.rule.Received.TheVariants.{Nothing, Word}
+use Rattle.rules.specs.Reports.{Received}
 use Rattle.rules.specs.declared.step.Report.{Report}
-use Rattle.rules.specs.Networks.{message_at}
 use Rattle.rules.specs.Steps.{word_on, received_on}
 use Rattle.rules_sound.specs.Words.{Keeps, KeptBy, message_good, received_good, report_good}
 use Rattle.rules_sound.proofs.Words.Systems.{task_good_lem, message_there}
@@ -42,8 +40,8 @@ old_keeps m h =
 module _ (good : WordOf → Bool) (c : ChannelId) where
   word_good : (q : Received) → received_good good q ≡ true → every good (word_on c q) ≡ true
   unfolding received_good word_on every
-  word_good Nothing h = refl
-  word_good (Word e w) h =
+  word_good None h = refl
+  word_good (Some (e, w)) h =
       pick_either (λ (ws : List WordOf). every good ws ≡ true) (same_channel e c) (w ∷ []) [] (rw (and_right (leb e.0 128) (good w) h) refl) refl
 
   pub received_good_lem : (qs : List Report) → every (report_good good) qs ≡ true → every good (received_on c qs) ≡ true

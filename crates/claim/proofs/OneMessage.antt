@@ -4,9 +4,9 @@ use mathlib.Core.Bool.{Bool, true, false}
 use mathlib.Core.List.{List, [], ◌∷◌}
 use Prim.Native.Nat.{ℕ, ◌+◌, ◌≤◌}
 use native.Mathlib.Omega.{arith}
+use Rattle.std.specs.Prelude.{Ok}
 use Rattle.base.specs.Choice.{pick}
 use Rattle.base.specs.Lists.{count}
-use Rattle.plan.specs.declared.PlanAnswer.TheVariants.{Accepted}
 use Rattle.plan.specs.declared.Plan.{Plan}
 use Rattle.plan.specs.declared.ChannelId.{ChannelId}
 use Rattle.plan.specs.Numbers.{same_channel}
@@ -63,7 +63,7 @@ counted c (a ∷ ms) =
     omega
     (arith, total_append is_call (message_on c a) (messages_on c ms), total_append is_word (message_on c a) (messages_on c ms), each c a, counted c ms)
 
-pub one_call_or_word : (n : ℕ) (p : Plan) (ss : List Step) → 1 ≤ n → n ≤ 6 → plan_answer (programs p) ≡ Accepted → (c : ChannelId) → 1 ≤ c.0
+pub one_call_or_word : (n : ℕ) (p : Plan) (ss : List Step) → 1 ≤ n → n ≤ 6 → plan_answer (programs p) ≡ Ok tt → (c : ChannelId) → 1 ≤ c.0
     → c.0 ≤ 128 → count (is_call_or_word c) (messages (from n p ss).system.network) ≤ 1
 unfolding view_of reading
 one_call_or_word n p ss some few a c low high =

@@ -4,16 +4,15 @@ use mathlib.Core.Bool.{Bool, true, false}
 use mathlib.Core.List.{List, [], ◌∷◌}
 use Prim.Native.Nat.{ℕ, ◌+◌, ◌<◌, ◌≤◌}
 use native.Mathlib.Omega.{arith}
+use Rattle.std.specs.Prelude.{Ok}
 use Rattle.base.specs.Choice.{pick}
 use Rattle.base.specs.Lists.{count}
-use Rattle.plan.specs.declared.PlanAnswer.TheVariants.{Accepted as PlanAccepted}
 use Rattle.plan.specs.declared.Plan.{Plan}
 use Rattle.plan.specs.declared.ChannelId.{ChannelId}
 use Rattle.plan.specs.declared.Word.{Word}
 use Rattle.plan.specs.Programs.{Programs, programs}
 use Rattle.plan.specs.Refusals.{plan_answer}
 use Rattle.rules.specs.declared.step.Step.{Step}
-use Rattle.rules.specs.declared.step.StepAnswer.TheVariants.{Accepted}
 use Rattle.rules.specs.declared.system.System.{System}
 use Rattle.rules.specs.Networks.{messages}
 use Rattle.rules.specs.Starts.{started}
@@ -33,8 +32,8 @@ pub record Alone (m : Programs) (r : System) (c : ChannelId) (w : ℕ) : Type 0 
   pub one : count (is_offer c w) (messages r.network) ≤ 1
   pub none : sends m r c < w → count (is_offer c w) (messages r.network) ≡ 0
 
-module _ (p : Plan) (a : plan_answer (programs p) ≡ PlanAccepted) (c : ChannelId) (w : ℕ) where
-  accepted_alone : {r : System} {got : ChannelId → List Word} → Kept p r got → (s : Step) → step_answer r s ≡ Accepted → Alone (programs p) r c w
+module _ (p : Plan) (a : plan_answer (programs p) ≡ Ok tt) (c : ChannelId) (w : ℕ) where
+  accepted_alone : {r : System} {got : ChannelId → List Word} → Kept p r got → (s : Step) → step_answer r s ≡ Ok tt → Alone (programs p) r c w
       → Alone (programs p) (step r s).system c w
   accepted_alone {r} k s fine x = go (posts_offer c w (performed r s).posting) refl
     where
@@ -72,7 +71,7 @@ start_empty : (n : ℕ) (p : Plan) → messages (started n p).network ≡ []
 unfolding reading
 start_empty n p = ap (λ x. x.messages) (read_started n p)
 
-pub alone : (n : ℕ) (p : Plan) (ss : List Step) → 1 ≤ n → n ≤ 6 → plan_answer (programs p) ≡ PlanAccepted → (c : ChannelId) (w : ℕ)
+pub alone : (n : ℕ) (p : Plan) (ss : List Step) → 1 ≤ n → n ≤ 6 → plan_answer (programs p) ≡ Ok tt → (c : ChannelId) (w : ℕ)
     → Alone (programs p) (steps (started n p) ss).system c w
 unfolding count
 alone n p ss some few a c w =

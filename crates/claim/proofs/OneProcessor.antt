@@ -4,6 +4,7 @@ use mathlib.Core.Bool.{Bool, true, false}
 use mathlib.Core.List.{List, [], ◌∷◌}
 use Prim.Native.Nat.{ℕ}
 use native.Mathlib.Omega.{arith}
+use Rattle.std.specs.Prelude.{Ok}
 use Rattle.base.proofs.Tests.{tests_differ}
 use Rattle.plan.specs.declared.Plan.{Plan}
 use Rattle.plan.specs.declared.ChannelId.{ChannelId}
@@ -13,11 +14,9 @@ use Rattle.plan.specs.Programs.{programs}
 use Rattle.rules.specs.Hints.{hint, unknown}
 use Rattle.rules.specs.Tasks.{born}
 use Rattle.rules.specs.Starts.{located, pointed, birth, blank, started}
-use Rattle.rules.specs.declared.step.StepAnswer.TheVariants.{Accepted}
 use Rattle.rules.specs.declared.system.System.{System}
 use Rattle.rules.specs.Systems.{with_task}
 use Rattle.invariant.proofs.Next.{Kept}
-use Rattle.plan.specs.declared.PlanAnswer.TheVariants.{Accepted as PlanAccepted}
 use Rattle.plan.specs.Refusals.{plan_answer}
 use Rattle.rules.specs.declared.step.Step.{Step}
 use Rattle.rules.specs.Answers.{is_accepted}
@@ -43,7 +42,7 @@ step_network {p} {r} k one none s =
     (λ e. rw (left r s e) none)
     (λ e. go (is_run s) (is_deliver s) refl refl e)
   where
-    go : (b c : Bool) → is_run s ≡ b → is_deliver s ≡ c → step_answer r s ≡ Accepted → (step r s).system.network.used ≡ 0
+    go : (b c : Bool) → is_run s ≡ b → is_deliver s ≡ c → step_answer r s ≡ Ok tt → (step r s).system.network.used ≡ 0
     go true c run deliver ok =
         let t = task_id s.task in
         let passed = sym (answer_run r s run) ∙ (step_passed r s ok).rule in
@@ -55,7 +54,7 @@ step_network {p} {r} k one none s =
         let form = (step_passed r s ok).form in
         absurd (tests_differ (ap is_accepted ok) (no_move_on_one_processor r s one (rw (run, deliver) at form)))
 
-steps_network : (p : Plan) → plan_answer (programs p) ≡ PlanAccepted → {r : System} {w : ChannelId → List Word} → Kept p r w → r.processors ≡ 1
+steps_network : (p : Plan) → plan_answer (programs p) ≡ Ok tt → {r : System} {w : ChannelId → List Word} → Kept p r w → r.processors ≡ 1
     → r.network.used ≡ 0 → (ss : List Step) → (steps r ss).system.network.used ≡ 0
 unfolding steps_by
 steps_network p a k one none [] = none

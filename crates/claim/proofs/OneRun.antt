@@ -6,6 +6,7 @@ use Prim.Native.Nat.{ℕ, ◌≤◌}
 use native.Mathlib.Omega.{arith}
 use lib.Dec.{eqb, ltb}
 use borrow.Author.Tests.{eqb-true, eqb-false, eq-eqb, ltb-true}
+use Rattle.std.specs.Prelude.{Ok}
 use Rattle.base.specs.Choice.{within}
 use Rattle.base.proofs.Choices.{pick_cases, pick_either}
 use Rattle.base.proofs.Tests.{and_both, is_true, within_low, within_high}
@@ -21,11 +22,9 @@ use Rattle.plan.specs.Users.{sender_of, parent_of}
 use Rattle.plan_laws.proofs.Canonical.{fits}
 use Rattle.plan_laws.proofs.Programs.{send_operand, receive_operand, user_few}
 use Rattle.rules.specs.Numbers.{same_task, is_none}
-use Rattle.rules.specs.Hints.{hint}
-use Rattle.rules.specs.Tasks.{is_at, born}
+use Rattle.rules.specs.Tasks.{is_at}
 use Rattle.rules.specs.Networks.{messages_of, enqueued_all}
 use Rattle.rules.specs.Sound.{known_ok, hint_ok, origin_ok}
-use Rattle.rules.specs.declared.step.StepAnswer.TheVariants.{Accepted}
 use Rattle.rules.specs.declared.system.System.{System}
 use Rattle.rules.specs.declared.task.TaskState.TheVariants.{Unborn, Ready, Sending}
 use Rattle.rules.specs.Systems.{task_at, entry_at, channel_at, parent_at, meaning, task_program}
@@ -48,11 +47,10 @@ use Rattle.transitions.proofs.Flags.{flag_is}
 use Rattle.transitions.proofs.Runs.{run_settled, run_instruction}
 use Rattle.transitions.proofs.Tasks.{state_is}
 use Rattle.invariant.proofs.Next.{Kept}
-use Rattle.claim.proofs.Lists.{left}
 use Rattle.claim.proofs.Silent.{Silent, silent_nothing, offer_one, finish_silent, send_silent, receive_silent}
 
 -- an accepted run of a one-desk rig that a run reaches
-module _ {p : Plan} {r : System} {w : ChannelId → List Word} (k : Kept p r w) (one : r.processors ≡ 1) (t : TaskId) (a : run_answer r t ≡ Accepted) where
+module _ {p : Plan} {r : System} {w : ChannelId → List Word} (k : Kept p r w) (one : r.processors ≡ 1) (t : TaskId) (a : run_answer r t ≡ Ok tt) where
   here : Running (meaning r) k.histories k.state (reading r) w
   here = subst (λ (z : Plan). Running (programs z) k.histories k.state (reading r) w) (sym k.plan) k.running
 

@@ -8,11 +8,11 @@ use native.Mathlib.Decide.{ℕ_discrete}
 use native.Mathlib.Omega.{arith}
 use lib.ListN.{length}
 use borrow.Author.Tests.{eq-eqb}
+use Rattle.std.specs.Prelude.{Ok}
 use Rattle.base.specs.Choice.{pick, within}
 use Rattle.base.specs.Lists.{count}
 use Rattle.base.proofs.Joins.{part_of_sum}
 use Rattle.base.proofs.Tests.{and_both, within_low, within_high, within_both, tests_differ}
-use Rattle.plan.specs.declared.PlanAnswer.TheVariants.{Accepted as PlanAccepted}
 use Rattle.plan.specs.declared.Plan.{Plan}
 use Rattle.plan.specs.declared.ChannelId.{ChannelId}
 use Rattle.plan.specs.declared.TaskId.{TaskId}
@@ -25,7 +25,6 @@ use Rattle.plan.specs.Users.{sender_of}
 use Rattle.plan_laws.proofs.Ends.{sends_on_lem}
 use Rattle.plan_laws.proofs.Programs.{user_few}
 use Rattle.rules.specs.declared.step.Step.{Step}
-use Rattle.rules.specs.declared.step.StepAnswer.TheVariants.{Accepted}
 use Rattle.rules.specs.declared.system.System.{System}
 use Rattle.rules.specs.declared.task.Task.{Task}
 use Rattle.rules.specs.Networks.{messages, message_at, dequeued}
@@ -86,8 +85,8 @@ pub data Origin (m : Programs) (r : System) (s : Step) (c : ChannelId) (w : ℕ)
   by_letter : is_deliver s ≡ true → Onward (message_at r.network s.number) (performed r s).posting → Origin m r s c w
   by_send : sends m r c < w → w ≤ sends m (step r s).system c → Origin m r s c w
 
-module _ (p : Plan) (a : plan_answer (programs p) ≡ PlanAccepted) {r : System} {got : ChannelId → List Word} (k : Kept p r got) (s : Step)
-    (yes : step_answer r s ≡ Accepted) where
+module _ (p : Plan) (a : plan_answer (programs p) ≡ Ok tt) {r : System} {got : ChannelId → List Word} (k : Kept p r got) (s : Step)
+    (yes : step_answer r s ≡ Ok tt) where
   abbrev m : Programs
   m = programs p
 

@@ -3,8 +3,8 @@ use mathlib.Core.Path.{◌≡◌, refl, sym, ap, ◌∙◌}
 use mathlib.Core.Bool.{false, ◌||◌, and-false, or-false, or_assoc}
 use mathlib.Core.List.{List, [], ◌∷◌}
 use Prim.Native.Nat.{ℕ}
+use Rattle.std.specs.Prelude.{Ok}
 use Rattle.plan.specs.declared.Plan.{Plan}
-use Rattle.plan.specs.declared.PlanAnswer.TheVariants.{Accepted as PlanAccepted}
 use Rattle.plan.specs.declared.TaskId.{TaskId}
 use Rattle.plan.specs.declared.ChannelId.{ChannelId}
 use Rattle.plan.specs.declared.Word.{Word}
@@ -24,7 +24,7 @@ use Rattle.claim.specs.Overflows.{overflows, has_overflowed, MarkedExactly}
 use Rattle.claim.proofs.Lists.{step_either, left, kept_step}
 use Rattle.claim.proofs.Whole.{start_kept}
 
-module _ (p : Plan) (a : plan_answer (programs p) ≡ PlanAccepted) where
+module _ (p : Plan) (a : plan_answer (programs p) ≡ Ok tt) where
   -- after a step of a rig that a run reaches, accepted or not
   step_marks : {r : System} {w : ChannelId → List Word} → Kept p r w → (s : Step) (t : TaskId)
       → (task_at (step r s).system t).overflow ≡ (task_at r t).overflow || overflows t r s

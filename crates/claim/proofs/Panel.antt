@@ -1,40 +1,36 @@
 -- The counts of a panel together, and rest as a panel shows it.
 use mathlib.Core.Path.{◌≡◌, refl, sym, ap, ◌∙◌}
 use mathlib.Core.Bool.{Bool, true, false, not, ◌&&◌}
-use mathlib.Core.List.{List, ◌++◌, append_assoc}
+use mathlib.Core.List.{append_assoc}
 use mathlib.Core.Logic.{by_cases}
-use Prim.Native.Nat.{ℕ, suc, ◌+◌, ◌*◌, ◌≤◌}
+use Prim.Native.Nat.{ℕ, suc}
 use native.Mathlib.Omega.{arith}
 use native.Mathlib.Decide.{ℕ_discrete}
 use lib.Dec.{eqb}
 use borrow.Author.Tests.{eq-eqb, ne_eqb}
-use Rattle.base.specs.Choice.{pick, within}
+use Rattle.std.specs.Prelude.{Err}
+use Rattle.base.specs.Choice.{within}
 use Rattle.base.specs.Range.{below, up_to}
-use Rattle.base.specs.Lists.{every, table}
 use Rattle.base.proofs.Tables.{every_table}
 use Rattle.base.proofs.Tests.{below_all, below_fails, every_append, is_false, within_high}
-use Rattle.plan.specs.declared.Plan.{Plan}
-use Rattle.plan.specs.declared.PlanAnswer.TheVariants.{Accepted}
-use Rattle.plan.specs.Programs.{programs}
-use Rattle.plan.specs.Refusals.{plan_answer}
 use Rattle.rules.specs.declared.step.Step.{Step}
-use Rattle.rules.specs.declared.step.StepAnswer.TheVariants.{Accepted as Allowed, NoMessage}
+use Rattle.rules.specs.declared.step.StepRefusal.TheVariants.{NoMessage}
 use Rattle.rules.specs.declared.system.System.{System}
 use Rattle.rules.specs.Answers.{is_accepted}
 use Rattle.rules.specs.Deliver.{deliver_answer}
 use Rattle.rules.specs.Sound.{system_ok}
 use Rattle.rules.specs.Starts.{started}
 use Rattle.rules.specs.Steps.{well_formed, kind_answer, ruled_answer, step_answer, run_step, deliver_step, quiescent}
-use Rattle.rules.specs.Panel.{panel_steps, answering, countable, panel}
+use Rattle.rules.specs.Panel.{panel_steps, answering}
 use Rattle.rules_laws.proofs.Shapes.{started_shaped}
 use Rattle.rules_sound.proofs.Kept.{steps_kept}
 use Rattle.rules_sound.proofs.Starts.{started_ok}
-use Rattle.panel_laws.specs.Tallies.{tallied, runs, deliveries, moves}
+use Rattle.panel_laws.specs.Tallies.{runs, deliveries, moves}
 use Rattle.panel_laws.proofs.Inside.{inside}
 use Rattle.panel_laws.proofs.Tallies.{tallied_nine, panel_counts, panel_nothing, length_panel}
 use Rattle.panel_laws.proofs.Totals.{all_tallied, none_counted}
 use Rattle.claim.specs.Statement.{from}
-use Rattle.claim.specs.Panel.{total_in, PanelCounts, CountsTogether, runs_and_deliveries, RestOf, RestShown, RunRestShown}
+use Rattle.claim.specs.Panel.{CountsTogether, runs_and_deliveries, RestOf, RestShown, RunRestShown}
 use Rattle.claim.proofs.Quiet.{deliver_accepted}
 
 pub counts_together : CountsTogether
@@ -54,7 +50,7 @@ module _ (r : System) (ok : system_ok r ≡ true) where
   refused_at : ℕ → Bool
   refused_at k = not (is_accepted (step_answer r (deliver_step (suc k))))
 
-  delivery_refused : r.network.used ≡ 0 → (k : ℕ) → step_answer r (deliver_step (suc k)) ≡ NoMessage
+  delivery_refused : r.network.used ≡ 0 → (k : ℕ) → step_answer r (deliver_step (suc k)) ≡ Err NoMessage
   unfolding step_answer ruled_answer well_formed kind_answer deliver_answer
   delivery_refused none k =
       let out : within 1 0 (suc k) ≡ false = is_false (within 1 0 (suc k)) (λ e. omega (arith, within_high 1 0 (suc k) e)) in

@@ -4,6 +4,7 @@ use mathlib.Core.Bool.{Bool, true, false}
 use mathlib.Core.List.{List}
 use lib.Dec.{eqb}
 use borrow.Author.Tests.{eqb-true}
+use Rattle.std.specs.Prelude.{Ok}
 use Rattle.base.proofs.Choices.{pick_cases, pick_either}
 use Rattle.base.proofs.Tests.{tests_differ}
 use Rattle.plan.specs.declared.Plan.{Plan}
@@ -14,7 +15,6 @@ use Rattle.plan.specs.declared.Word.{Word}
 use Rattle.plan.specs.Kinds.{op_create, op_sync, op_finish, op_send, op_receive, op_set, is_finish}
 use Rattle.plan.specs.Programs.{programs}
 use Rattle.rules.specs.declared.rule.Outcome.{Outcome}
-use Rattle.rules.specs.declared.step.StepAnswer.TheVariants.{Accepted}
 use Rattle.rules.specs.declared.system.System.{System}
 use Rattle.rules.specs.declared.task.Task.{Task}
 use Rattle.rules.specs.Numbers.{task_id}
@@ -87,7 +87,7 @@ module _ (r : System) (t : TaskId) where
       (pick_either SameHeld (eqb i.opcode op_set) _ _ (task_held _) (task_held _))))))
 
 -- an accepted run of a rig that a run reaches
-run_held : {p : Plan} {r : System} {w : ChannelId → List Word} → Kept p r w → (t : TaskId) → run_answer r t ≡ Accepted
+run_held : {p : Plan} {r : System} {w : ChannelId → List Word} → Kept p r w → (t : TaskId) → run_answer r t ≡ Ok tt
     → (ran r t).system.parents.held ≡ r.parents.held
 run_held {p} {r} {w} k t a = go (is_finish (next_of r t)) refl
   where

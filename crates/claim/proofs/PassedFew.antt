@@ -9,6 +9,7 @@ use native.Mathlib.Omega.{arith}
 use lib.Dec.{eqb, leb}
 use lib.ListN.{length, length-append}
 use borrow.Author.Tests.{eq-eqb, ne_eqb, le-leb, lt-leb}
+use Rattle.std.specs.Prelude.{Ok}
 use Rattle.base.specs.Choice.{pick, within}
 use Rattle.base.specs.Range.{fold, sum_below}
 use Rattle.base.proofs.Choices.{pick_either}
@@ -16,7 +17,6 @@ use Rattle.base.proofs.Sums.{sum_const, sum_at_most}
 use Rattle.base.proofs.Updates.{updated_at, updated_other}
 use Rattle.net.specs.Machines.{Run, stop, take}
 use Rattle.plan.specs.declared.ChannelId.{ChannelId}
-use Rattle.plan.specs.declared.PlanAnswer.TheVariants.{Accepted}
 use Rattle.plan.specs.declared.Word.{Word}
 use Rattle.plan.specs.Numbers.{task_id, channel_id}
 use Rattle.plan.specs.Programs.{Programs}
@@ -59,7 +59,7 @@ sum_tick (suc n) d f g more =
 abbrev pub tally : (ChannelId → List Word) → ℕ
 tally words = sum_below 128 (λ k. length (words (channel_id (suc k))))
 
-module _ (m : Programs) (a : plan_answer m ≡ Accepted) where
+module _ (m : Programs) (a : plan_answer m ≡ Ok tt) where
   -- a channel that there is not
   module _ (c : ChannelId) (out : within 1 128 c.0 ≡ false) where
     label_none : (s : Net) (l : Label) → enabled m s l ≡ true → s.passed c ≡ [] → (effect m s l).passed c ≡ []

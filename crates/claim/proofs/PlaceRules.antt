@@ -1,7 +1,7 @@
 -- The rules of a run take the task that runs one place on.
 use mathlib.Core.Path.{◌≡◌}
 use mathlib.Core.Bool.{◌&&◌, not}
-use Prim.Native.Nat.{ℕ, suc, ◌-◌}
+use Prim.Native.Nat.{ℕ, suc}
 use native.Mathlib.Omega.{arith}
 use lib.Dec.{eqb}
 use Rattle.base.proofs.Choices.{pick_either}
@@ -14,7 +14,7 @@ use Rattle.rules.specs.declared.rule.Finished.{Finished}
 use Rattle.rules.specs.declared.rule.Site.{Site}
 use Rattle.rules.specs.declared.system.ParentEntry.{ParentEntry}
 use Rattle.rules.specs.Numbers.{same_task, same_processor, is_none}
-use Rattle.rules.specs.Hints.{hint, is_unknown, newer}
+use Rattle.rules.specs.Hints.{is_unknown, newer}
 use Rattle.rules.specs.Tasks.{is_at}
 use Rattle.rules.specs.Cells.{counts, none_called}
 use Rattle.rules.specs.Local.{sync_rule, finish_rule}

@@ -7,6 +7,7 @@ use Prim.Native.Nat.{suc, ◌-◌, ◌≤◌}
 use native.Mathlib.Omega.{arith}
 use lib.Dec.{eqb}
 use borrow.Author.Tests.{eqb-true, eq-eqb}
+use Rattle.std.specs.Prelude.{Ok}
 use Rattle.base.proofs.Choices.{pick_cases, pick_either}
 use Rattle.base.proofs.Tests.{and_both, within_low, within_high}
 use Rattle.plan.specs.declared.Plan.{Plan}
@@ -19,7 +20,6 @@ use Rattle.plan.specs.Programs.{programs}
 use Rattle.plan.specs.Users.{sender_of, receiver_of, parent_of}
 use Rattle.plan_laws.proofs.Ends.{sends_on_lem, ends_differ}
 use Rattle.rules.specs.declared.task.Task.{Task}
-use Rattle.rules.specs.declared.step.StepAnswer.TheVariants.{Accepted}
 use Rattle.rules.specs.declared.system.System.{System}
 use Rattle.rules.specs.Hints.{hint}
 use Rattle.rules.specs.Tasks.{born}
@@ -114,7 +114,7 @@ module _ (r : System) (shaped : Shaped r) (t : TaskId) (low : 1 ≤ t.0) (high :
       (receive_place x c w)
 
 -- an accepted run of a rig that a run reaches
-module _ {p : Plan} {r : System} {w : ChannelId → List Word} (k : Kept p r w) (t : TaskId) (a : run_answer r t ≡ Accepted) where
+module _ {p : Plan} {r : System} {w : ChannelId → List Word} (k : Kept p r w) (t : TaskId) (a : run_answer r t ≡ Ok tt) where
   here : Running (meaning r) k.histories k.state (reading r) w
   here = subst (λ (z : Plan). Running (programs z) k.histories k.state (reading r) w) (sym k.plan) k.running
 

@@ -9,6 +9,7 @@ use native.Mathlib.Decide.{ℕ_discrete}
 use lib.Dec.{eqb, leb}
 use lib.ListN.{length}
 use borrow.Author.Tests.{eqb-true, eq-eqb, le-leb, not-true, not-false}
+use Rattle.std.specs.Prelude.{Ok}
 use Rattle.base.specs.Choice.{within}
 use Rattle.base.specs.Range.{up_to}
 use Rattle.base.proofs.Tests.{below_cases, second_fails, and_left, and_right, and_both, or_cases, within_low, within_high, within_both, up_to_at, below_all, is_false, is_true}
@@ -18,7 +19,6 @@ use Rattle.plan.specs.Numbers.{task_id}
 use Rattle.plan.specs.Kinds.{is_finish}
 use Rattle.rules.specs.declared.task.TaskState.TheVariants.{Ready}
 use Rattle.rules.specs.declared.step.Step.{Step}
-use Rattle.rules.specs.declared.step.StepAnswer.TheVariants.{Accepted}
 use Rattle.rules.specs.declared.system.System.{System}
 use Rattle.rules.specs.Answers.{is_accepted}
 use Rattle.rules.specs.Deliver.{deliver_answer}
@@ -39,7 +39,7 @@ use Rattle.transitions.proofs.Rigs.{processors_few}
 
 module _ (r : System) (ok : system_ok r ≡ true) where
   -- where a letter is, its delivery is accepted
-  pub deliver_accepted : (p : ℕ) → 1 ≤ p → p ≤ r.network.used → step_answer r (deliver_step p) ≡ Accepted
+  pub deliver_accepted : (p : ℕ) → 1 ≤ p → p ≤ r.network.used → step_answer r (deliver_step p) ≡ Ok tt
   unfolding step_answer ruled_answer well_formed kind_answer deliver_answer
   deliver_accepted p l u = rw (ok, within_both 1 r.network.used p l u) refl
 
@@ -55,7 +55,7 @@ module _ (r : System) (ok : system_ok r ≡ true) where
         not-true _ (up_to_at (λ t. not (is_accepted (step_answer r (run_step t)))) r.plan.tasks t l u (and_right (eqb r.network.used 0) _ quiet))
 
     -- a run and a delivery are refused
-    run_refused : (s : Step) → is_run s ≡ true → step_answer r s ≡ Accepted → ⊥
+    run_refused : (s : Step) → is_run s ≡ true → step_answer r s ≡ Ok tt → ⊥
     unfolding well_formed
     run_refused s kind a =
         let q = step_passed r s a in
@@ -66,7 +66,7 @@ module _ (r : System) (ok : system_ok r ≡ true) where
         let no = no_run s.task (within_low 1 r.plan.tasks s.task task) (within_high 1 r.plan.tasks s.task task) in
         tests_differ (ap is_accepted a) (ap (λ (z : Step). is_accepted (step_answer r z)) same ∙ no)
 
-    deliver_refused : (s : Step) → is_deliver s ≡ true → step_answer r s ≡ Accepted → ⊥
+    deliver_refused : (s : Step) → is_deliver s ≡ true → step_answer r s ≡ Ok tt → ⊥
     deliver_refused s kind a =
         let (l, u) = deliver_passed r s.number (sym (answer_deliver r s kind) ∙ (step_passed r s a).rule) in
         omega (arith, no_messages_lem)
@@ -90,7 +90,7 @@ module _ (r : System) (ok : system_ok r ≡ true) where
 
 -- a rig that is not at rest has a letter in its mail, or a run would be accepted
 pub busy_cases : {C : Type 0} (r : System) → quiescent r ≡ false → (1 ≤ r.network.used → C)
-    → ((t : ℕ) → 1 ≤ t → t ≤ r.plan.tasks → step_answer r (run_step t) ≡ Accepted → C) → C
+    → ((t : ℕ) → 1 ≤ t → t ≤ r.plan.tasks → step_answer r (run_step t) ≡ Ok tt → C) → C
 unfolding quiescent
 busy_cases {C = C} r busy letter run =
     by_cases
@@ -122,7 +122,7 @@ module _ (r : System) (shaped : Shaped r) (ok : system_ok r ≡ true) (quiet : q
       le-leb (r.network.used + length (messages_of r.processors (ran r t).posting)) 256 (let none = no_messages_lem r ok quiet in omega arith) in
       let early : finishes_early r t ≡ true =
       is_true (finishes_early r t) (λ late.
-      let yet : step_answer r (run_step t.0) ≡ Accepted = rw (ok, is, ready, late, fit) refl in
+      let yet : step_answer r (run_step t.0) ≡ Ok tt = rw (ok, is, ready, late, fit) refl in
       tests_differ (ap is_accepted yet)
       (no_run r ok quiet t.0 (within_low 1 r.plan.tasks t.0 is) (within_high 1 r.plan.tasks t.0 is))) in
       (and_left (is_finish (next_of r t)) _ early, not-true _ (and_right (is_finish (next_of r t)) _ early))

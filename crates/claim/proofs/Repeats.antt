@@ -1,15 +1,15 @@
 -- A plan of the new edition and its written-out plan say the same at rest; a file without a repeat is written as it is.
-use mathlib.Core.Path.{◌≡◌, refl, sym, ap, subst, ◌∙◌}
+use mathlib.Core.Path.{◌≡◌, sym, ap, subst, ◌∙◌}
 use mathlib.Core.Bool.{Bool, ◌&&◌}
 use mathlib.Core.List.{List}
 use Prim.Native.Nat.{ℕ}
 use native.Mathlib.Omega.{arith}
+use Rattle.std.specs.Prelude.{Ok}
 use Rattle.plan.specs.declared.ChannelId.{ChannelId}
 use Rattle.plan.specs.declared.Plan.{Plan}
-use Rattle.plan.specs.declared.PlanAnswer.TheVariants.{Accepted}
 use Rattle.plan.specs.declared.TaskId.{TaskId}
 use Rattle.plan.specs.Files.{file_programs}
-use Rattle.plan.specs.Programs.{Programs, programs, canonical}
+use Rattle.plan.specs.Programs.{Programs, programs}
 use Rattle.plan.specs.Refusals.{plan_answer}
 use Rattle.plan.specs.Repeats.{written_out_plan}
 use Rattle.plan.specs.RepeatRefusals.{repeats_answer}
@@ -28,11 +28,11 @@ use Rattle.transitions.specs.Readings.{reading}
 use Rattle.invariant.proofs.Next.{Kept}
 use Rattle.invariant.proofs.Rest.{at_rest_shows}
 use Rattle.claim.specs.Statement.{from, Rests}
-use Rattle.claim.specs.Repeats.{written_plan, RepeatsRest, SameWritten, RepeatsWritten, RepeatsAsWritten, PlainAsItIs}
+use Rattle.claim.specs.Repeats.{written_plan, RepeatsRest, SameWritten, RepeatsAsWritten, PlainAsItIs}
 use Rattle.claim.proofs.Whole.{list_kept, start_kept, rested}
 use Rattle.claim.proofs.Demand3.{normal, all_received, no_messages_lem, resting}
 
-module _ (b : List ℕ) (a : repeats_answer b ≡ Accepted) where
+module _ (b : List ℕ) (a : repeats_answer b ≡ Ok tt) where
   abbrev m : Programs
   m = file_programs b
 
@@ -42,13 +42,13 @@ module _ (b : List ℕ) (a : repeats_answer b ≡ Accepted) where
   passed : RepeatsPassed b
   passed = repeats_passed b a
 
-  accepted : plan_answer (written_out_plan m) ≡ Accepted
+  accepted : plan_answer (written_out_plan m) ≡ Ok tt
   accepted = written_accepted b a
 
   means : programs (written_plan b) ≡ written_out_plan m
   means = meaning_canonical (written_out_plan m) accepted
 
-  plan_accepted : plan_answer (programs (written_plan b)) ≡ Accepted
+  plan_accepted : plan_answer (programs (written_plan b)) ≡ Ok tt
   plan_accepted = rw means accepted
 
   -- the rig after a list of steps

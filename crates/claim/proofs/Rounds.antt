@@ -9,12 +9,12 @@ use native.Mathlib.Omega.{arith}
 use native.Mathlib.Decide.{ℕ_discrete}
 use lib.ListN.{take}
 use borrow.Author.Tests.{eq-eqb}
+use Rattle.std.specs.Prelude.{Ok}
 use Rattle.base.specs.Lists.{every, count}
 use Rattle.base.proofs.Choices.{pick_either}
 use Rattle.base.proofs.Tests.{and_both, is_true, every_append, within_low, within_high, within_both, up_to_at}
 use Rattle.plan.specs.declared.Plan.{Plan}
 use Rattle.rules.specs.declared.task.TaskState.TheVariants.{Ready}
-use Rattle.rules.specs.declared.step.StepAnswer.TheVariants.{Accepted}
 use Rattle.rules.specs.declared.system.System.{System}
 use Rattle.rules.specs.Numbers.{task_id}
 use Rattle.rules.specs.Tasks.{is_in, is_at}
@@ -71,7 +71,7 @@ module _ (n : ℕ) (p : Plan) (start : Startable n p) where
         (λ ne. omega arith)
 
     -- and run a task that can run
-    task_goes : (t : ℕ) → 1 ≤ t → t ≤ r.plan.tasks → step_answer r (run_step t) ≡ Accepted → 1 ≤ done r turns
+    task_goes : (t : ℕ) → 1 ≤ t → t ≤ r.plan.tasks → step_answer r (run_step t) ≡ Ok tt → 1 ≤ done r turns
     task_goes t low high accepted =
         let x = task_at r (task_id t) in
         let d = x.processor in

@@ -3,11 +3,11 @@
 use mathlib.Core.Path.{◌≡◌, refl, sym, ap, ◌∙◌}
 use mathlib.Core.Bool.{Bool, true, false}
 use mathlib.Core.List.{List, [], ◌∷◌, ◌++◌, append_assoc, append-nil}
-use Prim.Native.Nat.{◌+◌, ◌-◌, ◌≤◌}
+use Prim.Native.Nat.{◌+◌, ◌≤◌}
 use native.Mathlib.Omega.{arith}
 use lib.ListN.{length}
 use borrow.Author.Tests.{eqb-true, ne_eqb}
-use Rattle.plan.specs.declared.PlanAnswer.TheVariants.{Accepted as PlanAccepted}
+use Rattle.std.specs.Prelude.{None, Ok}
 use Rattle.plan.specs.declared.Plan.{Plan}
 use Rattle.plan.specs.declared.ChannelId.{ChannelId}
 use Rattle.plan.specs.declared.Word.{Word as WordOf}
@@ -15,10 +15,8 @@ use Rattle.plan.specs.Numbers.{task_id, processor_id}
 use Rattle.plan.specs.Programs.{programs}
 use Rattle.plan.specs.Refusals.{plan_answer}
 use Rattle.rules.specs.declared.message.Message.TheVariants.{Migration}
-use Rattle.rules.specs.declared.rule.Received.{Received}
-use Rattle.rules.specs.declared.rule.Received.TheVariants.{Nothing as NoWord}
+use Rattle.rules.specs.Reports.{Received}
 use Rattle.rules.specs.declared.step.Step.{Step}
-use Rattle.rules.specs.declared.step.StepAnswer.TheVariants.{Accepted}
 use Rattle.rules.specs.declared.step.Stepped.{Stepped}
 use Rattle.rules.specs.Answers.{is_accepted}
 use Rattle.rules.specs.declared.system.System.{System}
@@ -47,7 +45,7 @@ use Rattle.claim.proofs.SentPostings.{ran_silent}
 use Rattle.claim.proofs.PassingWords.{no_word_behind, nothing_commutes, run_commutes}
 use Rattle.claim.proofs.SentDeliveries.{joined_mail, here, here_reached, delivered_moves}
 
-module _ (p : Plan) (a : plan_answer (programs p) ≡ PlanAccepted) {r : System} {w : ChannelId → List WordOf} (k : Kept p r w) where
+module _ (p : Plan) (a : plan_answer (programs p) ≡ Ok tt) {r : System} {w : ChannelId → List WordOf} (k : Kept p r w) where
   module _ (s : Step) where
     -- the words under way and what leaves are what is received and the words under way then
     abbrev Moves : Type 0
@@ -55,7 +53,7 @@ module _ (p : Plan) (a : plan_answer (programs p) ≡ PlanAccepted) {r : System}
         → under_way_on c (messages r.network) ++ word_on c (sent_by r s)
         ≡ word_on c (step r s).report.received ++ under_way_on c (messages (step r s).system.network)
 
-    module _ (yes : step_answer r s ≡ Accepted) where
+    module _ (yes : step_answer r s ≡ Ok tt) where
       by_effect : (e : Effect) (sent : Received) → performed r s ≡ e → leaving r s ≡ sent
           → ((c : ChannelId) → under_way_on c (messages r.network) ++ word_on c sent ≡ word_on c e.received ++ under_way_on c (messages (completed e).network))
           → Moves
@@ -104,10 +102,10 @@ module _ (p : Plan) (a : plan_answer (programs p) ≡ PlanAccepted) {r : System}
           let (h, transition) = move_transition r k.shaped k.ok k.histories (here p a k) t d (sym (answer_move r s kind) ∙ (step_passed r s yes).rule) in
           let one = ne_eqb s.kind 1 (λ e. omega (arith, eqb-true s.kind 3 kind)) in
           let two = ne_eqb s.kind 2 (λ e. omega (arith, eqb-true s.kind 3 kind)) in
-          by_effect (moved r t d) NoWord (performed_move r s kind) (rw (one, two) refl) (λ c.
+          by_effect (moved r t d) None (performed_move r s kind) (rw (one, two) refl) (λ c.
           let mail : under_way_on c (messages (completed (moved r t d)).network) ≡ under_way_on c (messages r.network) =
           ap (under_way_on c) transition.messages ∙ under_way_append c (messages r.network) (Migration transition.to transition.task ∷ [])
-          ∙ ap (under_way_on c (messages r.network) ++◌) (append-nil (word_on c NoWord)) ∙ no_word_behind c (under_way_on c (messages r.network)) in
+          ∙ ap (under_way_on c (messages r.network) ++◌) (append-nil (word_on c None)) ∙ no_word_behind c (under_way_on c (messages r.network)) in
           rw (mail, move_received r t d) (nothing_commutes c (under_way_on c (messages r.network))))
 
     -- a refused step leaves the rig, and nothing leaves by it
@@ -120,13 +118,13 @@ module _ (p : Plan) (a : plan_answer (programs p) ≡ PlanAccepted) {r : System}
     unfolding well_formed
     step_moves = step_either r s refused_moves (λ fine. go fine (is_run s) (is_deliver s) refl refl)
       where
-        go : (fine : step_answer r s ≡ Accepted) (one two : Bool) → is_run s ≡ one → is_deliver s ≡ two → Moves
+        go : (fine : step_answer r s ≡ Ok tt) (one two : Bool) → is_run s ≡ one → is_deliver s ≡ two → Moves
         go fine true two e f = run_moves fine e
         go fine false true e f = deliver_moves fine f
         go fine false false e f = move_moves fine (let form = (step_passed r s fine).form in rw (e, f) at form)
 
 -- of a list of steps
-module _ (p : Plan) (a : plan_answer (programs p) ≡ PlanAccepted) (c : ChannelId) where
+module _ (p : Plan) (a : plan_answer (programs p) ≡ Ok tt) (c : ChannelId) where
   pub sent_steps : {r : System} {w : ChannelId → List WordOf} → Kept p r w → (ss : List Step)
       → under_way_on c (messages r.network) ++ sent_on c r ss ≡ received_on c (steps r ss).reports ++ under_way_on c (messages (steps r ss).system.network)
   unfolding steps_by sent_in words_on received_on

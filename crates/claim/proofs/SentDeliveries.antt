@@ -7,8 +7,8 @@ use Prim.Native.Nat.{ℕ, ◌+◌, ◌-◌, ◌≤◌}
 use native.Mathlib.Decide.{ℕ_discrete}
 use native.Mathlib.Omega.{arith}
 use lib.ListN.{length, length-append, take, drop}
+use Rattle.std.specs.Prelude.{None, Some, Ok}
 use Rattle.base.proofs.Tests.{within_low, within_high, and_left}
-use Rattle.plan.specs.declared.PlanAnswer.TheVariants.{Accepted as PlanAccepted}
 use Rattle.plan.specs.declared.Plan.{Plan}
 use Rattle.plan.specs.declared.ProcessorId.{ProcessorId}
 use Rattle.plan.specs.declared.ChannelId.{ChannelId}
@@ -19,7 +19,6 @@ use Rattle.rules.specs.declared.message.Message.{Message}
 use Rattle.rules.specs.declared.message.Network.{Network}
 use Rattle.rules.specs.declared.message.Message.TheVariants.{Empty, Offered, Advert, ReadyToReceive, Data, Terminated, Migration}
 use Rattle.rules.specs.declared.rule.Posting.TheVariants.{Nothing}
-use Rattle.rules.specs.declared.rule.Received.TheVariants.{Nothing as NoWord, Word}
 use Rattle.rules.specs.declared.system.System.{System}
 use Rattle.rules.specs.Numbers.{channel_number_ok}
 use Rattle.rules.specs.Networks.{messages, message_at, dequeued, messages_of}
@@ -59,7 +58,7 @@ module _ (e : Effect) (room : e.system.network.used + length (messages_of e.syst
 
 -- a word letter that finds its receiver is received
 word_supposed : (r : System) (network : Network) (c : ChannelId) (d : ProcessorId) (w : WordOf) → finds_its r (Data c d w) ≡ true
-    → (opened (with_network r network) (Data c d w)).received ≡ Word c w
+    → (opened (with_network r network) (Data c d w)).received ≡ Some (c, w)
 unfolding finds_its opened with_outcome site_at data_rule channel_at
 word_supposed r network c d w e = rw e refl
 
@@ -76,7 +75,7 @@ taken_out : (F B : List WordOf) (w : WordOf) → length (F ++ (w ∷ B)) ≤ 1 �
 taken_out [] B w l = refl
 taken_out (v ∷ F) B w l = absurd (omega (arith, length-append F (w ∷ B)))
 
-module _ (p : Plan) (a : plan_answer (programs p) ≡ PlanAccepted) {r : System} {w : ChannelId → List WordOf} (k : Kept p r w) where
+module _ (p : Plan) (a : plan_answer (programs p) ≡ Ok tt) {r : System} {w : ChannelId → List WordOf} (k : Kept p r w) where
   -- what holds of r, said with the plan that it has
   pub here : Running (meaning r) k.histories k.state (reading r) w
   here = subst (λ (z : Plan). Running (programs z) k.histories k.state (reading r) w) (sym k.plan) k.running
@@ -134,9 +133,9 @@ module _ (p : Plan) (a : plan_answer (programs p) ≡ PlanAccepted) {r : System}
           joined_mail e room c ∙ ap (◌++ word_on c (posted_word e.posting)) (ap (λ (n : Network). under_way_on c (messages n)) network ∙ without_letter)
 
       -- a letter without a word
-      plain_moves : letter_word (message_at r.network i) ≡ NoWord → Delivers c
+      plain_moves : letter_word (message_at r.network i) ≡ None → Delivers c
       plain_moves none =
-          let got : (delivered r i).received ≡ NoWord = unfold delivered in (handled emptied (message_at r.network i)).received none in
+          let got : (delivered r i).received ≡ None = unfold delivered in (handled emptied (message_at r.network i)).received none in
           rw (mail, got, with_letter, none, no_word_before c behind, no_word_before c ((before ++ behind) ++ word_on c (posted_word (delivered r i).posting))) refl
 
       -- a word letter, which finds its receiver
@@ -144,12 +143,12 @@ module _ (p : Plan) (a : plan_answer (programs p) ≡ PlanAccepted) {r : System}
       unfolding delivered letter_word posted_word
       word_moves e d v is =
           let found : finds_its r (Data e d v) ≡ true = rw is at (finds r k.shaped k.ok k.histories here i low high) in
-          let got : (opened emptied (message_at r.network i)).received ≡ Word e v = rw is (word_supposed r (dequeued r.network i) e d v found) in
+          let got : (opened emptied (message_at r.network i)).received ≡ Some (e, v) = rw is (word_supposed r (dequeued r.network i) e d v found) in
           let none : (opened emptied (message_at r.network i)).posting ≡ Nothing = rw is (word_posts emptied e d v) in
           let fine = message_ok_lem r k.shaped k.ok i low high (Data e d v) is in
           let number = word_channel r.processors r.plan.tasks e d v fine in
-          let letter : letter_word (message_at r.network i) ≡ Word e v = ap letter_word is in
-          rw (mail, got, with_letter, letter, none, no_word_behind c (before ++ (word_on c (Word e v) ++ behind)), no_word_behind c (before ++ behind))
+          let letter : letter_word (message_at r.network i) ≡ Some (e, v) = ap letter_word is in
+          rw (mail, got, with_letter, letter, none, no_word_behind c (before ++ (word_on c (Some (e, v)) ++ behind)), no_word_behind c (before ++ behind))
           (by_cases
           (ℕ_discrete c.0 e.0)
           (λ (q : c.0 ≡ e.0).

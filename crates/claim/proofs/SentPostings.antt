@@ -5,6 +5,7 @@ use Prim.Native.Nat.{ℕ, ◌≤◌}
 use native.Mathlib.Omega.{arith}
 use lib.Dec.{eqb}
 use lib.ListN.{length}
+use Rattle.std.specs.Prelude.{None}
 use Rattle.base.specs.Sets.{member}
 use Rattle.base.proofs.Choices.{pick_either}
 use Rattle.plan.specs.declared.ChannelId.{ChannelId}
@@ -21,7 +22,6 @@ use Rattle.rules.specs.declared.rule.Outcome.{Outcome}
 use Rattle.rules.specs.declared.rule.Site.{Site}
 use Rattle.rules.specs.declared.rule.Posting.{Posting}
 use Rattle.rules.specs.declared.rule.Posting.TheVariants.{Nothing, Single}
-use Rattle.rules.specs.declared.rule.Received.TheVariants.{Nothing as NoWord}
 use Rattle.rules.specs.declared.rule.Finished.{Finished}
 use Rattle.rules.specs.declared.rule.Ended.{Ended}
 use Rattle.rules.specs.declared.system.ParentEntry.{ParentEntry}
@@ -45,7 +45,7 @@ use Rattle.rules.specs.Logs.{letter_word, posted_word}
 
 -- no run posts a word letter: those of a send are offers and adverts, that of a receive is a call, that of a finish is an ended letter
 abbrev Silent : Posting → Type 0
-Silent p = posted_word p ≡ NoWord
+Silent p = posted_word p ≡ None
 
 module _ (x : Site) (c : ChannelId) where
   send_silent : (w : ℕ) → Silent (send_rule x c w).posting
@@ -74,7 +74,7 @@ finish_silent t x parent e =
     (pick_either Q (is_at x.processor parent) _ _ refl
     (pick_either Q (same_processor (newer e.hint x.origin).processor x.processor) _ _ refl refl))
 
-pub ran_silent : (r : System) (t : TaskId) → posted_word (ran r t).posting ≡ NoWord
+pub ran_silent : (r : System) (t : TaskId) → posted_word (ran r t).posting ≡ None
 unfolding ran executed ran_create ran_finish ran_send ran_receive with_outcome posted_word
 ran_silent r t =
     let i = next_of r t in
@@ -99,10 +99,10 @@ small_few n (single m) = omega arith
 
 pub record Handled (m : Message) (e : Effect) : Type 0 where
   pub few : (n : ℕ) → length (messages_of n e.posting) ≤ 1
-  pub received : letter_word m ≡ NoWord → e.received ≡ NoWord
+  pub received : letter_word m ≡ None → e.received ≡ None
 
 abbrev Passes : Outcome → Type 0
-Passes o = Small o.posting × (o.received ≡ NoWord)
+Passes o = Small o.posting × (o.received ≡ None)
 
 module _ (x : Site) (c : ChannelId) where
   offer_passes : (o : Offer) (h : Hint) → Passes (offer_rule x c o h)
@@ -135,7 +135,7 @@ ended_small parent e h t =
     pick_either Q (not (member t.0 parent.children)) _ _ nothing
     (pick_either Q (is_at d parent) _ _ nothing (pick_either Q (points_on e.hint h d) _ _ (single _) nothing))
 
-by_outcome : (m : Message) (e : Effect) → Small e.posting × (e.received ≡ NoWord) → Handled m e
+by_outcome : (m : Message) (e : Effect) → Small e.posting × (e.received ≡ None) → Handled m e
 by_outcome m e (small, none) = record { few = λ n. small_few n small; received = λ z. none }
 
 pub handled : (r : System) (m : Message) → Handled m (opened r m)

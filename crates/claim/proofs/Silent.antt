@@ -23,7 +23,7 @@ use Rattle.rules.specs.declared.rule.Finished.{Finished}
 use Rattle.rules.specs.declared.rule.Site.{Site}
 use Rattle.rules.specs.declared.system.ParentEntry.{ParentEntry}
 use Rattle.rules.specs.Numbers.{same_task, same_processor, is_none}
-use Rattle.rules.specs.Hints.{hint, is_unknown, newer}
+use Rattle.rules.specs.Hints.{is_unknown, newer}
 use Rattle.rules.specs.Tasks.{is_at}
 use Rattle.rules.specs.Cells.{counts, none_called}
 use Rattle.rules.specs.Networks.{messages_of}

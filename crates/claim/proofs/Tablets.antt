@@ -3,13 +3,13 @@ use mathlib.Core.Path.{◌≡◌, refl, ap, sym, ◌∙◌}
 use mathlib.Core.Bool.{true}
 use mathlib.Core.List.{List, [], ◌∷◌, map}
 use Prim.Native.Nat.{ℕ, ◌≤◌}
+use Rattle.std.specs.Prelude.{Ok}
 use Rattle.plan.specs.declared.Plan.{Plan}
-use Rattle.plan.specs.declared.PlanAnswer.TheVariants.{Accepted}
 use Rattle.plan.specs.Programs.{programs, canonical}
 use Rattle.plan.specs.Refusals.{plan_answer}
 use Rattle.rules.specs.declared.step.Report.{Report}
 use Rattle.rules.specs.declared.step.Step.{Step}
-use Rattle.rules.specs.declared.step.StepAnswer.{StepAnswer}
+use Rattle.rules.specs.Answers.{StepAnswer}
 use Rattle.rules.specs.declared.system.System.{System}
 use Rattle.rules.specs.Sound.{system_ok}
 use Rattle.rules.specs.Starts.{started}
@@ -49,15 +49,15 @@ same_of f r q hr hq e = sym hr ∙ ap f e ∙ hq
 
 module _ (n : ℕ) (ss : List Step) (some : 1 ≤ n) (few : n ≤ 6) where
   -- the rig that is reached is not refused by 9
-  reached : (p : Plan) → plan_answer (programs p) ≡ Accepted → system_ok (from n p ss).system ≡ true
+  reached : (p : Plan) → plan_answer (programs p) ≡ Ok tt → system_ok (from n p ss).system ≡ true
   reached p a = steps_kept (started n p) ss (started_shaped n p) (started_ok n p some few a)
 
   -- the run of a plan, without words, is that of the plan without arguments
-  run_erased : (p : Plan) → plan_answer (programs p) ≡ Accepted → from n (erased_plan p) ss ≡ erased_history (from n p ss)
+  run_erased : (p : Plan) → plan_answer (programs p) ≡ Ok tt → from n (erased_plan p) ss ≡ erased_history (from n p ss)
   run_erased p a =
       ap (λ (r : System). steps r ss) (started_erased n p a) ∙ steps_erased (started n p) (started_shaped n p) (started_ok n p some few a) ss
 
-  module _ (p q : Plan) (a : plan_answer (programs p) ≡ Accepted) (b : plan_answer (programs q) ≡ Accepted)
+  module _ (p q : Plan) (a : plan_answer (programs p) ≡ Ok tt) (b : plan_answer (programs q) ≡ Ok tt)
       (same : erased_programs (programs p) ≡ erased_programs (programs q)) where
     same_plan : erased_plan p ≡ erased_plan q
     unfolding erased_plan

@@ -9,12 +9,12 @@ use native.Mathlib.Decide.{ℕ_discrete}
 use lib.Dec.{eqb}
 use lib.ListN.{length}
 use borrow.Author.Tests.{eqb-true, ne_eqb}
+use Rattle.std.specs.Prelude.{Ok}
 use Rattle.base.specs.Lists.{every, any, count}
 use Rattle.base.proofs.Tests.{is_false, tests_differ}
 use Rattle.plan.specs.declared.Plan.{Plan}
 use Rattle.plan.specs.declared.ProcessorId.{ProcessorId}
 use Rattle.rules.specs.declared.step.Step.{Step}
-use Rattle.rules.specs.declared.step.StepAnswer.TheVariants.{Accepted}
 use Rattle.rules.specs.declared.dispatch.Dispatched.{Dispatched}
 use Rattle.rules.specs.declared.system.System.{System}
 use Rattle.rules.specs.Numbers.{task_id, processor_id, same_processor, processor_ok}
@@ -43,7 +43,7 @@ choosing_calls d r (call e ∷ us) =
     either (same_processor e d) (λ same. rw same (omega (arith, later))) (λ other. rw other (omega (arith, later)))
 
 module _ (n : ℕ) (p : Plan) (d : ProcessorId) (at : processor_ok n d ≡ true) (w : System) (t : ℕ) (ready : is_ready_at d (task_at w (task_id t)) ≡ true)
-    (some : 1 ≤ t) (accepted : step_answer w (run_step t) ≡ Accepted) where
+    (some : 1 ≤ t) (accepted : step_answer w (run_step t) ≡ Ok tt) where
   -- none of these rigs chooses t, though it is ready in each
   record Passes (qs : List System) : Type 0 where
     all : every (λ q. is_ready_at d (task_at q (task_id t))) qs ≡ true

@@ -7,11 +7,11 @@ use Prim.Native.Nat.{ℕ, zero, suc, ◌+◌, ◌-◌, ◌≤◌}
 use native.Mathlib.Omega.{arith}
 use native.Mathlib.Decide.{ℕ_discrete}
 use lib.ListN.{length}
+use Rattle.std.specs.Prelude.{Ok}
 use Rattle.base.specs.Choice.{within}
 use Rattle.base.proofs.Folds.{fold_same}
 use Rattle.base.proofs.Tests.{within_both}
 use Rattle.net.specs.Machines.{stop}
-use Rattle.plan.specs.declared.PlanAnswer.TheVariants.{Accepted as PlanAccepted}
 use Rattle.plan.specs.declared.Plan.{Plan}
 use Rattle.plan.specs.declared.TaskId.{TaskId}
 use Rattle.plan.specs.declared.ChannelId.{ChannelId}
@@ -22,7 +22,6 @@ use Rattle.plan.specs.Layout.{count_of, total_of}
 use Rattle.plan.specs.Refusals.{plan_answer}
 use Rattle.rules.specs.declared.task.TaskState.TheVariants.{Unborn}
 use Rattle.rules.specs.declared.step.Step.{Step}
-use Rattle.rules.specs.declared.step.StepAnswer.TheVariants.{Accepted}
 use Rattle.rules.specs.declared.system.System.{System}
 use Rattle.rules.specs.Tasks.{is_in}
 use Rattle.rules.specs.Starts.{started}
@@ -42,7 +41,7 @@ use Rattle.invariant.proofs.Next.{Kept, next}
 use Rattle.claim.proofs.Lists.{kept_steps, either}
 use Rattle.claim.proofs.Quiet.{deliver_accepted, busy_cases}
 
-module _ (n : ℕ) (p : Plan) (some : 1 ≤ n) (few : n ≤ 6) (a : plan_answer (programs p) ≡ PlanAccepted) where
+module _ (n : ℕ) (p : Plan) (some : 1 ≤ n) (few : n ≤ 6) (a : plan_answer (programs p) ≡ Ok tt) where
   -- the rig at the start
   pub start_kept : Kept p (started n p) (λ c. [])
   start_kept =
@@ -85,7 +84,7 @@ module _ (n : ℕ) (p : Plan) (some : 1 ≤ n) (few : n ≤ 6) (a : plan_answer 
 -- a rig that is not at rest accepts a run or a delivery
 pub record Goes (r : System) : Type 0 where
   pub by : Step
-  pub accepted : step_answer r by ≡ Accepted
+  pub accepted : step_answer r by ≡ Ok tt
   pub still : is_move by ≡ false
 
 goes : {p : Plan} {r : System} {w : ChannelId → List Word} → Kept p r w → quiescent r ≡ false → Goes r
@@ -99,7 +98,7 @@ pub record Rested (r : System) : Type 0 where
   pub list : List Step
   pub rests : quiescent (steps r list).system ≡ true
 
-comes_to_rest : (p : Plan) → plan_answer (programs p) ≡ PlanAccepted → (n : ℕ) {r : System} {w : ChannelId → List Word} (k : Kept p r w)
+comes_to_rest : (p : Plan) → plan_answer (programs p) ≡ Ok tt → (n : ℕ) {r : System} {w : ChannelId → List Word} (k : Kept p r w)
     → weight_of (programs p) k.histories (reading r) ≤ n → Rested r
 unfolding steps_by
 comes_to_rest p a zero {r} k small =
@@ -113,5 +112,5 @@ comes_to_rest p a (suc n) {r} k small =
     let later = comes_to_rest p a n then.kept (omega (arith, then.falls g.still)) in
     record { list = g.by ∷ later.list; rests = later.rests })
 
-pub rested : (p : Plan) → plan_answer (programs p) ≡ PlanAccepted → {r : System} {w : ChannelId → List Word} → Kept p r w → Rested r
+pub rested : (p : Plan) → plan_answer (programs p) ≡ Ok tt → {r : System} {w : ChannelId → List Word} → Kept p r w → Rested r
 rested p a {r} k = comes_to_rest p a (weight_of (programs p) k.histories (reading r)) k (omega arith)

@@ -1,6 +1,6 @@
 -- The accepted runs of a task are its place less one, at rest or not; so all lists to rest have as many, of each task and in all.
 use mathlib.Core.Path.{◌≡◌, refl, sym, ap, ◌∙◌}
-use mathlib.Core.Bool.{Bool, true, false, ◌&&◌}
+use mathlib.Core.Bool.{Bool, true, false}
 use mathlib.Core.List.{List, [], ◌∷◌}
 use mathlib.Core.Logic.{◌≢◌, by_cases}
 use Prim.Native.Nat.{ℕ, zero, suc, ◌+◌, ◌-◌, ◌≤◌, ◌<◌}
@@ -9,28 +9,25 @@ use native.Mathlib.Omega.{arith}
 use lib.Dec.{eqb}
 use lib.ListN.{length}
 use borrow.Author.Tests.{eqb-true, eq-eqb, ne_eqb}
+use Rattle.std.specs.Prelude.{Ok}
 use Rattle.base.specs.Choice.{within}
 use Rattle.base.specs.Range.{fold, sum_below}
 use Rattle.base.proofs.Folds.{fold_same}
-use Rattle.base.proofs.Tests.{and_left, and_right, is_false, tests_differ, within_low, within_high, within_both}
+use Rattle.base.proofs.Tests.{and_left, and_right, is_false, tests_differ, within_both}
 use Rattle.plan.specs.declared.Plan.{Plan}
-use Rattle.plan.specs.declared.PlanAnswer.TheVariants.{Accepted as PlanAccepted}
 use Rattle.plan.specs.declared.TaskId.{TaskId}
 use Rattle.plan.specs.declared.ChannelId.{ChannelId}
 use Rattle.plan.specs.declared.Word.{Word}
 use Rattle.plan.specs.Numbers.{task_id}
 use Rattle.plan.specs.Programs.{Programs, programs}
-use Rattle.plan.specs.Layout.{count_of, total_of}
+use Rattle.plan.specs.Layout.{count_of}
 use Rattle.plan.specs.Refusals.{plan_answer}
 use Rattle.plan.proofs.Parts.{tasks_of_lem}
 use Rattle.rules.specs.declared.task.Task.{Task}
 use Rattle.rules.specs.declared.step.Step.{Step}
-use Rattle.rules.specs.declared.step.StepAnswer.TheVariants.{Accepted}
 use Rattle.rules.specs.declared.system.System.{System}
 use Rattle.rules.specs.Systems.{task_at}
 use Rattle.rules.specs.Starts.{started}
-use Rattle.rules.specs.Effects.{completed}
-use Rattle.rules.specs.Runs.{ran}
 use Rattle.rules.specs.Steps.{is_run, step_answer, step, steps_by, steps, received_on}
 use Rattle.rules_laws.proofs.Steps.{step_accepted, step_passed}
 use Rattle.rules_laws.proofs.StepKinds.{answer_run, performed_run}
@@ -63,12 +60,12 @@ module _ {m : Programs} {x y : TaskId → Task} where
   stayed (one_goes v is more goes same) e u here = absurd (omega arith)
   stayed (nobody same) e u here = same u here
 
-module _ (p : Plan) (a : plan_answer (programs p) ≡ PlanAccepted) where
+module _ (p : Plan) (a : plan_answer (programs p) ≡ Ok tt) where
   abbrev m : Programs
   m = programs p
 
   -- an accepted step
-  module _ {r : System} {w : ChannelId → List Word} (k : Kept p r w) (s : Step) (yes : step_answer r s ≡ Accepted) (u : TaskId) (here : within 1 (length m) u.0 ≡ true) where
+  module _ {r : System} {w : ChannelId → List Word} (k : Kept p r w) (s : Step) (yes : step_answer r s ≡ Ok tt) (u : TaskId) (here : within 1 (length m) u.0 ≡ true) where
     -- a run, of this task or of another
     after_run_lem : is_run s ≡ true → (task_at (step r s).system u).pc ≡ flag (eqb s.task u.0) + (task_at r u).pc
     unfolding reading
@@ -132,7 +129,7 @@ unfolding fold
 sum_both zero f g h e = refl
 sum_both (suc n) f g h e = omega (arith, sum_both n f g h (λ k l. e k (omega arith)), e n (omega arith))
 
-module _ (n : ℕ) (p : Plan) (ss : List Step) (some : 1 ≤ n) (few : n ≤ 6) (a : plan_answer (programs p) ≡ PlanAccepted) where
+module _ (n : ℕ) (p : Plan) (ss : List Step) (some : 1 ≤ n) (few : n ≤ 6) (a : plan_answer (programs p) ≡ Ok tt) where
   abbrev rig : System
   rig = (from n p ss).system
 
@@ -171,7 +168,7 @@ work_is_places n p ss some few a =
       each = λ t low high. task_work n p ss some few a t (within_both 1 (length (programs p)) t.0 low (omega (arith, tasks_of_lem p)));
     }
 
-module _ (n k : ℕ) (p : Plan) (ss ts : List Step) (some : 1 ≤ n) (few : n ≤ 6) (some' : 1 ≤ k) (few' : k ≤ 6) (a : plan_answer (programs p) ≡ PlanAccepted)
+module _ (n k : ℕ) (p : Plan) (ss ts : List Step) (some : 1 ≤ n) (few : n ≤ 6) (some' : 1 ≤ k) (few' : k ≤ 6) (a : plan_answer (programs p) ≡ Ok tt)
     (quiet : RestsOn n p ss) (rests : RestsOn k p ts) where
   same_place : (t : TaskId) → within 1 p.tasks t.0 ≡ true → (task_at (from n p ss).system t).pc ≡ (task_at (from k p ts).system t).pc
   same_place t is = (same_task_lem p a (here n p ss some few a) (here k p ts some' few' a) rests quiet t is).place

@@ -1,11 +1,10 @@
 -- "the number of times an offer letter is forwarded must be shown never to exceed the receiver's moves after the pointer that the sender used". Said
 -- of the definitions of `rules` and of the statement alone.
-use Rattle.std.specs.Prelude.{◌≡◌, Bool, true, false, ◌&&◌, List, [], ◌∷◌, ◌++◌, ℕ, ◌+◌, ◌≤◌, eqb}
+use Rattle.std.specs.Prelude.{◌≡◌, Bool, true, false, ◌&&◌, List, [], ◌∷◌, ◌++◌, ℕ, ◌+◌, ◌≤◌, eqb, Ok}
 use Rattle.base.specs.Choice.{pick}
 use Rattle.base.specs.Lists.{count}
 use Rattle.plan.specs.declared.ChannelId.{ChannelId}
 use Rattle.plan.specs.declared.Plan.{Plan}
-use Rattle.plan.specs.declared.PlanAnswer.TheVariants.{Accepted}
 use Rattle.plan.specs.Programs.{programs}
 use Rattle.plan.specs.Refusals.{plan_answer}
 use Rattle.plan.specs.Users.{receiver_of}
@@ -64,12 +63,12 @@ receiver_moves r c = (task_at r (receiver_of (meaning r) c)).moves
 -- most as often as "the receiver's moves after the pointer that the sender used": its move count then less k. A count goes up by one with each move
 abbrev pub LongestChase : Type 0
 LongestChase =
-    (n : ℕ) (p : Plan) (ss us : List Step) (s : Step) (c : ChannelId) (o : Offer) (h : Hint) → 1 ≤ n → n ≤ 6 → plan_answer (programs p) ≡ Accepted
+    (n : ℕ) (p : Plan) (ss us : List Step) (s : Step) (c : ChannelId) (o : Offer) (h : Hint) → 1 ≤ n → n ≤ 6 → plan_answer (programs p) ≡ Ok tt
     → Posts (from n p ss).system s c o h
     → forwards_of c o.number (step (from n p ss).system s).system us + h.moves ≤ receiver_moves (from n p (ss ++ (s ∷ us))).system c
 
 -- `one_offer`: there is never more than one offer letter of a channel and a number in the mail, so that counting by both is counting one letter
 abbrev pub OneOffer : Type 0
 OneOffer =
-    (n : ℕ) (p : Plan) (ss : List Step) (c : ChannelId) (w : ℕ) → 1 ≤ n → n ≤ 6 → plan_answer (programs p) ≡ Accepted
+    (n : ℕ) (p : Plan) (ss : List Step) (c : ChannelId) (w : ℕ) → 1 ≤ n → n ≤ 6 → plan_answer (programs p) ≡ Ok tt
     → count (is_offer c w) (messages (from n p ss).system.network) ≤ 1

@@ -1,18 +1,17 @@
 -- "What it does is a run of ordinary steps, so demand 3 still holds". Said of the definitions of `rules`, of the statement and of lists of events
 -- alone.
-use Rattle.std.specs.Prelude.{◌≡◌, true, false, not, ◌||◌, List, ◌≢◌, ℕ, ◌+◌, ◌*◌, ◌≤◌}
+use Rattle.std.specs.Prelude.{◌≡◌, true, false, not, ◌||◌, List, ◌≢◌, ℕ, ◌+◌, ◌*◌, ◌≤◌, Ok, Err}
 use Rattle.base.specs.Choice.{within}
 use Rattle.base.specs.Lists.{every}
 use Rattle.base.specs.Beginnings.{Beginning}
 use Rattle.plan.specs.declared.Plan.{Plan}
-use Rattle.plan.specs.declared.PlanAnswer.TheVariants.{Accepted}
 use Rattle.plan.specs.declared.TaskId.{TaskId}
 use Rattle.plan.specs.declared.ProcessorId.{ProcessorId}
 use Rattle.plan.specs.declared.ChannelId.{ChannelId}
 use Rattle.plan.specs.Programs.{programs}
 use Rattle.plan.specs.Refusals.{plan_answer}
 use Rattle.rules.specs.declared.step.Step.{Step}
-use Rattle.rules.specs.declared.step.StepAnswer.TheVariants.{BadSystem}
+use Rattle.rules.specs.declared.step.StepRefusal.TheVariants.{BadSystem}
 use Rattle.rules.specs.declared.system.System.{System}
 use Rattle.rules.specs.Answers.{is_accepted}
 use Rattle.rules.specs.Systems.{with_chosen}
@@ -45,7 +44,7 @@ EventsAreARun = (r : System) (es : List Event) → EventsRun r es
 pub record MixedDemand3 (n : ℕ) (p : Plan) (es : List Event) : Type 0 where
   -- (a) of every step, and of every further call
   pub no_nine : every (λ q. not (answered_nine q)) (mixed n p es).reports ≡ true
-  pub no_call_nine : (d : ProcessorId) → (dispatched (mixed n p es).system d).answer ≢ BadSystem
+  pub no_call_nine : (d : ProcessorId) → (dispatched (mixed n p es).system d).answer ≢ Err BadSystem
   pub none_wasted_lem : none_wasted (started n p) (mixed n p es).steps ≡ true
   -- (b)
   pub beginning : (ts : List Step) → Rests p ts → (c : ChannelId)
@@ -68,4 +67,4 @@ pub record MixedDemand3 (n : ℕ) (p : Plan) (es : List Event) : Type 0 where
 
 -- `mixed_demand_3`: for every accepted plan, 1 to 6 desks and every list of steps and calls
 abbrev pub MixedClaim : Type 0
-MixedClaim = (n : ℕ) (p : Plan) (es : List Event) → 1 ≤ n → n ≤ 6 → plan_answer (programs p) ≡ Accepted → MixedDemand3 n p es
+MixedClaim = (n : ℕ) (p : Plan) (es : List Event) → 1 ≤ n → n ≤ 6 → plan_answer (programs p) ≡ Ok tt → MixedDemand3 n p es

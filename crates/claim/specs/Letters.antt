@@ -1,10 +1,9 @@
 -- "A letter is delivered within as many calls there as letters for the desk stood up to and including it.". Said of the definitions of `rules` and
 -- of lists of events alone.
-use Rattle.std.specs.Prelude.{◌≡◌, ◌&&◌, List, [], ◌∷◌, ◌≢◌, ℕ, ◌-◌, ◌≤◌, eqb, ltb, take}
+use Rattle.std.specs.Prelude.{◌≡◌, ◌&&◌, List, [], ◌∷◌, ◌≢◌, ℕ, ◌-◌, ◌≤◌, eqb, ltb, take, Ok}
 use Rattle.base.specs.Choice.{pick}
 use Rattle.base.specs.Lists.{count}
 use Rattle.plan.specs.declared.Plan.{Plan}
-use Rattle.plan.specs.declared.PlanAnswer.TheVariants.{Accepted}
 use Rattle.plan.specs.declared.ProcessorId.{ProcessorId}
 use Rattle.plan.specs.Programs.{programs}
 use Rattle.plan.specs.Refusals.{plan_answer}
@@ -47,6 +46,6 @@ pub record LetterLeaves (r : System) (us : List Event) (k : ℕ) : Type 0 where
 -- `letters_leave`: for every accepted plan, 1 to 6 desks, all events before and further, and every position in the mail
 abbrev pub LettersLeave : Type 0
 LettersLeave =
-    (n : ℕ) (p : Plan) (es us : List Event) → 1 ≤ n → n ≤ 6 → plan_answer (programs p) ≡ Accepted
+    (n : ℕ) (p : Plan) (es us : List Event) → 1 ≤ n → n ≤ 6 → plan_answer (programs p) ≡ Ok tt
     → (k : ℕ) → 1 ≤ k → k ≤ (mixed n p es).system.network.used
     → LetterLeaves (mixed n p es).system us k

@@ -1,11 +1,10 @@
 -- The two logs of a run, held against each other: "Both logs, taken after the same step of a run from an accepted plan's start, always pass."; and
 -- what the check's answers mean. Said of the definitions of `rules` and of the statement alone.
-use Rattle.std.specs.Prelude.{◌≡◌, Bool, true, List, ◌++◌, ℕ, ◌≤◌, ◌<◌, ltb, length}
+use Rattle.std.specs.Prelude.{◌≡◌, Bool, true, List, ◌++◌, ℕ, ◌≤◌, ◌<◌, ltb, length, Ok}
 use Rattle.base.specs.Beginnings.{Beginning}
 use Rattle.base.specs.Lists.{every}
 use Rattle.plan.specs.declared.ChannelId.{ChannelId}
 use Rattle.plan.specs.declared.Plan.{Plan}
-use Rattle.plan.specs.declared.PlanAnswer.TheVariants.{Accepted}
 use Rattle.plan.specs.Programs.{programs}
 use Rattle.plan.specs.Refusals.{plan_answer}
 use Rattle.rules.specs.declared.log.LogsAnswer.TheVariants.{Yes, No}
@@ -38,7 +37,7 @@ pub record LogsAgree (n : ℕ) (p : Plan) (ss : List Step) : Type 0 where
 
 -- `logs_agree`: for every accepted plan, 1 to 6 desks and every list of steps
 abbrev pub LogsAlwaysAgree : Type 0
-LogsAlwaysAgree = (n : ℕ) (p : Plan) (ss : List Step) → 1 ≤ n → n ≤ 6 → plan_answer (programs p) ≡ Accepted → LogsAgree n p ss
+LogsAlwaysAgree = (n : ℕ) (p : Plan) (ss : List Step) → 1 ≤ n → n ≤ 6 → plan_answer (programs p) ≡ Ok tt → LogsAgree n p ss
 
 -- `yes_means`: "Its yes means that for every channel the received list is a beginning of the sent list", of any two files
 abbrev pub YesMeans : Type 0

@@ -1,10 +1,9 @@
 -- "Old plans act on level 0.": a plan whose sets and adds all mean level 0 leaves the other three levels 0. Said of the definitions of `rules` and
 -- of the statement alone.
-use Rattle.std.specs.Prelude.{◌≡◌, Bool, true, ◌&&◌, List, ℕ, ◌≤◌, eqb}
+use Rattle.std.specs.Prelude.{◌≡◌, Bool, true, ◌&&◌, List, ℕ, ◌≤◌, eqb, Ok}
 use Rattle.base.specs.Lists.{every}
 use Rattle.plan.specs.declared.ChannelId.{ChannelId}
 use Rattle.plan.specs.declared.Plan.{Plan}
-use Rattle.plan.specs.declared.PlanAnswer.TheVariants.{Accepted}
 use Rattle.plan.specs.declared.ProcessorId.{ProcessorId}
 use Rattle.plan.specs.declared.TaskId.{TaskId}
 use Rattle.plan.specs.declared.Word.{Word}
@@ -37,4 +36,4 @@ pub record OnlyLevel0 (n : ℕ) (p : Plan) (ss : List Step) : Type 0 where
 -- `old_plans`: for every accepted plan of this kind, 1 to 6 desks and every list of steps
 abbrev pub OldPlansOnLevel0 : Type 0
 OldPlansOnLevel0 =
-    (n : ℕ) (p : Plan) (ss : List Step) → 1 ≤ n → n ≤ 6 → plan_answer (programs p) ≡ Accepted → is_old (programs p) ≡ true → OnlyLevel0 n p ss
+    (n : ℕ) (p : Plan) (ss : List Step) → 1 ≤ n → n ≤ 6 → plan_answer (programs p) ≡ Ok tt → is_old (programs p) ≡ true → OnlyLevel0 n p ss

@@ -1,8 +1,7 @@
 -- Which tasks carry a mark, said of whole runs: "Adding now tells whether the sum passed 65,535 .. A task that met this, and no other, carries a
 -- mark until done and after; it travels with moves". Said of the definitions of `rules` and of the statement alone.
-use Rattle.std.specs.Prelude.{◌≡◌, Bool, true, false, ◌&&◌, ◌||◌, List, [], ◌∷◌, ℕ, ◌≤◌, eqb}
+use Rattle.std.specs.Prelude.{◌≡◌, Bool, false, ◌&&◌, ◌||◌, List, [], ◌∷◌, ℕ, ◌≤◌, eqb, Ok}
 use Rattle.plan.specs.declared.Plan.{Plan}
-use Rattle.plan.specs.declared.PlanAnswer.TheVariants.{Accepted}
 use Rattle.plan.specs.declared.TaskId.{TaskId}
 use Rattle.plan.specs.Kinds.{op_add}
 use Rattle.plan.specs.Words.{add_word}
@@ -33,5 +32,5 @@ has_overflowed t r (s ∷ ss) = overflows t r s || has_overflowed t (step r s).s
 -- `marked_exactly`: for every accepted plan, 1 to 6 desks, every list of steps and every task
 abbrev pub MarkedExactly : Type 0
 MarkedExactly =
-    (n : ℕ) (p : Plan) (ss : List Step) → 1 ≤ n → n ≤ 6 → plan_answer (programs p) ≡ Accepted → (t : TaskId)
+    (n : ℕ) (p : Plan) (ss : List Step) → 1 ≤ n → n ≤ 6 → plan_answer (programs p) ≡ Ok tt → (t : TaskId)
     → (task_at (from n p ss).system t).overflow ≡ has_overflowed t (started n p) ss

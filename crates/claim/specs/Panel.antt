@@ -1,10 +1,9 @@
 -- What can be pressed: the counts of a panel together, and rest as a panel shows it. Said of the definitions of `rules` and of the statement alone.
-use Rattle.std.specs.Prelude.{◌≡◌, true, false, List, ◌++◌, ℕ, suc, ◌+◌, ◌*◌, ◌≤◌, eqb, get_or, replicate}
+use Rattle.std.specs.Prelude.{◌≡◌, true, false, List, ◌++◌, ℕ, suc, ◌+◌, ◌*◌, ◌≤◌, eqb, get_or, replicate, Ok}
 use Rattle.base.specs.Choice.{pick}
 use Rattle.base.specs.Range.{sum_below, joined}
 use Rattle.base.specs.Lists.{table}
 use Rattle.plan.specs.declared.Plan.{Plan}
-use Rattle.plan.specs.declared.PlanAnswer.TheVariants.{Accepted}
 use Rattle.plan.specs.Programs.{programs}
 use Rattle.plan.specs.Refusals.{plan_answer}
 use Rattle.rules.specs.declared.step.Step.{Step}
@@ -48,4 +47,4 @@ RestShown = (r : System) → system_ok r ≡ true → RestOf r
 
 abbrev pub RunRestShown : Type 0
 RunRestShown =
-    (n : ℕ) (p : Plan) (ss : List Step) → 1 ≤ n → n ≤ 6 → plan_answer (programs p) ≡ Accepted → RestOf (from n p ss).system
+    (n : ℕ) (p : Plan) (ss : List Step) → 1 ≤ n → n ≤ 6 → plan_answer (programs p) ≡ Ok tt → RestOf (from n p ss).system

@@ -1,7 +1,6 @@
 -- What holds of parents in every run, beside demand 3. Said of the definitions of `rules` and of the statement alone.
-use Rattle.std.specs.Prelude.{◌≡◌, true, List, ℕ, ◌≤◌}
+use Rattle.std.specs.Prelude.{◌≡◌, true, List, ℕ, ◌≤◌, Ok}
 use Rattle.plan.specs.declared.Plan.{Plan}
-use Rattle.plan.specs.declared.PlanAnswer.TheVariants.{Accepted}
 use Rattle.plan.specs.Programs.{programs}
 use Rattle.plan.specs.Refusals.{plan_answer}
 use Rattle.rules.specs.declared.step.Step.{Step}
@@ -12,5 +11,5 @@ use Rattle.claim.specs.Statement.{from}
 -- start meets that: after any list of steps, a run step changes no set of held children
 abbrev pub NoneHeldByRuns : Type 0
 NoneHeldByRuns =
-    (n : ℕ) (p : Plan) (ss : List Step) (s : Step) → 1 ≤ n → n ≤ 6 → plan_answer (programs p) ≡ Accepted → is_run s ≡ true
+    (n : ℕ) (p : Plan) (ss : List Step) (s : Step) → 1 ≤ n → n ≤ 6 → plan_answer (programs p) ≡ Ok tt → is_run s ≡ true
     → (step (from n p ss).system s).system.parents.held ≡ (from n p ss).system.parents.held

@@ -1,9 +1,8 @@
 -- Plans with repeats: "The written-out plan must give on one desk the same words on each channel as this rule does." The rule is the machine of the new
 -- edition (`repeat_machine`), which goes from place to place and writes nothing out; the written-out plan runs on a rig of one desk, by `rules`.
-use Rattle.std.specs.Prelude.{◌≡◌, true, ◌&&◌, List, ℕ}
+use Rattle.std.specs.Prelude.{◌≡◌, true, ◌&&◌, List, ℕ, Ok}
 use Rattle.plan.specs.declared.ChannelId.{ChannelId}
 use Rattle.plan.specs.declared.Plan.{Plan}
-use Rattle.plan.specs.declared.PlanAnswer.TheVariants.{Accepted}
 use Rattle.plan.specs.declared.TaskId.{TaskId}
 use Rattle.plan.specs.Files.{file_programs, file_answer}
 use Rattle.plan.specs.Programs.{Programs, canonical}
@@ -53,12 +52,12 @@ pub record RepeatsWritten (b : List ℕ) : Type 0 where
 
 -- `repeats_written`: for every file that the converter accepts
 abbrev pub RepeatsAsWritten : Type 0
-RepeatsAsWritten = (b : List ℕ) → repeats_answer b ≡ Accepted → RepeatsWritten b
+RepeatsAsWritten = (b : List ℕ) → repeats_answer b ≡ Ok tt → RepeatsWritten b
 
 -- a file is answered as by plan check and, where it is accepted, written as it is
 pub record AsItIs (b : List ℕ) : Type 0 where
   pub answer : repeats_answer b ≡ file_answer b
-  pub file : file_answer b ≡ Accepted → converted_file b ≡ b
+  pub file : file_answer b ≡ Ok tt → converted_file b ≡ b
 
 -- `plain_as_it_is`: every file of bytes that has neither a repeat nor an end of one
 abbrev pub PlainAsItIs : Type 0

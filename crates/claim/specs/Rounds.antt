@@ -1,7 +1,6 @@
 -- Calls at the desks in turn bring the rig to rest. Said of the definitions of `rules`, of the statement and of lists of events alone.
-use Rattle.std.specs.Prelude.{◌≡◌, true, List, [], ◌∷◌, ◌++◌, ℕ, zero, suc, ◌+◌, ◌*◌, ◌≤◌}
+use Rattle.std.specs.Prelude.{◌≡◌, true, List, [], ◌∷◌, ◌++◌, ℕ, zero, suc, ◌+◌, ◌*◌, ◌≤◌, Ok}
 use Rattle.plan.specs.declared.Plan.{Plan}
-use Rattle.plan.specs.declared.PlanAnswer.TheVariants.{Accepted}
 use Rattle.plan.specs.Programs.{programs}
 use Rattle.plan.specs.Refusals.{plan_answer}
 use Rattle.rules.specs.Numbers.{processor_id}
@@ -22,7 +21,7 @@ rounds n (suc k) = round n ++ rounds n k
 -- that the rig is at rest; and of accepted steps, none of them a move, there are at most 10 × (instructions not yet executed + letters under way)
 abbrev pub RoundsRest : Type 0
 RoundsRest =
-    (n : ℕ) (p : Plan) (es : List Event) → 1 ≤ n → n ≤ 6 → plan_answer (programs p) ≡ Accepted
+    (n : ℕ) (p : Plan) (es : List Event) → 1 ≤ n → n ≤ 6 → plan_answer (programs p) ≡ Ok tt
     → (k : ℕ)
     → let r = (mixed n p es).system in
     p.tasks * (10 * (not_executed n p (mixed n p es).steps + r.network.used)) ≤ k

@@ -1,11 +1,10 @@
 -- Demand 3: "a single claim about the whole list of steps, not one for each".
-use Rattle.std.specs.Prelude.{◌≡◌, Bool, true, false, not, ◌&&◌, ◌||◌, List, [], ◌∷◌, ℕ, ◌+◌, ◌-◌, ◌*◌, ◌≤◌, eqb}
+use Rattle.std.specs.Prelude.{◌≡◌, Bool, true, false, not, ◌&&◌, ◌||◌, List, [], ◌∷◌, ℕ, ◌+◌, ◌-◌, ◌*◌, ◌≤◌, eqb, Ok}
 use Rattle.base.specs.Choice.{pick, within}
 use Rattle.base.specs.Lists.{every}
 use Rattle.base.specs.Sets.{member}
 use Rattle.base.specs.Beginnings.{Beginning}
 use Rattle.plan.specs.declared.Plan.{Plan}
-use Rattle.plan.specs.declared.PlanAnswer.TheVariants.{Accepted}
 use Rattle.plan.specs.declared.TaskId.{TaskId}
 use Rattle.plan.specs.declared.ChannelId.{ChannelId}
 use Rattle.plan.specs.Programs.{programs}
@@ -138,4 +137,4 @@ pub record Demand3 (n : ℕ) (p : Plan) (ss : List Step) : Type 0 where
 
 -- the claim: for every accepted plan, 1 to 6 desks and every list of steps
 abbrev pub Claim : Type 0
-Claim = (n : ℕ) (p : Plan) (ss : List Step) → 1 ≤ n → n ≤ 6 → plan_answer (programs p) ≡ Accepted → Demand3 n p ss
+Claim = (n : ℕ) (p : Plan) (ss : List Step) → 1 ≤ n → n ≤ 6 → plan_answer (programs p) ≡ Ok tt → Demand3 n p ss

@@ -1,8 +1,7 @@
 -- "Designers don't want unreleased levels on tablets.": what tablets show does not depend on the arguments of sets and adds. Said of the definitions
 -- of `rules` and of the statement alone.
-use Rattle.std.specs.Prelude.{◌≡◌, true, List, map, ℕ, ◌≤◌}
+use Rattle.std.specs.Prelude.{◌≡◌, true, List, map, ℕ, ◌≤◌, Ok}
 use Rattle.plan.specs.declared.Plan.{Plan}
-use Rattle.plan.specs.declared.PlanAnswer.TheVariants.{Accepted}
 use Rattle.plan.specs.declared.TaskId.{TaskId}
 use Rattle.plan.specs.Programs.{programs}
 use Rattle.plan.specs.Refusals.{plan_answer}
@@ -35,6 +34,6 @@ pub record SameTablets (n : ℕ) (p q : Plan) (ss : List Step) : Type 0 where
 abbrev pub TabletsAlike : Type 0
 TabletsAlike =
     (n : ℕ) (p q : Plan) (ss : List Step) → 1 ≤ n → n ≤ 6
-    → plan_answer (programs p) ≡ Accepted → plan_answer (programs q) ≡ Accepted
+    → plan_answer (programs p) ≡ Ok tt → plan_answer (programs q) ≡ Ok tt
     → erased_programs (programs p) ≡ erased_programs (programs q)
     → SameTablets n p q ss

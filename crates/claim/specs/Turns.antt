@@ -1,9 +1,8 @@
 -- "A task that stays ready at the desk is chosen within T calls there.". Said of the definitions of `rules` and of lists of events alone.
-use Rattle.std.specs.Prelude.{◌≡◌, true, List, [], ◌∷◌, ◌++◌, ℕ, ◌+◌, ◌-◌, ◌≤◌, eqb, ltb, length}
+use Rattle.std.specs.Prelude.{◌≡◌, true, List, [], ◌∷◌, ◌++◌, ℕ, ◌+◌, ◌-◌, ◌≤◌, eqb, ltb, length, Ok}
 use Rattle.base.specs.Choice.{pick, within}
 use Rattle.base.specs.Lists.{every, any}
 use Rattle.plan.specs.declared.Plan.{Plan}
-use Rattle.plan.specs.declared.PlanAnswer.TheVariants.{Accepted}
 use Rattle.plan.specs.declared.TaskId.{TaskId}
 use Rattle.plan.specs.declared.ProcessorId.{ProcessorId}
 use Rattle.plan.specs.Programs.{programs}
@@ -29,7 +28,7 @@ place_after m last t = pick (ltb last t) (t - last) (m + t - last)
 -- chooses t
 abbrev pub ChosenInTurn : Type 0
 ChosenInTurn =
-    (n : ℕ) (p : Plan) (es us : List Event) → 1 ≤ n → n ≤ 6 → plan_answer (programs p) ≡ Accepted
+    (n : ℕ) (p : Plan) (es us : List Event) → 1 ≤ n → n ≤ 6 → plan_answer (programs p) ≡ Ok tt
     → (d : ProcessorId) → within 1 n d.0 ≡ true → (t : TaskId) → within 1 p.tasks t.0 ≡ true
     → let r = (mixed n p es).system in
     every (λ q. is_ready_at d (task_at q t)) (choosing_rigs d r us) ≡ true
@@ -39,7 +38,7 @@ ChosenInTurn =
 -- `chosen_within_T`: so within T calls
 abbrev pub ChosenWithinT : Type 0
 ChosenWithinT =
-    (n : ℕ) (p : Plan) (es us : List Event) → 1 ≤ n → n ≤ 6 → plan_answer (programs p) ≡ Accepted
+    (n : ℕ) (p : Plan) (es us : List Event) → 1 ≤ n → n ≤ 6 → plan_answer (programs p) ≡ Ok tt
     → (d : ProcessorId) → within 1 n d.0 ≡ true → (t : TaskId) → within 1 p.tasks t.0 ≡ true
     → let r = (mixed n p es).system in
     every (λ q. is_ready_at d (task_at q t)) (choosing_rigs d r us) ≡ true

@@ -1,9 +1,8 @@
 -- "For one plan, every run from the start to rest, on whichever desks and with whichever moves, must have exactly the same number of accepted run
 -- steps." Said of the definitions of `rules` and of the statement alone.
-use Rattle.std.specs.Prelude.{◌≡◌, Bool, ◌&&◌, List, ℕ, suc, ◌-◌, ◌≤◌, eqb}
+use Rattle.std.specs.Prelude.{◌≡◌, Bool, ◌&&◌, List, ℕ, suc, ◌-◌, ◌≤◌, eqb, Ok}
 use Rattle.base.specs.Range.{sum_below}
 use Rattle.plan.specs.declared.Plan.{Plan}
-use Rattle.plan.specs.declared.PlanAnswer.TheVariants.{Accepted}
 use Rattle.plan.specs.declared.TaskId.{TaskId}
 use Rattle.plan.specs.Numbers.{task_id}
 use Rattle.plan.specs.Programs.{programs}
@@ -35,7 +34,7 @@ pub record SameWork (n k : ℕ) (p : Plan) (ss ts : List Step) : Type 0 where
 -- `same_work_everywhere`: for every accepted plan, any two numbers of desks and any two lists of steps after which the rigs are at rest
 abbrev pub SameWorkEverywhere : Type 0
 SameWorkEverywhere =
-    (n k : ℕ) (p : Plan) (ss ts : List Step) → 1 ≤ n → n ≤ 6 → 1 ≤ k → k ≤ 6 → plan_answer (programs p) ≡ Accepted
+    (n k : ℕ) (p : Plan) (ss ts : List Step) → 1 ≤ n → n ≤ 6 → 1 ≤ k → k ≤ 6 → plan_answer (programs p) ≡ Ok tt
     → RestsOn n p ss → RestsOn k p ts → SameWork n k p ss ts
 
 -- the places of a rig's tasks, less one each
@@ -48,4 +47,4 @@ pub record WorkIsPlaces (n : ℕ) (p : Plan) (ss : List Step) : Type 0 where
   pub each : (t : TaskId) → 1 ≤ t.0 → t.0 ≤ p.tasks → work_of_task t n p ss ≡ (task_at (from n p ss).system t).pc - 1
 
 abbrev pub AllWorkIsPlaces : Type 0
-AllWorkIsPlaces = (n : ℕ) (p : Plan) (ss : List Step) → 1 ≤ n → n ≤ 6 → plan_answer (programs p) ≡ Accepted → WorkIsPlaces n p ss
+AllWorkIsPlaces = (n : ℕ) (p : Plan) (ss : List Step) → 1 ≤ n → n ≤ 6 → plan_answer (programs p) ≡ Ok tt → WorkIsPlaces n p ss

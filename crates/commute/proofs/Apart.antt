@@ -1,6 +1,6 @@
 -- The footprints of two runs at different desks have nothing in common.
 use mathlib.Core.Path.{◌≡◌, sym, ◌∙◌, ap}
-use mathlib.Core.Bool.{true, false, ◌&&◌}
+use mathlib.Core.Bool.{true, ◌&&◌}
 use mathlib.Core.Logic.{◌≢◌}
 use Prim.Native.Nat.{◌≤◌}
 use native.Mathlib.Omega.{arith}
@@ -8,12 +8,10 @@ use borrow.Author.Tests.{eqb-true}
 use Rattle.base.proofs.Tests.{and_left, and_right, or_cases, is_false}
 use Rattle.plan.specs.declared.TaskId.{TaskId}
 use Rattle.plan.specs.declared.ProcessorId.{ProcessorId}
-use Rattle.plan.specs.declared.ChannelId.{ChannelId}
 use Rattle.plan.specs.Users.{sender_of, receiver_of, parent_of}
 use Rattle.rules.specs.Numbers.{task_id}
-use Rattle.rules.specs.declared.task.TaskState.TheVariants.{Ready}
 use Rattle.rules.specs.declared.system.System.{System}
-use Rattle.rules.specs.Tasks.{is_in, is_at}
+use Rattle.rules.specs.Tasks.{is_at}
 use Rattle.rules.specs.Systems.{task_at, meaning}
 use Rattle.rules.specs.Effects.{receives_on, sends_on}
 use Rattle.commute.specs.Footprints.{footprint, creates}

@@ -15,14 +15,13 @@ use Rattle.plan.specs.declared.ProcessorId.{ProcessorId}
 use Rattle.plan.specs.declared.ChannelId.{ChannelId}
 use Rattle.plan.specs.Programs.{programs}
 use Rattle.rules.specs.Numbers.{processor_id}
-use Rattle.rules.specs.declared.channel.Cell.{Cell}
 use Rattle.rules.specs.declared.channel.Entry.{Entry}
 use Rattle.rules.specs.declared.channel.Channel.{Channel}
 use Rattle.rules.specs.declared.channel.Hint.{Hint}
 use Rattle.rules.specs.declared.system.System.{System}
 use Rattle.rules.specs.Hints.{hint}
 use Rattle.rules.specs.Tasks.{born}
-use Rattle.rules.specs.Systems.{entry_at, channel_at, cell_at, with_task, parent_at, with_parent, meaning}
+use Rattle.rules.specs.Systems.{entry_at, channel_at, with_task, parent_at, meaning}
 use Rattle.rules.specs.Effects.{for_channels, receives_on}
 use Rattle.rules.specs.Starts.{located, pointing, pointed, birth}
 use Rattle.rules_laws.specs.Shapes.{Shaped}

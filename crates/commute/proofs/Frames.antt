@@ -1,5 +1,5 @@
 -- The frame law: every run of a ready task is framed.
-use mathlib.Core.Path.{◌≡◌, refl, sym, ◌∙◌, ap}
+use mathlib.Core.Path.{◌≡◌, refl, ◌∙◌, ap}
 use mathlib.Core.Bool.{true}
 use Prim.Native.Nat.{suc, ◌-◌, ◌≤◌, ◌<◌}
 use native.Mathlib.Omega.{arith}
@@ -10,15 +10,13 @@ use Rattle.base.proofs.Tests.{and_both, within_high}
 use Rattle.plan.specs.declared.Plan.{Plan}
 use Rattle.plan.specs.declared.TaskId.{TaskId}
 use Rattle.plan.specs.declared.ChannelId.{ChannelId}
-use Rattle.plan.specs.declared.Instruction.{Instruction}
 use Rattle.plan.specs.Kinds.{op_create, op_sync, op_finish, op_send, op_receive, op_set, is_use}
-use Rattle.plan.specs.Programs.{Program, programs, program_at}
+use Rattle.plan.specs.Programs.{programs, program_at}
 use Rattle.plan.specs.Users.{sender_of, receiver_of, parent_of}
 use Rattle.plan_laws.proofs.Programs.{create_operand, send_operand, receive_operand}
 use Rattle.plan_laws.proofs.Ends.{sends_on_lem, receives_on_lem}
 use Rattle.plan_laws.proofs.Parents.{created_by}
 use Rattle.rules.specs.Numbers.{task_id, channel_id}
-use Rattle.rules.specs.declared.task.Task.{Task}
 use Rattle.rules.specs.declared.task.TaskState.TheVariants.{Ready}
 use Rattle.rules.specs.declared.system.System.{System}
 use Rattle.rules.specs.Tasks.{is_in}
@@ -32,7 +30,7 @@ use Rattle.rules_sound.specs.Stands.{Whole}
 use Rattle.rules_sound.proofs.Settled.{settled}
 use Rattle.rules_sound.proofs.Frames.{in_plan}
 use Rattle.rules_sound.proofs.Runs.{next_fine}
-use Rattle.commute.specs.Footprints.{footprint, creates}
+use Rattle.commute.specs.Footprints.{creates}
 use Rattle.commute.specs.Frames.{SeenAlike, Framed}
 use Rattle.commute.proofs.Rules.{sync_stays}
 use Rattle.commute.proofs.Runs.{framed_pick, task_in_lem, own_framed, create_framed, finish_framed}

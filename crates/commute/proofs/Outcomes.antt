@@ -1,5 +1,5 @@
 -- The outcome of a rule about a channel, stored in rigs that are alike in a footprint.
-use mathlib.Core.Path.{◌≡◌, refl, sym, ◌∙◌, ap}
+use mathlib.Core.Path.{◌≡◌, refl, ◌∙◌, ap}
 use mathlib.Core.Bool.{true, false}
 use Prim.Native.Nat.{◌≤◌}
 use Rattle.plan.specs.declared.TaskId.{TaskId}
@@ -8,7 +8,7 @@ use Rattle.plan.specs.declared.ChannelId.{ChannelId}
 use Rattle.rules.specs.declared.task.Task.{Task}
 use Rattle.rules.specs.declared.rule.Outcome.{Outcome}
 use Rattle.rules.specs.declared.system.System.{System}
-use Rattle.rules.specs.Systems.{task_at, channel_at, with_task, with_cell}
+use Rattle.rules.specs.Systems.{task_at, channel_at, with_task}
 use Rattle.rules.specs.Effects.{with_outcome}
 use Rattle.rules_laws.specs.Shapes.{Shaped}
 use Rattle.rules_laws.proofs.TaskAt.{with_task_shaped}

@@ -1,10 +1,9 @@
 -- A run is framed: a sync, a set and an add, a create, a finish.
 use mathlib.Core.Path.{◌≡◌, refl, sym, ◌∙◌, ap}
-use mathlib.Core.Bool.{Bool, true, false, not, ◌||◌, or-true}
-use mathlib.Core.Logic.{by_cases, ◌⊎◌, inl, inr}
+use mathlib.Core.Bool.{Bool, true, false, not, or-true}
+use mathlib.Core.Logic.{◌⊎◌, inl, inr}
 use Prim.Native.Nat.{◌≤◌}
 use native.Mathlib.Omega.{arith}
-use native.Mathlib.Decide.{ℕ_discrete}
 use lib.ListN.{length}
 use borrow.Author.Tests.{eq-eqb, not-true}
 use Rattle.base.specs.Choice.{pick}
@@ -15,7 +14,6 @@ use Rattle.plan.specs.declared.ProcessorId.{ProcessorId}
 use Rattle.plan.specs.Kinds.{op_create}
 use Rattle.plan.specs.Programs.{programs}
 use Rattle.plan.specs.Users.{parent_of}
-use Rattle.rules.specs.Numbers.{task_id}
 use Rattle.rules.specs.declared.task.Task.{Task}
 use Rattle.rules.specs.declared.task.TaskState.TheVariants.{Ready}
 use Rattle.rules.specs.declared.rule.Finished.{Finished}
@@ -28,7 +26,6 @@ use Rattle.rules.specs.Effects.{Effect, changed, changed_posting, receives_on}
 use Rattle.rules.specs.Starts.{located, pointing, pointed, birth}
 use Rattle.rules.specs.Local.{create_rule, finish_rule}
 use Rattle.rules.specs.Runs.{ran_create, ran_finish}
-use Rattle.rules_laws.specs.Shapes.{Shaped}
 use Rattle.rules_laws.proofs.TaskAt.{with_task_shaped, with_task_plan}
 use Rattle.rules_laws.proofs.ParentAt.{with_parent_task_at}
 use Rattle.rules_laws.proofs.ForChannels.{for_channels_task_at}
@@ -37,8 +34,8 @@ use Rattle.rules_sound.specs.Sound.{program_in, Startable}
 use Rattle.rules_sound.specs.Stands.{Whole}
 use Rattle.rules_sound.proofs.Settled.{settled}
 use Rattle.rules_sound.proofs.Frames.{user_in_lem, tasks_few}
-use Rattle.commute.specs.Footprints.{Footprint, footprint, outside, creates, Alike}
-use Rattle.commute.specs.Frames.{SameEffect, SeenAlike, Framed}
+use Rattle.commute.specs.Footprints.{Footprint, footprint, outside, creates}
+use Rattle.commute.specs.Frames.{SeenAlike, Framed}
 use Rattle.commute.proofs.Writes.{task_written}
 use Rattle.commute.proofs.Alike.{alike_refl, both_task, both_parent, one_task_lem, one_parent}
 use Rattle.commute.proofs.Births.{both_born_lem, one_born_lem}

@@ -6,32 +6,31 @@ use Prim.Native.Nat.{◌+◌, ◌≤◌}
 use native.Mathlib.Omega.{arith}
 use lib.ListN.{length}
 use borrow.Author.Tests.{ne_eqb, le-leb}
+use Rattle.std.specs.Prelude.{Ok}
 use Rattle.base.proofs.Tests.{within_low, within_high}
 use Rattle.plan.specs.declared.TaskId.{TaskId}
 use Rattle.plan.specs.declared.ProcessorId.{ProcessorId}
 use Rattle.plan.specs.declared.ChannelId.{ChannelId}
 use Rattle.plan.specs.Programs.{Programs, programs}
 use Rattle.plan.specs.Users.{receiver_of, parent_of}
-use Rattle.rules.specs.declared.task.Task.{Task}
 use Rattle.rules.specs.declared.message.Network.{Network}
-use Rattle.rules.specs.declared.step.StepAnswer.TheVariants.{Accepted}
 use Rattle.rules.specs.declared.step.Stepped.{Stepped}
 use Rattle.rules.specs.declared.system.System.{System}
-use Rattle.rules.specs.Networks.{enqueued_all, messages_of}
+use Rattle.rules.specs.Networks.{enqueued_all}
 use Rattle.rules.specs.Tasks.{is_at}
-use Rattle.rules.specs.Systems.{task_in, task_at, entry_at, channel_at, parent_at, meaning}
+use Rattle.rules.specs.Systems.{task_at, entry_at, channel_at, parent_at, meaning}
 use Rattle.rules.specs.Effects.{Effect, completed, receives_on, sends_on}
 use Rattle.rules.specs.Runs.{fits, next_of, ran, run_answer}
 use Rattle.rules.specs.Sound.{system_ok}
-use Rattle.rules.specs.Steps.{well_formed, kind_answer, ruled_answer, step_answer, step, run_step, accepted}
+use Rattle.rules.specs.Steps.{well_formed, ruled_answer, step_answer, step, run_step, accepted}
 use Rattle.rules_laws.specs.Shapes.{Shaped}
 use Rattle.rules_laws.proofs.Messages.{enqueued_all_used}
 use Rattle.rules_laws.proofs.Shapes.{step_shaped, step_chosen}
 use Rattle.rules_laws.proofs.Steps.{step_accepted, step_passed}
 use Rattle.rules_laws.proofs.StepKinds.{answer_run, performed_run}
 use Rattle.rules_sound.specs.Sound.{Sound}
-use Rattle.rules_sound.specs.Stands.{Whole, FineEffect, Stands}
-use Rattle.rules_sound.proofs.Answers.{RunPassed, run_passed}
+use Rattle.rules_sound.specs.Stands.{Stands}
+use Rattle.rules_sound.proofs.Answers.{run_passed}
 use Rattle.rules_sound.proofs.Kept.{whole, kept}
 use Rattle.rules_sound.proofs.Runs.{run_fine}
 use Rattle.rules_sound.proofs.Sound.{sound}
@@ -63,8 +62,8 @@ unfolding completed entry_at channel_at parent_at
 both_posted f e o a = record { tasks = a.tasks; entries = a.entries; channels = a.channels; parents = a.parents }
 
 -- an accepted run
-module _ (r : System) (shaped : Shaped r) (ok : system_ok r ≡ true) (t : TaskId) (yes : step_answer r (run_step t.0) ≡ Accepted) where
-  pub passed : run_answer r t ≡ Accepted
+module _ (r : System) (shaped : Shaped r) (ok : system_ok r ≡ true) (t : TaskId) (yes : step_answer r (run_step t.0) ≡ Ok tt) where
+  pub passed : run_answer r t ≡ Ok tt
   passed = sym (answer_run r (run_step t.0) refl) ∙ (step_passed r (run_step t.0) yes).rule
 
   pub stepped : step r (run_step t.0) ≡ accepted (ran r t)
@@ -200,14 +199,14 @@ module _ (r : System) (shaped : Shaped r) (ok : system_ok r ≡ true) (t u : Tas
         ap (λ (n : Network). n.used) (after_network r shaped ok t t-run.accepted) ∙ enqueued_all_used r.network (posted_by r t) in
         rw (same_effect.posting, used, after_processors r shaped ok t t-run.accepted) (le-leb _ 256 room)
 
-    answered : run_answer q u ≡ Accepted
+    answered : run_answer q u ≡ Ok tt
     unfolding run_answer
     answered =
         let before = passed r shaped ok u u-run.accepted in
         let was = rw (run_passed r u before).fitting at before in
         rw (fits_after, same_next, same_record, after_plan r shaped ok t t-run.accepted) was
 
-    accepted_after : step_answer q (run_step u.0) ≡ Accepted
+    accepted_after : step_answer q (run_step u.0) ≡ Ok tt
     unfolding step_answer ruled_answer well_formed
     accepted_after = rw (after_ok r shaped ok t t-run.accepted, answer_run q (run_step u.0) refl) answered
 

@@ -21,18 +21,18 @@ use Rattle.rules.specs.declared.system.System.{System}
 use Rattle.rules.specs.Tasks.{is_in, is_at}
 use Rattle.rules.specs.Places.{is_on, send_number}
 use Rattle.rules.specs.Systems.{task_at, entry_at, channel_at, cell_at, meaning}
-use Rattle.rules.specs.Effects.{Effect, site_at, with_outcome, receives_on, sends_on}
+use Rattle.rules.specs.Effects.{site_at, with_outcome, receives_on, sends_on}
 use Rattle.rules.specs.Send.{send_rule}
 use Rattle.rules.specs.Receive.{receive_rule}
 use Rattle.rules.specs.Runs.{ran_send, ran_receive}
 use Rattle.rules_sound.specs.Sound.{Startable}
 use Rattle.rules_sound.specs.Stands.{Whole}
 use Rattle.rules_sound.proofs.Frames.{user_in_lem}
-use Rattle.commute.specs.Footprints.{Footprint, footprint, outside, Alike}
-use Rattle.commute.specs.Frames.{SameEffect, SeenAlike, Framed}
+use Rattle.commute.specs.Footprints.{Footprint, footprint, outside}
+use Rattle.commute.specs.Frames.{SeenAlike, Framed}
 use Rattle.commute.proofs.Rules.{SentAway, sent_away, awaited_away, send_stays, receive_stays}
 use Rattle.commute.proofs.Outcomes.{SameOutcome, KeepsOutcome, both_outcome, one_outcome, outcome_stays}
-use Rattle.commute.proofs.Runs.{desk, desk_low, desk_few, task_few, there_in, task_in_lem, desk_in, out_away}
+use Rattle.commute.proofs.Runs.{desk_low, desk_few, task_few, there_in, task_in_lem, desk_in, out_away}
 
 -- the site of channel c at desk d, with the programs of the plan m
 abbrev site_by : Programs → System → TaskId → TaskId → ChannelId → ProcessorId → Site

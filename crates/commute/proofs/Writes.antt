@@ -1,6 +1,6 @@
 -- Two rigs after a write each, read: the values written where the place is the one written to, and else what was there.
-use mathlib.Core.Path.{◌≡◌, refl, sym, ap}
-use mathlib.Core.Logic.{◌≢◌, by_cases}
+use mathlib.Core.Path.{◌≡◌, refl, ap}
+use mathlib.Core.Logic.{by_cases}
 use Prim.Native.Nat.{◌≤◌}
 use native.Mathlib.Omega.{arith}
 use native.Mathlib.Decide.{ℕ_discrete}
@@ -14,7 +14,7 @@ use Rattle.rules.specs.declared.channel.Channel.{Channel}
 use Rattle.rules.specs.declared.channel.Cell.{Cell}
 use Rattle.rules.specs.declared.system.ParentEntry.{ParentEntry}
 use Rattle.rules.specs.declared.system.System.{System}
-use Rattle.rules.specs.Systems.{task_in, task_stored, task_at, with_task, entry_at, channel_at, with_cell, parent_index, parent_at, with_parent}
+use Rattle.rules.specs.Systems.{task_stored, task_at, with_task, entry_at, channel_at, with_cell, parent_index, parent_at, with_parent}
 use Rattle.rules_laws.specs.Shapes.{Shaped}
 use Rattle.rules_laws.proofs.TaskAt.{task_at_same, task_at_other}
 use Rattle.rules_laws.proofs.CellAt.{entry_at_same, entry_at_other_processor, entry_at_other_channel, channel_at_same, channel_at_other}

@@ -1,10 +1,9 @@
 -- Two runs of one rig, and one after the other.
-use Rattle.std.specs.Prelude.{◌≡◌, true, false, List, ◌++◌}
+use Rattle.std.specs.Prelude.{◌≡◌, true, false, List, ◌++◌, Ok}
 use Rattle.plan.specs.declared.TaskId.{TaskId}
 use Rattle.plan.specs.declared.ProcessorId.{ProcessorId}
 use Rattle.plan.specs.declared.ChannelId.{ChannelId}
 use Rattle.rules.specs.declared.message.Message.{Message}
-use Rattle.rules.specs.declared.step.StepAnswer.TheVariants.{Accepted}
 use Rattle.rules.specs.declared.system.System.{System}
 use Rattle.rules.specs.Networks.{messages, messages_of}
 use Rattle.rules.specs.Systems.{with_network, task_at}
@@ -22,7 +21,7 @@ pub record Apart (f g : Footprint) : Type 0 where
 
 -- a run of task t is accepted, and whom it creates is at no desk
 pub record Runs (r : System) (t : TaskId) : Type 0 where
-  pub accepted : step_answer r (run_step t.0) ≡ Accepted
+  pub accepted : step_answer r (run_step t.0) ≡ Ok tt
   pub nowhere : (v : TaskId) → creates r t v ≡ true → (task_at r v).processor.0 ≡ 0
 
 -- the rig after it, and the letters that it posts
@@ -34,7 +33,7 @@ posted_by r t = messages_of r.processors (ran r t).posting
 
 -- task u runs after task t, as if it were first: it finds its footprint as it was, leaves it as it would, and leaves the rest as task t left it
 pub record Second (r : System) (t u : TaskId) : Type 0 where
-  pub accepted : step_answer (after_run r t) (run_step u.0) ≡ Accepted
+  pub accepted : step_answer (after_run r t) (run_step u.0) ≡ Ok tt
   pub effect : SameEffect (footprint r u) (ran r u) (ran (after_run r t) u)
   pub own : Alike (footprint r u) (after_run r u) (after_run (after_run r t) u)
   pub rest : Alike (outside (footprint r u)) (after_run r t) (after_run (after_run r t) u)

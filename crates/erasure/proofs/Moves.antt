@@ -1,9 +1,9 @@
 -- A move in a rig without words.
 use mathlib.Core.Path.{◌≡◌, ap, ◌∙◌}
 use Prim.Native.Nat.{◌+◌}
+use Rattle.std.specs.Prelude.{Ok}
 use Rattle.plan.specs.declared.TaskId.{TaskId}
 use Rattle.plan.specs.declared.ProcessorId.{ProcessorId}
-use Rattle.plan.specs.declared.PlanAnswer.TheVariants.{Accepted}
 use Rattle.plan.specs.Refusals.{plan_answer}
 use Rattle.rules.specs.declared.message.Message.TheVariants.{Migration}
 use Rattle.rules.specs.declared.rule.Posting.TheVariants.{Single}
@@ -18,7 +18,7 @@ use Rattle.rules.specs.Erasures.{erased_message, erased_received, erase}
 use Rattle.erasure.specs.Erased.{erased_posting, erased_effect}
 use Rattle.erasure.proofs.Systems.{task_erased, with_task_lem, pointed_erased, for_receiving_lem, for_sending_lem}
 
-pub moved_erased : (r : System) → plan_answer (meaning r) ≡ Accepted → (t : TaskId) (e : ProcessorId) → moved (erase r) t e ≡ erased_effect (moved r t e)
+pub moved_erased : (r : System) → plan_answer (meaning r) ≡ Ok tt → (t : TaskId) (e : ProcessorId) → moved (erase r) t e ≡ erased_effect (moved r t e)
 unfolding moved with_task with_parent for_channels erased_posting erased_message erased_received
 moved_erased r a t e =
     let x = task_at r t in

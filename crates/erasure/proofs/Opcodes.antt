@@ -6,12 +6,12 @@ use Prim.Native.Nat.{ℕ}
 use lib.Dec.{eqb}
 use lib.ListN.{length}
 use borrow.Author.Tests.{eqb-true, eq-eqb}
+use Rattle.std.specs.Prelude.{Ok}
 use Rattle.base.specs.Choice.{pick, within}
 use Rattle.base.specs.Lists.{every}
 use Rattle.base.proofs.Pairs.{every_any}
 use Rattle.base.proofs.Tests.{and_right}
 use Rattle.plan.specs.declared.Instruction.{Instruction}
-use Rattle.plan.specs.declared.PlanAnswer.TheVariants.{Accepted}
 use Rattle.plan.specs.Kinds.{op_create, op_sync, op_finish, op_send, op_receive, op_set, op_add, no_instruction}
 use Rattle.plan.specs.Programs.{Programs, program_at, instruction_at}
 use Rattle.plan.specs.Refusals.{level_ok, operand_ok, instruction_ok, instructions_ok, plan_answer}
@@ -74,7 +74,7 @@ bare_ok n i h =
     (λ e. eq-eqb _ 0 (add_erased i (eqb-true i.opcode op_add e))) (and_right (level_ok i) (operand_ok n i) h)
 
 -- and each of an accepted plan; where there is none, `no_instruction` is
-pub bare_at : (m : Programs) → plan_answer m ≡ Accepted → (k i : ℕ) → bare (instruction_at (program_at m k) i) ≡ true
+pub bare_at : (m : Programs) → plan_answer m ≡ Ok tt → (k i : ℕ) → bare (instruction_at (program_at m k) i) ≡ true
 unfolding instructions_ok every erased_instruction
 bare_at m a k i =
     every_any bare (program_at m k) i no_instruction refl

@@ -2,17 +2,17 @@
 use mathlib.Core.Path.{◌≡◌, refl, ap, ◌∙◌}
 use mathlib.Core.Bool.{Bool, true, false, ◌||◌}
 use mathlib.Core.List.{[], ◌∷◌, map}
-use Prim.Native.Nat.{ℕ, suc, ◌-◌}
+use Prim.Native.Nat.{ℕ, suc}
 use native.Mathlib.Omega.{arith}
 use lib.Dec.{eqb, leb}
 use lib.ListN.{length, length-map}
 use borrow.Author.Tests.{eqb-true}
+use Rattle.std.specs.Prelude.{Ok}
 use Rattle.base.specs.Lists.{every}
 use Rattle.base.proofs.Folds.{fold_same}
 use Rattle.base.proofs.Tests.{and_left, and_right, and_both}
 use Rattle.plan.specs.declared.Instruction.{Instruction}
 use Rattle.plan.specs.declared.Plan.{Plan}
-use Rattle.plan.specs.declared.PlanAnswer.TheVariants.{Accepted}
 use Rattle.plan.specs.Kinds.{op_create, op_send, op_receive, op_set, op_add}
 use Rattle.plan.specs.Programs.{Program, Programs, programs, canonical}
 use Rattle.plan.specs.Users.{only_lower}
@@ -83,14 +83,14 @@ structure_erased : (m : Programs) → structure_answer (erased_programs m) ≡ s
 unfolding structure_answer
 structure_erased m = rw (finishes_erased m, creates_erased m, channels_erased m) refl
 
-pub plan_erased : (m : Programs) → plan_answer m ≡ Accepted → plan_answer (erased_programs m) ≡ Accepted
+pub plan_erased : (m : Programs) → plan_answer m ≡ Ok tt → plan_answer (erased_programs m) ≡ Ok tt
 plan_erased m a =
     let b = plan_passed m a in
     plan_accepted (erased_programs m)
     (record { sizes = sizes_erased m ∙ b.sizes; instructions = instructions_erased m b.instructions; structure = structure_erased m ∙ b.structure })
 
 -- what the plan without them means, and how many tasks it has
-pub meaning_erased : (p : Plan) → plan_answer (programs p) ≡ Accepted → programs (erased_plan p) ≡ erased_programs (programs p)
+pub meaning_erased : (p : Plan) → plan_answer (programs p) ≡ Ok tt → programs (erased_plan p) ≡ erased_programs (programs p)
 unfolding erased_plan
 meaning_erased p a = meaning_canonical (erased_programs (programs p)) (plan_erased (programs p) a)
 

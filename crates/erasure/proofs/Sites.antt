@@ -2,10 +2,10 @@
 use mathlib.Core.Path.{◌≡◌, refl, ap, ◌∙◌}
 use mathlib.Core.Bool.{true}
 use Prim.Native.Nat.{◌≤◌}
+use Rattle.std.specs.Prelude.{Ok}
 use Rattle.plan.specs.declared.TaskId.{TaskId}
 use Rattle.plan.specs.declared.ProcessorId.{ProcessorId}
 use Rattle.plan.specs.declared.ChannelId.{ChannelId}
-use Rattle.plan.specs.declared.PlanAnswer.TheVariants.{Accepted}
 use Rattle.plan.specs.Refusals.{plan_answer}
 use Rattle.rules.specs.declared.rule.Site.{Site}
 use Rattle.rules.specs.declared.rule.Outcome.{Outcome}
@@ -20,7 +20,7 @@ use Rattle.erasure.proofs.Systems.{task_erased, with_task_lem, with_cell_lem, pr
 
 -- what is asked of a rig, of all that 9 looks at: its plan is accepted, and a sending or receiving task has last executed such an instruction
 pub record Readable (r : System) : Type 0 where
-  pub plan : plan_answer (meaning r) ≡ Accepted
+  pub plan : plan_answer (meaning r) ≡ Ok tt
   pub last : (t : TaskId) → t.0 ≤ r.plan.tasks → last_ok (task_program r t) (task_at r t) ≡ true
 
 outcome_erased : (r : System) (s u : TaskId) (c : ChannelId) (d : ProcessorId) (o : Outcome)

@@ -4,6 +4,7 @@ use mathlib.Core.Bool.{Bool, true, false, not, ◌&&◌}
 use mathlib.Core.List.{List, [], ◌∷◌}
 use Prim.Native.Nat.{ℕ, suc}
 use lib.Dec.{eqb}
+use Rattle.std.specs.Prelude.{Ok}
 use Rattle.base.specs.Choice.{unless}
 use Rattle.base.specs.Range.{up_to}
 use Rattle.base.proofs.Folds.{fold_same}
@@ -12,12 +13,10 @@ use Rattle.plan.specs.declared.TaskId.{TaskId}
 use Rattle.plan.specs.declared.ProcessorId.{ProcessorId}
 use Rattle.plan.specs.declared.Instruction.{Instruction}
 use Rattle.plan.specs.declared.Plan.{Plan}
-use Rattle.plan.specs.declared.PlanAnswer.TheVariants.{Accepted as PlanAccepted}
 use Rattle.plan.specs.Programs.{programs}
 use Rattle.plan.specs.Refusals.{plan_answer}
 use Rattle.rules.specs.declared.task.Task.{Task}
 use Rattle.rules.specs.declared.step.Step.{Step}
-use Rattle.rules.specs.declared.step.StepAnswer.TheVariants.{Accepted}
 use Rattle.rules.specs.declared.system.System.{System}
 use Rattle.rules.specs.Numbers.{task_id, processor_id, task_number_ok}
 use Rattle.rules.specs.Answers.{is_accepted}
@@ -90,7 +89,7 @@ module _ (r : System) (ok : system_ok r ≡ true) where
       (system_erased r ok, ok, run_answer_lem (task_id s.task), deliver_answer_lem s.number, move_answer_lem (task_id s.task) (processor_id s.number))
       refl
 
-  performed_erased : (s : Step) → step_answer r s ≡ Accepted → performed (erase r) s ≡ erased_effect (performed r s)
+  performed_erased : (s : Step) → step_answer r s ≡ Ok tt → performed (erase r) s ≡ erased_effect (performed r s)
   unfolding performed
   performed_erased s a =
       let t = task_id s.task in
@@ -128,7 +127,7 @@ blank_erased : (n : ℕ) (p : Plan) → blank n (erased_plan p) ≡ erase (blank
 unfolding blank erase erased_message
 blank_erased n p = refl
 
-pub started_erased : (n : ℕ) (p : Plan) → plan_answer (programs p) ≡ PlanAccepted → started n (erased_plan p) ≡ erase (started n p)
+pub started_erased : (n : ℕ) (p : Plan) → plan_answer (programs p) ≡ Ok tt → started n (erased_plan p) ≡ erase (started n p)
 unfolding started blank
 started_erased n p a =
     ap (λ (q : System). birth q (task_id 1) (processor_id 1) unknown) (blank_erased n p) ∙ birth_erased (blank n p) a (task_id 1) (processor_id 1) unknown

@@ -3,10 +3,10 @@ use mathlib.Core.Path.{◌≡◌, refl, ap, fun_ext, ◌∙◌}
 use mathlib.Core.List.{map}
 use Prim.Native.Nat.{ℕ, ◌-◌, ◌<◌}
 use native.Mathlib.Omega.{arith}
+use Rattle.std.specs.Prelude.{Ok}
 use Rattle.plan.specs.declared.TaskId.{TaskId}
 use Rattle.plan.specs.declared.ProcessorId.{ProcessorId}
 use Rattle.plan.specs.declared.ChannelId.{ChannelId}
-use Rattle.plan.specs.declared.PlanAnswer.TheVariants.{Accepted}
 use Rattle.plan.specs.Kinds.{op_create, op_send, op_receive, op_set}
 use Rattle.plan.specs.Programs.{program_at}
 use Rattle.plan.specs.Refusals.{plan_answer}
@@ -59,7 +59,7 @@ module _ (r : System) where
   tasks_same = tasks_erased r.plan
 
   -- what an accepted plan says
-  module _ (a : plan_answer (meaning r) ≡ Accepted) where
+  module _ (a : plan_answer (meaning r) ≡ Ok tt) where
     pub means : meaning (erase r) ≡ erased_programs (meaning r)
     unfolding erase
     means = meaning_erased r.plan a
@@ -89,7 +89,7 @@ module _ (r : System) where
     for_sending_lem t d rule = ap (λ test. for_channels 128 test rule d (erase r)) (fun_ext λ (c : ChannelId). ap (λ u. same_task u t) (sender_erased c))
 
 -- a birth
-pub birth_erased : (r : System) → plan_answer (meaning r) ≡ Accepted → (t : TaskId) (d : ProcessorId) (own : Hint) → birth (erase r) t d own ≡ erase (birth r t d own)
+pub birth_erased : (r : System) → plan_answer (meaning r) ≡ Ok tt → (t : TaskId) (d : ProcessorId) (own : Hint) → birth (erase r) t d own ≡ erase (birth r t d own)
 unfolding birth with_task with_parent
 birth_erased r a t d own =
     let q = with_task r t (born d own) in

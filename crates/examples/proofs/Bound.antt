@@ -4,7 +4,7 @@ use mathlib.Core.Path.{◌≡◌, refl}
 use mathlib.Core.List.{List, [], ◌∷◌}
 use Prim.Native.Nat.{◌≤◌}
 use native.Mathlib.Omega.{arith}
-use Rattle.plan.specs.declared.PlanAnswer.TheVariants.{Accepted}
+use Rattle.std.specs.Prelude.{Ok}
 use Rattle.plan.specs.Programs.{programs}
 use Rattle.plan.specs.Refusals.{plan_answer}
 use Rattle.rules.specs.declared.step.Step.{Step}
@@ -18,7 +18,7 @@ use Rattle.examples.specs.Dispatch.{worked_plan}
 abbrev four : List Step
 four = run 1 ∷ run 1 ∷ move 2 2 ∷ run 1 ∷ []
 
-pub accepted : plan_answer (programs worked_plan) ≡ Accepted
+pub accepted : plan_answer (programs worked_plan) ≡ Ok tt
 unfolding evaluated
 accepted = refl
 

@@ -3,8 +3,8 @@ use mathlib.Core.Path.{◌≡◌, refl}
 use mathlib.Core.List.{◌∷◌, ◌++◌}
 use Prim.Native.Nat.{◌+◌, ◌≤◌}
 use native.Mathlib.Omega.{arith}
+use Rattle.std.specs.Prelude.{Ok}
 use Rattle.base.specs.Lists.{count}
-use Rattle.plan.specs.declared.PlanAnswer.TheVariants.{Accepted}
 use Rattle.plan.specs.Programs.{programs}
 use Rattle.plan.specs.Refusals.{plan_answer}
 use Rattle.rules.specs.declared.system.System.{System}
@@ -17,7 +17,7 @@ use Rattle.claim.proofs.OneOffer.{one_offer}
 use Rattle.claim.proofs.Chase.{longest_chase_lem}
 use Rattle.examples.specs.Chase.{chase_plan, chase_before, chase_send, chase_after, chase_end, chased, chase_offer, chase_pointer}
 
-accepted : plan_answer (programs chase_plan) ≡ Accepted
+accepted : plan_answer (programs chase_plan) ≡ Ok tt
 unfolding evaluated
 accepted = refl
 

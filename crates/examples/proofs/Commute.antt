@@ -5,11 +5,10 @@ use mathlib.Core.Logic.{◌≢◌}
 use Prim.Native.Nat.{ℕ, ◌+◌, ◌≤◌}
 use native.Mathlib.Omega.{arith}
 use lib.ListN.{length}
-use Rattle.plan.specs.declared.PlanAnswer.TheVariants.{Accepted as PlanAccepted}
+use Rattle.std.specs.Prelude.{Ok}
 use Rattle.plan.specs.Programs.{programs}
 use Rattle.plan.specs.Refusals.{plan_answer}
 use Rattle.rules.specs.declared.message.Message.{Message}
-use Rattle.rules.specs.declared.step.StepAnswer.TheVariants.{Accepted}
 use Rattle.rules.specs.declared.system.System.{System}
 use Rattle.rules.specs.Numbers.{task_id}
 use Rattle.rules.specs.Networks.{messages}
@@ -25,8 +24,8 @@ use Rattle.examples.specs.Commute.{senders_plan, senders_before, senders_mail, a
 record Facts (r : System) (t u d e used : ℕ) (first second : List Message) : Type 0 where
   pub one_at : (task_at r (task_id t)).processor.0 ≡ d
   pub other_at : (task_at r (task_id u)).processor.0 ≡ e
-  pub one : step_answer r (run_step t) ≡ Accepted
-  pub other : step_answer r (run_step u) ≡ Accepted
+  pub one : step_answer r (run_step t) ≡ Ok tt
+  pub other : step_answer r (run_step u) ≡ Ok tt
   pub mail : r.network.used ≡ used
   pub posts : posted_by r t ≡ first
   pub other_posts : posted_by r u ≡ second
@@ -47,7 +46,7 @@ both_run r t u d e used first second f apart few =
 abbrev senders : System
 senders = (from 3 senders_plan senders_before).system
 
-senders_accepted : plan_answer (programs senders_plan) ≡ PlanAccepted
+senders_accepted : plan_answer (programs senders_plan) ≡ Ok tt
 unfolding evaluated
 senders_accepted = refl
 
@@ -74,7 +73,7 @@ senders_other_mail = rw (senders_old, senders_facts.posts, senders_facts.other_p
 abbrev family : System
 family = (from 2 family_plan family_before).system
 
-family_accepted : plan_answer (programs family_plan) ≡ PlanAccepted
+family_accepted : plan_answer (programs family_plan) ≡ Ok tt
 unfolding evaluated
 family_accepted = refl
 
@@ -91,7 +90,7 @@ family_commutes =
 abbrev ends : System
 ends = (from 2 ends_plan ends_before).system
 
-ends_accepted : plan_answer (programs ends_plan) ≡ PlanAccepted
+ends_accepted : plan_answer (programs ends_plan) ≡ Ok tt
 unfolding evaluated
 ends_accepted = refl
 

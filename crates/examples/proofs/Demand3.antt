@@ -4,8 +4,8 @@ use mathlib.Core.Bool.{true}
 use mathlib.Core.List.{List, [], ◌∷◌}
 use Prim.Native.Nat.{ℕ}
 use native.Mathlib.Omega.{arith}
+use Rattle.std.specs.Prelude.{Ok}
 use Rattle.base.specs.Beginnings.{Beginning}
-use Rattle.plan.specs.declared.PlanAnswer.TheVariants.{Accepted}
 use Rattle.plan.specs.declared.TaskId.{TaskId}
 use Rattle.plan.specs.declared.Word.{Word}
 use Rattle.plan.specs.Numbers.{task_id}
@@ -26,7 +26,7 @@ use Rattle.claim.specs.Statement.{from, Rests, Demand3}
 use Rattle.examples.specs.Demand3.{example_plan, example_before, example_all, example_channel}
 use Rattle.claim.proofs.Demand3.{demand_3}
 
-accepted : plan_answer (programs example_plan) ≡ Accepted
+accepted : plan_answer (programs example_plan) ≡ Ok tt
 unfolding evaluated
 accepted = refl
 

@@ -7,8 +7,8 @@ use Prim.Native.Nat.{ℕ, ◌*◌, ◌+◌}
 use native.Mathlib.Omega.{arith}
 use lib.Dec.{eqb}
 use lib.ListN.{length}
+use Rattle.std.specs.Prelude.{Ok}
 use Rattle.base.specs.Lists.{every, any, count}
-use Rattle.plan.specs.declared.PlanAnswer.TheVariants.{Accepted}
 use Rattle.plan.specs.declared.ChannelId.{ChannelId}
 use Rattle.plan.specs.declared.Word.{Word}
 use Rattle.plan.specs.Numbers.{task_id, processor_id, channel_id}
@@ -69,7 +69,7 @@ one_desk_words ts at_rest =
     sym ((mixed_demand_3 2 worked_plan worked_events (omega arith) (omega arith) accepted).same_words rests ts at_rest three) ∙ words
 
 -- task 3 is ready at each of three calls at desk 1; the first chooses task 1, whose run is refused, and the second task 2
-family_accepted : plan_answer (programs family_plan) ≡ Accepted
+family_accepted : plan_answer (programs family_plan) ≡ Ok tt
 unfolding evaluated
 family_accepted = refl
 

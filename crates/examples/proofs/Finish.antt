@@ -1,11 +1,11 @@
 -- What the finish check says holds at every rest: from verdict, list and places on one desk, those of every run to rest, and so of one on two desks.
 use mathlib.Core.Path.{◌≡◌, refl, sym, ◌∙◌}
-use mathlib.Core.Bool.{true, false}
+use mathlib.Core.Bool.{true}
 use mathlib.Core.List.{List, [], ◌∷◌}
 use Prim.Native.Nat.{ℕ, ◌≤◌}
 use native.Mathlib.Omega.{arith}
+use Rattle.std.specs.Prelude.{Ok}
 use Rattle.plan.specs.declared.Plan.{Plan}
-use Rattle.plan.specs.declared.PlanAnswer.TheVariants.{Accepted}
 use Rattle.plan.specs.Numbers.{task_id}
 use Rattle.plan.specs.Programs.{programs}
 use Rattle.plan.specs.Refusals.{plan_answer}
@@ -28,11 +28,11 @@ use Rattle.examples.specs.Finish.{stuck_plan, stuck_still, stuck_moving, ending_
 abbrev ruled : ℕ → Plan → List Step → History
 ruled n p ss = ruled_steps (started n p) ss
 
-as_ruled : (n : ℕ) (p : Plan) (ss : List Step) → 1 ≤ n → n ≤ 6 → plan_answer (programs p) ≡ Accepted → from n p ss ≡ ruled n p ss
+as_ruled : (n : ℕ) (p : Plan) (ss : List Step) → 1 ≤ n → n ≤ 6 → plan_answer (programs p) ≡ Ok tt → from n p ss ≡ ruled n p ss
 as_ruled n p ss some few a = sym (ruled_steps_lem (started n p) ss (started_shaped n p) (started_ok n p some few a))
 
 -- the stuck plan: it is accepted, and both runs rest
-stuck_accepted : plan_answer (programs stuck_plan) ≡ Accepted
+stuck_accepted : plan_answer (programs stuck_plan) ≡ Ok tt
 unfolding evaluated
 stuck_accepted = refl
 
@@ -87,7 +87,7 @@ pub moving_work : work_of 2 stuck_plan stuck_moving ≡ 9
 moving_work = stuck_work 2 stuck_moving (omega arith) (omega arith) moving_rests
 
 -- the worked plan gets a yes, and so does its run on two desks
-ending_accepted : plan_answer (programs ending_plan) ≡ Accepted
+ending_accepted : plan_answer (programs ending_plan) ≡ Ok tt
 unfolding evaluated
 ending_accepted = refl
 

@@ -3,8 +3,8 @@ use mathlib.Core.Path.{◌≡◌, refl, ◌∙◌}
 use mathlib.Core.Bool.{true}
 use mathlib.Core.List.{[], ◌∷◌}
 use native.Mathlib.Omega.{arith}
+use Rattle.std.specs.Prelude.{Ok}
 use Rattle.plan.specs.declared.ChannelId.{ChannelId}
-use Rattle.plan.specs.declared.PlanAnswer.TheVariants.{Accepted}
 use Rattle.plan.specs.Numbers.{channel_id}
 use Rattle.plan.specs.Programs.{programs}
 use Rattle.plan.specs.Refusals.{plan_answer}
@@ -21,7 +21,7 @@ use Rattle.claim.specs.Logs.{LogsAgree}
 use Rattle.examples.specs.Logs.{words_plan, words_before, words_all}
 use Rattle.claim.proofs.Logs.{logs_agree}
 
-accepted : plan_answer (programs words_plan) ≡ Accepted
+accepted : plan_answer (programs words_plan) ≡ Ok tt
 unfolding evaluated
 accepted = refl
 

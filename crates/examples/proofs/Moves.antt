@@ -5,13 +5,13 @@ use mathlib.Core.Bool.{true, false, not}
 use mathlib.Core.List.{[], ◌∷◌, List, ◌++◌}
 use native.Mathlib.Omega.{arith}
 use lib.Dec.{eqb}
+use Rattle.std.specs.Prelude.{Ok, Err}
 use Rattle.base.specs.Lists.{every}
-use Rattle.plan.specs.declared.PlanAnswer.TheVariants.{Accepted as PlanAccepted}
 use Rattle.plan.specs.Numbers.{task_id}
 use Rattle.plan.specs.Programs.{programs}
 use Rattle.plan.specs.Refusals.{plan_answer}
 use Rattle.rules.specs.declared.step.Step.{Step}
-use Rattle.rules.specs.declared.step.StepAnswer.TheVariants.{Accepted, MoveWithChildren}
+use Rattle.rules.specs.declared.step.StepRefusal.TheVariants.{MoveWithChildren}
 use Rattle.rules.specs.Answers.{is_accepted, step_number}
 use Rattle.rules.specs.Systems.{task_at, parent_at}
 use Rattle.rules.specs.Starts.{started}
@@ -29,12 +29,12 @@ use Rattle.claim.proofs.Parents.{none_held_by_runs}
 abbrev first_move : Step
 first_move = record { kind = 3; task = 1; number = 3 }
 
-accepted : plan_answer (programs example_plan) ≡ PlanAccepted
+accepted : plan_answer (programs example_plan) ≡ Ok tt
 unfolding evaluated
 accepted = refl
 
 -- on three desks the move is accepted, and on one desk no move is
-moves : step_answer (started 3 example_plan) first_move ≡ Accepted
+moves : step_answer (started 3 example_plan) first_move ≡ Ok tt
 unfolding evaluated
 moves = refl
 
@@ -65,12 +65,12 @@ four_live : (task_at (ruled_steps (started 3 example_plan) first_ten).system (ta
 unfolding evaluated
 four_live = refl
 
-parent_moves : step_answer (ruled_steps (started 3 example_plan) first_ten).system (move 1 1) ≡ Accepted
+parent_moves : step_answer (ruled_steps (started 3 example_plan) first_ten).system (move 1 1) ≡ Ok tt
 unfolding evaluated
 parent_moves = refl
 
 -- and no step is answered 17
-pub none_seventeen : (s : Step) → step_answer (from 3 example_plan first_ten).system s ≢ MoveWithChildren
+pub none_seventeen : (s : Step) → step_answer (from 3 example_plan first_ten).system s ≢ Err MoveWithChildren
 none_seventeen s = never_seventeen (from 3 example_plan first_ten).system s
 
 -- then task 5 ends at desk 3 while task 1 is on its way to desk 1: by the run nobody is held, by its letter task 5 is

@@ -3,7 +3,7 @@ use mathlib.Core.Path.{◌≡◌, refl, sym, ◌∙◌}
 use mathlib.Core.Bool.{true, false}
 use mathlib.Core.List.{List}
 use native.Mathlib.Omega.{arith}
-use Rattle.plan.specs.declared.PlanAnswer.TheVariants.{Accepted}
+use Rattle.std.specs.Prelude.{Ok}
 use Rattle.plan.specs.declared.TaskId.{TaskId}
 use Rattle.plan.specs.Numbers.{task_id}
 use Rattle.plan.specs.Programs.{programs, canonical}
@@ -19,7 +19,7 @@ use Rattle.examples.specs.Overflows.{sums_plan, sums_before, sums_all}
 use Rattle.claim.proofs.Demand3.{demand_3}
 use Rattle.claim.proofs.Overflows.{marked_exactly}
 
-accepted : plan_answer (programs sums_plan) ≡ Accepted
+accepted : plan_answer (programs sums_plan) ≡ Ok tt
 unfolding evaluated
 accepted = refl
 

@@ -3,13 +3,12 @@
 use mathlib.Core.Path.{◌≡◌, refl, sym, ap, ◌∙◌}
 use mathlib.Core.Bool.{true, false}
 use mathlib.Core.List.{List, []}
-use Prim.Native.Nat.{ℕ}
 use native.Mathlib.Omega.{arith}
 use lib.Dec.{eqb}
 use lib.ListN.{get_or}
 use borrow.Author.Tests.{eqb-true}
+use Rattle.std.specs.Prelude.{Ok}
 use Rattle.base.specs.Range.{sum_below}
-use Rattle.plan.specs.declared.PlanAnswer.TheVariants.{Accepted}
 use Rattle.plan.specs.Programs.{programs}
 use Rattle.plan.specs.Refusals.{plan_answer}
 use Rattle.rules.specs.declared.step.Step.{Step}
@@ -26,7 +25,7 @@ use Rattle.claim.specs.Panel.{total_in, runs_and_deliveries}
 use Rattle.claim.proofs.Panel.{counts_together, run_rest_shown}
 use Rattle.examples.specs.Tablets.{low_plan, level_steps}
 
-accepted : plan_answer (programs low_plan) ≡ Accepted
+accepted : plan_answer (programs low_plan) ≡ Ok tt
 unfolding evaluated
 accepted = refl
 

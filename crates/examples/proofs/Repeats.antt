@@ -3,10 +3,10 @@
 use mathlib.Core.Path.{◌≡◌, refl}
 use mathlib.Core.Bool.{true}
 use mathlib.Core.List.{[], ◌∷◌}
+use Rattle.std.specs.Prelude.{Ok}
 use Rattle.base.specs.Range.{fold}
 use Rattle.base.specs.Lists.{every, any, table, table_before}
 use Rattle.base.specs.Updates.{updated}
-use Rattle.plan.specs.declared.PlanAnswer.TheVariants.{Accepted}
 use Rattle.plan.specs.Layout.{layout}
 use Rattle.plan.specs.Numbers.{channel_id}
 use Rattle.plan.specs.Words.{level_of, with_level, set_word, add_word}
@@ -29,7 +29,7 @@ use Rattle.claim.specs.Repeats.{RepeatsWritten, AsItIs}
 use Rattle.claim.proofs.Repeats.{repeats_written, plain_as_it_is}
 use Rattle.examples.specs.Repeats.{repeat_programs, repeat_file, plain_programs, plain_file, repeat_labels, after, taken}
 
-accepted : repeats_answer repeat_file ≡ Accepted
+accepted : repeats_answer repeat_file ≡ Ok tt
 unfolding fold every any table table_before layout layout_ok file_programs users operand_ok finish_ok finishes_ok creates_ok channels_ok structure_answer times body_of written_from new_instruction_ok new_instructions_ok paired_from creates_from paired_ok repeated_ok lengths_ok repeats_answer
 accepted = refl
 
@@ -44,7 +44,7 @@ words : (after repeat_programs start_repeated repeat_labels).net.passed (channel
 unfolding fold every any table table_before updated level_of with_level set_word add_word users behind_repeat go_on start_net program_for is_complete is_active next_of stands_at children_complete is_free enabled born_after word_after overflow_after after_own after_pass effect start_repeated repeat_effect after
 words = refl
 
-fine : plan_answer plain_programs ≡ Accepted
+fine : plan_answer plain_programs ≡ Ok tt
 unfolding fold every any table table_before users sizes_ok operand_ok instructions_ok finish_ok finishes_ok creates_ok channels_ok structure_answer plan_answer
 fine = refl
 

@@ -5,16 +5,15 @@ use mathlib.Core.Bool.{true, false}
 use mathlib.Core.List.{List, [], ◌∷◌}
 use Prim.Native.Nat.{ℕ, ◌≤◌}
 use native.Mathlib.Omega.{arith}
+use Rattle.std.specs.Prelude.{Ok, Err}
 use Rattle.plan.specs.declared.Plan.{Plan}
-use Rattle.plan.specs.declared.PlanAnswer.TheVariants.{Accepted}
 use Rattle.plan.specs.Numbers.{task_id}
 use Rattle.plan.specs.Programs.{programs}
 use Rattle.plan.specs.Refusals.{plan_answer}
 use Rattle.plan.specs.Words.{levels}
 use Rattle.rules.specs.declared.step.Step.{Step}
 use Rattle.rules.specs.declared.task.TaskState.TheVariants.{Done}
-use Rattle.rules.specs.declared.view.TabletAnswer.TheVariants.{Shown, Refused}
-use Rattle.rules.specs.declared.step.StepAnswer.TheVariants.{NoTask}
+use Rattle.rules.specs.declared.step.StepRefusal.TheVariants.{NoTask}
 use Rattle.rules.specs.Numbers.{processor_id}
 use Rattle.rules.specs.Systems.{task_at}
 use Rattle.rules.specs.Starts.{started}
@@ -30,11 +29,11 @@ use Rattle.claim.specs.Tablets.{SameTablets}
 use Rattle.examples.specs.Tablets.{high_plan, low_plan, level_steps, level_channel}
 use Rattle.claim.proofs.Tablets.{same_tablets}
 
-high_accepted : plan_answer (programs high_plan) ≡ Accepted
+high_accepted : plan_answer (programs high_plan) ≡ Ok tt
 unfolding evaluated
 high_accepted = refl
 
-low_accepted : plan_answer (programs low_plan) ≡ Accepted
+low_accepted : plan_answer (programs low_plan) ≡ Ok tt
 unfolding evaluated
 low_accepted = refl
 
@@ -49,7 +48,7 @@ levels_hidden n ss some few = same_tablets n high_plan low_plan ss some few high
 abbrev ruled : Plan → History
 ruled p = ruled_steps (started 2 p) level_steps
 
-as_ruled : (p : Plan) → plan_answer (programs p) ≡ Accepted → from 2 p level_steps ≡ ruled p
+as_ruled : (p : Plan) → plan_answer (programs p) ≡ Ok tt → from 2 p level_steps ≡ ruled p
 as_ruled p a = sym (ruled_steps_lem (started 2 p) level_steps (started_shaped 2 p) (started_ok 2 p (omega arith) (omega arith) a))
 
 -- words differ, and marks
@@ -76,11 +75,11 @@ pub low_unmarked : (task_at (from 2 low_plan level_steps).system (task_id 1)).ov
 low_unmarked = rw (as_ruled low_plan low_accepted) ruled_low_mark
 
 -- tablets show the same: task 2 done on desk 2, behind its last instruction; and no third task. Both rigs rest
-ruled_shown : tablet_of (ruled low_plan).system (task_id 2) ≡ Shown (record { task = task_id 2; state = Done; processor = processor_id 2; pc = 3 })
+ruled_shown : tablet_of (ruled low_plan).system (task_id 2) ≡ Ok (record { task = task_id 2; state = Done; processor = processor_id 2; pc = 3 })
 unfolding evaluated
 ruled_shown = refl
 
-ruled_none : tablet_of (ruled low_plan).system (task_id 3) ≡ Refused NoTask
+ruled_none : tablet_of (ruled low_plan).system (task_id 3) ≡ Err NoTask
 unfolding evaluated
 ruled_none = refl
 
@@ -91,10 +90,10 @@ ruled_rests = refl
 same : SameTablets 2 high_plan low_plan level_steps
 same = levels_hidden 2 level_steps (omega arith) (omega arith)
 
-pub high_shown : tablet_of (from 2 high_plan level_steps).system (task_id 2) ≡ Shown (record { task = task_id 2; state = Done; processor = processor_id 2; pc = 3 })
+pub high_shown : tablet_of (from 2 high_plan level_steps).system (task_id 2) ≡ Ok (record { task = task_id 2; state = Done; processor = processor_id 2; pc = 3 })
 high_shown = same.records (task_id 2) ∙ rw (as_ruled low_plan low_accepted) ruled_shown
 
-pub high_none : tablet_of (from 2 high_plan level_steps).system (task_id 3) ≡ Refused NoTask
+pub high_none : tablet_of (from 2 high_plan level_steps).system (task_id 3) ≡ Err NoTask
 high_none = same.records (task_id 3) ∙ rw (as_ruled low_plan low_accepted) ruled_none
 
 pub high_rests : quiescent (from 2 high_plan level_steps).system ≡ true

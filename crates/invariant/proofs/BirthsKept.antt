@@ -6,11 +6,11 @@ use mathlib.Core.List.{List}
 use Prim.Native.Nat.{◌-◌, ◌≤◌}
 use native.Mathlib.Omega.{arith}
 use lib.ListN.{length}
+use Rattle.std.specs.Prelude.{Ok}
 use Rattle.base.specs.Choice.{within}
 use Rattle.base.specs.Sets.{member}
 use Rattle.base.proofs.Tests.{within_low, within_high, tests_differ}
 use Rattle.base.proofs.Sets.{other_inserted, none_member}
-use Rattle.plan.specs.declared.PlanAnswer.TheVariants.{Accepted}
 use Rattle.plan.specs.declared.TaskId.{TaskId}
 use Rattle.plan.specs.declared.ChannelId.{ChannelId}
 use Rattle.plan.specs.declared.Word.{Word}
@@ -28,7 +28,6 @@ use Rattle.rules.specs.Local.{create_rule}
 use Rattle.rules_sound.proofs.Settled.{settled}
 use Rattle.net.specs.States.{Net, at_task}
 use Rattle.net.proofs.Children.{child_within}
-use Rattle.channel.specs.Bags.{one}
 use Rattle.transitions.specs.Readings.{Reading, kept_for}
 use Rattle.transitions.specs.Progress.{program_of}
 use Rattle.transitions.specs.Messages.{ended_of}
@@ -49,10 +48,9 @@ use Rattle.rules.specs.Hints.{hint}
 use Rattle.rules.specs.Starts.{pointing}
 use Rattle.channel.specs.Updates.{at_number}
 use Rattle.channel.proofs.Updates.{at_elim as at-number-elim}
-use mathlib.Core.Option.{some}
 use Rattle.invariant.proofs.ChildrenKept.{kept_child, life, family}
 
-module _ (m : Programs) (a : plan_answer m ≡ Accepted) {h : Histories} {s : Net} {x : Reading} {w : ChannelId → List Word}
+module _ (m : Programs) (a : plan_answer m ≡ Ok tt) {h : Histories} {s : Net} {x : Reading} {w : ChannelId → List Word}
     (r : Running m h s x w) where
   module _ {h' : Histories} {y : Reading} (transition : CreateTransition m h h' x y) where
     -- who creates is the parent, and another task

@@ -10,7 +10,7 @@ use Rattle.plan.specs.declared.Word.{Word}
 use Rattle.plan.specs.Numbers.{channel_id}
 use Rattle.plan.specs.Programs.{Programs}
 use Rattle.plan.specs.Users.{sender_of, receiver_of, parent_of}
-use Rattle.rules.specs.declared.rule.Received.{Received}
+use Rattle.rules.specs.Reports.{Received}
 use Rattle.net.specs.States.{Net, at_task}
 use Rattle.channel.specs.Events.{Event, Transfer, Delivery, transfer, delivery, guard, after}
 use Rattle.channel.specs.Measure.{measure}

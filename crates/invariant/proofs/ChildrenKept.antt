@@ -3,14 +3,14 @@ use mathlib.Core.Path.{◌≡◌, refl, sym, ap, ◌∙◌}
 use mathlib.Core.Bool.{true}
 use mathlib.Core.Logic.{◌≢◌, by_cases}
 use mathlib.Core.List.{List, ◌++◌}
-use Prim.Native.Nat.{◌-◌, ◌≤◌, ℕ, suc, ◌+◌}
+use Prim.Native.Nat.{◌≤◌, ℕ, suc, ◌+◌}
 use native.Mathlib.Omega.{arith}
 use lib.ListN.{length, get_elem?}
+use Rattle.std.specs.Prelude.{Ok}
 use Rattle.base.specs.Choice.{within}
 use Rattle.base.specs.Sets.{member}
 use Rattle.base.proofs.Tests.{within_low, within_high}
 use Rattle.base.proofs.Sets.{other_inserted, removed_inside, removed_all_inside}
-use Rattle.plan.specs.declared.PlanAnswer.TheVariants.{Accepted}
 use Rattle.plan.specs.declared.TaskId.{TaskId}
 use Rattle.plan.specs.declared.ChannelId.{ChannelId}
 use Rattle.plan.specs.declared.Word.{Word}
@@ -21,7 +21,7 @@ use Rattle.plan.specs.Refusals.{plan_answer}
 use Rattle.rules.specs.declared.task.TaskState.TheVariants.{Ready}
 use Rattle.rules.specs.declared.task.Task.{Task}
 use Rattle.rules.specs.declared.message.Message.TheVariants.{Terminated, Migration}
-use Rattle.rules.specs.declared.rule.Received.{Received}
+use Rattle.rules.specs.Reports.{Received}
 use Rattle.rules.specs.Tasks.{is_in, departed, arrived, without_child, without_children}
 use Rattle.rules.specs.Local.{holding_child}
 use Rattle.rules_sound.proofs.Settled.{settled}
@@ -64,7 +64,7 @@ Fewer u x z = member u.0 z.children ≡ true → member u.0 x.children ≡ true
 lost_fewer : (x : Task) (t u : TaskId) → 1 ≤ t.0 → 1 ≤ u.0 → Fewer u x (without_child x t)
 lost_fewer x t u i j e = removed_inside t.0 x.children u.0 i j (rw (lost_set x t) at e)
 
-module _ (m : Programs) (a : plan_answer m ≡ Accepted) {h : Histories} {s : Net} {x : Reading} {w : ChannelId → List Word}
+module _ (m : Programs) (a : plan_answer m ≡ Ok tt) {h : Histories} {s : Net} {x : Reading} {w : ChannelId → List Word}
     (r : Running m h s x w) where
   -- a child of which nothing changes
   pub kept_child : (h' : Histories) (y : Reading) (u : TaskId) → within 2 (length m) u.0 ≡ true → h' (parent_of m u) ≡ h (parent_of m u)

@@ -2,7 +2,7 @@
 use mathlib.Core.Path.{◌≡◌, refl, sym, ◌∙◌}
 use mathlib.Core.Bool.{Bool, true, false}
 use mathlib.Core.List.{List, []}
-use Prim.Native.Nat.{suc, ◌+◌, ◌-◌}
+use Prim.Native.Nat.{suc, ◌+◌}
 use native.Mathlib.Omega.{arith}
 use lib.ListN.{length}
 use borrow.Author.Tests.{eq-eqb, not-true}
@@ -21,7 +21,6 @@ use Rattle.rules.specs.Tasks.{is_in}
 use Rattle.rules.specs.Places.{last_in, is_on}
 use Rattle.net.specs.States.{Net}
 use Rattle.channel.specs.Bags.{one}
-use Rattle.channel.specs.Messages.{word}
 use Rattle.transitions.specs.Progress.{is_blocked, program_of, completed_by}
 use Rattle.transitions.specs.Messages.{words_in, messages_on, flat}
 use Rattle.transitions.specs.Agreement.{coming_to, word_with, Agrees}

@@ -5,7 +5,7 @@ use Rattle.plan.specs.declared.TaskId.{TaskId}
 use Rattle.plan.specs.Programs.{Programs}
 use Rattle.plan.specs.Users.{sender_of, receiver_of, parent_of}
 use Rattle.rules.specs.declared.task.Task.{Task}
-use Rattle.rules.specs.declared.rule.Received.{Received}
+use Rattle.rules.specs.Reports.{Received}
 use Rattle.rules.specs.Tasks.{born, departed, arrived, without_child, without_children}
 use Rattle.rules.specs.Local.{create_rule}
 use Rattle.net.specs.States.{at_task}

@@ -1,15 +1,16 @@
 -- Every accepted run and every accepted delivery makes the measure of the rig smaller; a run executes one instruction, and nothing else does.
 use mathlib.Core.Path.{◌≡◌, refl}
 use mathlib.Core.List.{List}
-use Prim.Native.Nat.{suc, ◌+◌, ◌-◌, ◌*◌, ◌≤◌}
+use Prim.Native.Nat.{suc, ◌+◌, ◌*◌, ◌≤◌}
 use native.Mathlib.Omega.{arith}
 use lib.ListN.{length}
+use Rattle.std.specs.Prelude.{Ok}
 use Rattle.base.proofs.Sums.{sum_le, sum_scaled}
 use Rattle.plan.specs.declared.ChannelId.{ChannelId}
 use Rattle.plan.specs.declared.Word.{Word}
 use Rattle.plan.specs.Numbers.{channel_id, task_id}
 use Rattle.plan.specs.Programs.{Programs}
-use Rattle.rules.specs.declared.rule.Received.{Received}
+use Rattle.rules.specs.Reports.{Received}
 use Rattle.rules.specs.Tasks.{departed}
 use Rattle.net.specs.States.{Net}
 use Rattle.channel.specs.Measure.{measure}
@@ -26,13 +27,12 @@ use Rattle.invariant.proofs.TaskMessages.{few_messages, task_messages}
 use Rattle.invariant.proofs.ChannelFalls.{split, viewed, seen, Less, transfer_less, delivery_less}
 use Rattle.invariant.proofs.TaskFalls.{own_less, create_less, finish_less, ended_less, arrival_less}
 use Rattle.plan.specs.Refusals.{plan_answer}
-use Rattle.plan.specs.declared.PlanAnswer.TheVariants.{Accepted}
 use Rattle.plan.specs.declared.TaskId.{TaskId}
 use Rattle.plan.specs.Users.{parent_of}
 use native.Mathlib.Nat.{mul-le-mul_right}
 use Rattle.invariant.proofs.TaskWeights.{ended_most}
 
-module _ (m : Programs) (accepted : plan_answer m ≡ Accepted) {h : Histories} {s : Net} {x : Reading} {w : ChannelId → List Word}
+module _ (m : Programs) (accepted : plan_answer m ≡ Ok tt) {h : Histories} {s : Net} {x : Reading} {w : ChannelId → List Word}
     (run : Running m h s x w) where
   -- by each act
   pub run_less : {h' : Histories} {y : Reading} {got : Received} → RunTransition m h x h' y got → Less m h h' x y 1

@@ -7,12 +7,12 @@ use Prim.Native.Nat.{ℕ, suc, ◌+◌, ◌^◌, ◌<◌, ◌≤◌}
 use native.Mathlib.Omega.{arith}
 use lib.ListN.{length}
 use borrow.Author.Tests.{eqb-false, not-true, not-false}
+use Rattle.std.specs.Prelude.{Ok}
 use Rattle.base.specs.Choice.{within}
 use Rattle.base.specs.Range.{up_to}
 use Rattle.base.specs.Sets.{member}
 use Rattle.base.proofs.Tests.{is_false, within_low, within_both, up_to_at, below_cases}
 use Rattle.base.proofs.Sets.{no_member}
-use Rattle.plan.specs.declared.PlanAnswer.TheVariants.{Accepted}
 use Rattle.plan.specs.declared.TaskId.{TaskId}
 use Rattle.plan.specs.declared.ChannelId.{ChannelId}
 use Rattle.plan.specs.declared.Word.{Word}
@@ -21,7 +21,7 @@ use Rattle.plan.specs.Programs.{Programs}
 use Rattle.plan.specs.Users.{parent_of}
 use Rattle.plan.specs.Refusals.{plan_answer}
 use Rattle.rules.specs.declared.task.TaskState.TheVariants.{Unborn, Moving, Done}
-use Rattle.rules.specs.declared.rule.Received.{Received}
+use Rattle.rules.specs.Reports.{Received}
 use Rattle.rules.specs.Tasks.{is_in, is_childless}
 use Rattle.rules_sound.proofs.Born.{children_few, born_passed}
 use Rattle.net.specs.States.{Net}
@@ -64,7 +64,7 @@ module _ {m : Programs} {h : Histories} {s : Net} {x : Reading} {w : ChannelId �
       is_false (is_in Unborn (x.tasks t)) (λ b. omega (arith, (unborn_is n (length m) g (x.tasks t) (r.tasks t i) b).unmoved)) in
       within_low 1 n (x.tasks t).processor.0 (rw e at (born_passed n (length m) g (x.tasks t) (r.tasks t i) born).processor)
 
-module _ (m : Programs) (a : plan_answer m ≡ Accepted) {h : Histories} {s : Net} {x : Reading} {w : ChannelId → List Word}
+module _ (m : Programs) (a : plan_answer m ≡ Ok tt) {h : Histories} {s : Net} {x : Reading} {w : ChannelId → List Word}
     (r : Running m h s x w) where
   -- nobody is held where there is no letter
   none_held : x.messages ≡ [] → (p u : TaskId) → within 1 (length m) p.0 ≡ true

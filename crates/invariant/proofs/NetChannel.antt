@@ -7,9 +7,9 @@ use Prim.Native.Nat.{ℕ, suc, ◌+◌, ◌≤◌}
 use native.Mathlib.Omega.{arith}
 use lib.ListN.{length}
 use borrow.Author.Tests.{eq-eqb, ne_eqb}
+use Rattle.std.specs.Prelude.{None, Some, Ok}
 use Rattle.base.proofs.Tests.{and_both, tests_differ, is_true}
 use Rattle.net.specs.Machines.{stop, take}
-use Rattle.plan.specs.declared.PlanAnswer.TheVariants.{Accepted}
 use Rattle.plan.specs.declared.TaskId.{TaskId}
 use Rattle.plan.specs.declared.ChannelId.{ChannelId}
 use Rattle.plan.specs.declared.Word.{Word}
@@ -21,8 +21,7 @@ use Rattle.rules.specs.declared.task.TaskState.{TaskState}
 use Rattle.rules.specs.declared.task.TaskState.TheVariants.{Unborn, Ready, Waiting, Sending, Receiving, Done}
 use Rattle.rules.specs.declared.task.Task.{Task}
 use Rattle.rules.specs.declared.message.Message.{Message}
-use Rattle.rules.specs.declared.rule.Received.{Received}
-use Rattle.rules.specs.declared.rule.Received.TheVariants.{Nothing, Word as GotWord}
+use Rattle.rules.specs.Reports.{Received}
 use Rattle.rules.specs.Tasks.{is_in}
 use Rattle.rules.specs.Places.{is_on}
 use Rattle.rules.specs.Steps.{word_on}
@@ -174,11 +173,11 @@ pass_enabled : (m : Programs) (s : Net) (c : ChannelId) → stands_at m s (sende
 unfolding enabled
 pass_enabled m s c p q = and_both (stands_at m s (sender_of m c) op_send c) _ p q
 
-word_elsewhere : (c : ChannelId) (v : Word) (d : ChannelId) → d.0 ≢ c.0 → word_on d (GotWord c v) ≡ []
+word_elsewhere : (c : ChannelId) (v : Word) (d : ChannelId) → d.0 ≢ c.0 → word_on d (Some (c, v)) ≡ []
 unfolding word_on
 word_elsewhere c v d ne = rw (ne_eqb c.0 d.0 (λ e. ne (sym e))) refl
 
-module _ (m : Programs) (accepted : plan_answer m ≡ Accepted) (s : Net) (consistent : Consistent m s)
+module _ (m : Programs) (accepted : plan_answer m ≡ Ok tt) (s : Net) (consistent : Consistent m s)
     {h : Histories} {x : Reading} {w : ChannelId → List Word} (run : Running m h s x w) (y : Reading) (c : ChannelId) (low : 1 ≤ c.0)
     (high : c.0 ≤ 128)
     (other : (d : ChannelId) → d.0 ≢ c.0 → messages_on d y.messages ≡ messages_on d x.messages) where
@@ -301,20 +300,20 @@ module _ (m : Programs) (accepted : plan_answer m ≡ Accepted) (s : Net) (consi
         → words_in (messages_on c y.messages) ≡ after → Invariant (view_of m h y c) → Follows m s y (λ d. w d ++ word_on d received)
     unfolding word_on
     follows p q nothing e i =
-        still_follows Nothing p
+        still_follows None p
         (receiver_agrees (run.agrees (receiver_of m c)) refl refl c low q refl refl (coming_kept e (receiver_of m c))
         (λ o. e ∙ words_none m h x c (run.views c low high) o))
         (sym e) (λ d ne. refl)
     follows p q (direct none) e i =
         let a = run.agrees (receiver_of m c) in
         let quiet = receiver_none x.messages q none in
-        pass_follows (GotWord c (x.tasks (sender_of m c)).word) p (end_step_stands receives (receiver_of m c) q quiet)
+        pass_follows (Some (c, (x.tasks (sender_of m c)).word)) p (end_step_stands receives (receiver_of m c) q quiet)
         (λ k v. receiver_passed a (pass_born m s c (receiver_of m c)) (pass_overflow m s c (receiver_of m c)) c low q (k ∙ ap suc (agrees_completed a quiet)) v)
         (rw (none, e, eq-eqb c.0 c.0 refl) refl) (word_elsewhere c (x.tasks (sender_of m c)).word)
     follows p q (called none) e i =
         let o = rw (second_at) at (words_received m h y c i (x.tasks (sender_of m c)).word e) in
         let (quiet, there) = receiver_there q o none in
-        pass_follows Nothing p there
+        pass_follows None p there
         (λ k v. receiver_ahead (run.agrees (receiver_of m c)) (pass_born m s c (receiver_of m c)) (pass_overflow m s c (receiver_of m c)) c low q o quiet k v e)
         (rw (none, e) refl) (λ d ne. refl)
     follows p q (taken v some) e i =
@@ -322,11 +321,11 @@ module _ (m : Programs) (accepted : plan_answer m ≡ Accepted) (s : Net) (consi
         let coming =
         coming_on (program_of m (receiver_of m c)) (x.tasks (receiver_of m c)) c x.messages
         (words_received m h x c (run.views c low high) v some) ∙ some in
-        still_follows (GotWord c v) p (receiver_passed a refl refl c low q (ahead_completed a coming) (ahead_word a coming))
+        still_follows (Some (c, v)) p (receiver_passed a refl refl c low q (ahead_completed a coming) (ahead_word a coming))
         (rw (some, e, eq-eqb c.0 c.0 refl) refl) (word_elsewhere c v)
 
 -- each step about one channel
-pub channel_follows : (m : Programs) → plan_answer m ≡ Accepted → (s : Net) → Consistent m s
+pub channel_follows : (m : Programs) → plan_answer m ≡ Ok tt → (s : Net) → Consistent m s
     → {h : Histories} {x y : Reading} {w : ChannelId → List Word} {e : Event} {received : Received} → Running m h s x w
     → ChannelTransition m h x y e received
     → Follows m s y (λ d. w d ++ word_on d received)

@@ -3,17 +3,17 @@ use mathlib.Core.Path.{◌≡◌, refl, ap, ◌∙◌}
 use mathlib.Core.Bool.{Bool, true, false, not, ◌&&◌}
 use mathlib.Core.List.{List, [], ◌∷◌, ◌++◌}
 use mathlib.Core.Logic.{◌≢◌}
-use Prim.Native.Nat.{ℕ, zero, suc, ◌+◌, ◌-◌, ◌<◌}
+use Prim.Native.Nat.{ℕ, zero, suc, ◌-◌, ◌<◌}
 use native.Mathlib.Omega.{arith}
 use lib.Dec.{eqb}
 use lib.ListN.{length, get_elem?}
 use borrow.Author.Tests.{eqb-true, ne_eqb}
+use Rattle.std.specs.Prelude.{Ok}
 use Rattle.base.specs.Choice.{within}
 use Rattle.base.specs.Sets.{removed}
 use Rattle.base.proofs.Tests.{and_left, and_right, and_both, tests_differ, within_low, within_high, every_at, second_fails}
 use Rattle.net.specs.Machines.{Run, stop, take}
 use Rattle.net.proofs.Runs.{run_append}
-use Rattle.plan.specs.declared.PlanAnswer.TheVariants.{Accepted}
 use Rattle.plan.specs.declared.Refusal.TheVariants.{BadFinish}
 use Rattle.plan.specs.declared.TaskId.{TaskId}
 use Rattle.plan.specs.declared.ChannelId.{ChannelId}
@@ -66,7 +66,7 @@ last_finish (j ∷ []) (suc i) h l e = absurd (omega arith)
 last_finish (j ∷ k ∷ g) zero h l e = absurd (tests_differ (and_left (not (is_finish j)) (finish_ok (k ∷ g)) h) (rw e refl))
 last_finish (j ∷ k ∷ g) (suc i) h l e = ap suc (last_finish (k ∷ g) i (and_right (not (is_finish j)) (finish_ok (k ∷ g)) h) (omega arith) e)
 
-finish_place : (m : Programs) → plan_answer m ≡ Accepted → (t : TaskId) (i : ℕ) → within 1 (length m) t.0 ≡ true → i < length (program_of m t)
+finish_place : (m : Programs) → plan_answer m ≡ Ok tt → (t : TaskId) (i : ℕ) → within 1 (length m) t.0 ≡ true → i < length (program_of m t)
     → is_finish (instruction_at (program_of m t) i) ≡ true → suc i ≡ length (program_of m t)
 unfolding structure_answer finishes_ok
 finish_place m accepted t i n l e =
@@ -92,7 +92,7 @@ unfolding message_on
 no_channel_lem c o t = refl
 
 -- a task p loses a child, in the net s', which the run `before` has reached and in which the other tasks agree with the rig y
-module _ (m : Programs) (accepted : plan_answer m ≡ Accepted) {s s' : Net} {ls : List Label} (before : Run (net m) s ls s')
+module _ (m : Programs) (accepted : plan_answer m ≡ Ok tt) {s s' : Net} {ls : List Label} (before : Run (net m) s ls s')
     (consistent : Consistent m s') (h : Histories) (y : Reading) (w : ChannelId → List Word) (passed : PassedAlike s' w y.messages) (kindred : AllChildren m h y)
     (p t : TaskId) (number : within 1 (length m) p.0 ≡ true) (others : (u : TaskId) → u.0 ≢ p.0 → Agrees m s' y.messages u (y.tasks u)) where
   all_agree : (z : Net) → Agrees m z y.messages p (y.tasks p) → ((u : TaskId) → u.0 ≢ p.0 → Agrees m z y.messages u (y.tasks u))
@@ -158,7 +158,7 @@ module _ (m : Programs) (accepted : plan_answer m ≡ Accepted) {s s' : Net} {ls
               passed = λ d. rw (own_passed m s' p) (passed d);
             }
 
-module _ (m : Programs) (accepted : plan_answer m ≡ Accepted) (s : Net) (consistent : Consistent m s)
+module _ (m : Programs) (accepted : plan_answer m ≡ Ok tt) (s : Net) (consistent : Consistent m s)
     {h : Histories} {x : Reading} {w : ChannelId → List Word} (run : Running m h s x w) where
   module _ {y : Reading} (transition : FinishTransition m h x y) where
     finish_kind : transition.instruction.opcode ≡ op_finish

@@ -7,10 +7,10 @@ use Prim.Native.Nat.{ℕ, suc, ◌-◌, ◌≤◌, ◌<◌}
 use native.Mathlib.Omega.{arith}
 use lib.ListN.{length}
 use borrow.Author.Tests.{ne_eqb, lt-ltb, le-ltb}
+use Rattle.std.specs.Prelude.{Ok}
 use Rattle.base.specs.Choice.{within}
 use Rattle.base.proofs.Tests.{and_both, tests_differ, is_true, within_low, within_high}
 use Rattle.net.specs.Machines.{Run}
-use Rattle.plan.specs.declared.PlanAnswer.TheVariants.{Accepted}
 use Rattle.plan.specs.declared.TaskId.{TaskId}
 use Rattle.plan.specs.declared.ChannelId.{ChannelId}
 use Rattle.plan.specs.declared.Instruction.{Instruction}
@@ -111,7 +111,7 @@ module _ (m : Programs) (s : Net) (t : TaskId) where
       → coming_to (program_of m u) ns z ≡ coming_to (program_of m u) ms z → Agrees m s ms u z → Agrees m (effect m s (own t)) ns u z
   own_other {u = u} ne b e a = let (k, (v, o)) = own_apart u ne in alike_agrees a b k v o e
 
-module _ (m : Programs) (accepted : plan_answer m ≡ Accepted) (s : Net) (consistent : Consistent m s) where
+module _ (m : Programs) (accepted : plan_answer m ≡ Ok tt) (s : Net) (consistent : Consistent m s) where
   -- where a task is that has completed so many instructions
   at_completed : (t : TaskId) (k : ℕ) → within 1 (length m) t.0 ≡ true → s.born t ≡ true → s.completed t ≡ k → k < length (program_of m t)
       → AtNext m s t (instruction_at (program_of m t) k)

@@ -3,15 +3,15 @@ use mathlib.Core.Path.{◌≡◌, refl, sym, ap, ◌∙◌}
 use mathlib.Core.Bool.{Bool, true, false, ◌||◌, or-false, or-true}
 use mathlib.Core.List.{List, [], ◌∷◌, ◌++◌, append-nil}
 use mathlib.Core.Logic.{◌≢◌}
-use Prim.Native.Nat.{ℕ, suc, ◌+◌, ◌-◌}
+use Prim.Native.Nat.{ℕ, suc, ◌+◌}
 use native.Mathlib.Omega.{arith}
 use lib.Dec.{eqb}
 use lib.ListN.{length}
 use borrow.Author.Tests.{eqb-true, ne_eqb, not-false}
+use Rattle.std.specs.Prelude.{None, Ok}
 use Rattle.base.specs.Choice.{within}
 use Rattle.base.proofs.Tests.{and_left, and_right, and_false, tests_differ, within_low, within_high}
 use Rattle.net.specs.Machines.{stop, take}
-use Rattle.plan.specs.declared.PlanAnswer.TheVariants.{Accepted}
 use Rattle.plan.specs.declared.TaskId.{TaskId}
 use Rattle.plan.specs.declared.ChannelId.{ChannelId}
 use Rattle.plan.specs.declared.Instruction.{Instruction}
@@ -23,7 +23,6 @@ use Rattle.rules.specs.declared.task.TaskState.TheVariants.{Unborn, Ready, Waiti
 use Rattle.rules.specs.declared.task.Task.{Task}
 use Rattle.rules.specs.declared.message.Message.{Message}
 use Rattle.rules.specs.declared.message.Message.TheVariants.{Migration}
-use Rattle.rules.specs.declared.rule.Received.TheVariants.{Nothing}
 use Rattle.rules.specs.Tasks.{is_in, is_childless, with_state, advanced, born, departed, arrived, without_children}
 use Rattle.rules.specs.Local.{create_rule}
 use Rattle.rules.specs.Steps.{word_on}
@@ -53,7 +52,7 @@ use Rattle.rules.specs.Hints.{hint}
 
 -- nothing is received
 pub follows_nothing : {m : Programs} {s : Net} {y : Reading} {w : ChannelId → List Word} → Follows m s y w
-    → Follows m s y (λ d. w d ++ word_on d Nothing)
+    → Follows m s y (λ d. w d ++ word_on d None)
 unfolding word_on
 follows_nothing {w = w} f =
     record {
@@ -75,7 +74,7 @@ unfolding overflow_after
 overflow_same i v b k e q = rw (e, q) (or-false b)
 
 -- a task with no children, in a net with which the other tasks agree
-pub childless_complete : (m : Programs) → plan_answer m ≡ Accepted → (s : Net) → Consistent m s → (h : Histories) (y : Reading) → AllChildren m h y
+pub childless_complete : (m : Programs) → plan_answer m ≡ Ok tt → (s : Net) → Consistent m s → (h : Histories) (y : Reading) → AllChildren m h y
     → (p : TaskId) → within 1 (length m) p.0 ≡ true → ((u : TaskId) → u.0 ≢ p.0 → Agrees m s y.messages u (y.tasks u))
     → is_childless (y.tasks p) ≡ true → children_complete m s p ≡ true
 childless_complete m accepted s consistent h y kindred p number others e =
@@ -86,7 +85,7 @@ childless_complete m accepted s consistent h y kindred p number others e =
     let a = others u (λ q. parent_other m accepted u n (ap (λ (v : TaskId). v.0) parent ∙ sym q)) in
     done_complete m accepted s consistent a (childless_done (rw parent at (kindred u n)) e (unborn_not a b)))
 
-module _ (m : Programs) (accepted : plan_answer m ≡ Accepted) (s : Net) (consistent : Consistent m s)
+module _ (m : Programs) (accepted : plan_answer m ≡ Ok tt) (s : Net) (consistent : Consistent m s)
     {h : Histories} {x : Reading} {w : ChannelId → List Word} (run : Running m h s x w) where
   -- no word and no receiver has to do with it
   module _ (y : Reading) (same : (c : ChannelId) → messages_on c y.messages ≡ messages_on c x.messages) where

@@ -5,9 +5,9 @@ use mathlib.Core.List.{List, [], ◌++◌, append-nil}
 use Prim.Native.Nat.{◌+◌, ◌≤◌, ◌<◌}
 use native.Mathlib.Omega.{arith}
 use borrow.Author.Tests.{eqb-true, ne_eqb}
+use Rattle.std.specs.Prelude.{None, Ok}
 use Rattle.base.proofs.Tests.{tests_differ}
 use Rattle.net.proofs.Runs.{run_append}
-use Rattle.plan.specs.declared.PlanAnswer.TheVariants.{Accepted as PlanAccepted}
 use Rattle.plan.specs.declared.Plan.{Plan}
 use Rattle.plan.specs.declared.TaskId.{TaskId}
 use Rattle.plan.specs.declared.ChannelId.{ChannelId}
@@ -16,9 +16,7 @@ use Rattle.plan.specs.Numbers.{task_id, processor_id}
 use Rattle.plan.specs.Programs.{Programs, programs}
 use Rattle.plan.specs.Refusals.{plan_answer}
 use Rattle.rules.specs.declared.step.Step.{Step}
-use Rattle.rules.specs.declared.step.StepAnswer.TheVariants.{Accepted}
-use Rattle.rules.specs.declared.rule.Received.{Received}
-use Rattle.rules.specs.declared.rule.Received.TheVariants.{Nothing}
+use Rattle.rules.specs.Reports.{Received}
 use Rattle.rules.specs.declared.system.System.{System}
 use Rattle.rules.specs.Systems.{task_at, meaning}
 use Rattle.rules.specs.Effects.{Effect, completed}
@@ -88,7 +86,7 @@ few q shaped ok = processors_few q shaped ok
 pub no_more : (w : ChannelId → List Word) → (λ c. w c ++ []) ≡ w
 no_more w = fun_ext (λ c. append-nil (w c))
 
-module _ (p : Plan) (a : plan_answer (programs p) ≡ PlanAccepted) {r : System} {w : ChannelId → List Word} (k : Kept p r w) where
+module _ (p : Plan) (a : plan_answer (programs p) ≡ Ok tt) {r : System} {w : ChannelId → List Word} (k : Kept p r w) where
   abbrev m : Programs
   m = programs p
 
@@ -163,7 +161,7 @@ module _ (p : Plan) (a : plan_answer (programs p) ≡ PlanAccepted) {r : System}
           marks = λ u. deliver_marks m transition u ∙ sym (or-false (task_at r u).overflow);
         }
 
-    after_move : (h : Histories) → MoveTransition m k.histories h (reading r) (reading q) → Next p k t q Nothing false true
+    after_move : (h : Histories) → MoveTransition m k.histories h (reading r) (reading q) → Next p k t q None false true
     unfolding together word_on reading
     after_move h transition =
         record {
@@ -179,7 +177,7 @@ module _ (p : Plan) (a : plan_answer (programs p) ≡ PlanAccepted) {r : System}
           marks = λ u. move_marks m transition u ∙ sym (or-false (task_at r u).overflow);
         }
 
-  module _ (s : Step) (yes : step_answer r s ≡ Accepted) where
+  module _ (s : Step) (yes : step_answer r s ≡ Ok tt) where
     same : step r s ≡ accepted (performed r s)
     same = step_accepted r s yes
 

@@ -5,6 +5,7 @@ use mathlib.Core.List.{List}
 use Prim.Native.Nat.{ℕ}
 use lib.Dec.{eqb}
 use borrow.Author.Tests.{eqb-true, eq-eqb, ne_eqb}
+use Rattle.std.specs.Prelude.{Ok}
 use Rattle.base.specs.Sets.{removed}
 use Rattle.base.proofs.Choices.{pick_either}
 use Rattle.base.proofs.Tests.{and_both}
@@ -18,8 +19,7 @@ use Rattle.plan.specs.Programs.{Programs}
 use Rattle.plan.specs.Users.{sender_of, receiver_of, parent_of}
 use Rattle.rules.specs.declared.task.Task.{Task}
 use Rattle.rules.specs.declared.task.TaskState.TheVariants.{Unborn, Waiting}
-use Rattle.rules.specs.declared.rule.Received.{Received}
-use Rattle.rules.specs.declared.step.StepAnswer.TheVariants.{Accepted}
+use Rattle.rules.specs.Reports.{Received}
 use Rattle.rules.specs.declared.system.System.{System}
 use Rattle.rules.specs.Tasks.{is_in, is_childless, with_children, readied, woken, born, departed, arrived, without_child, without_children}
 use Rattle.rules.specs.Local.{create_rule}
@@ -144,7 +144,7 @@ module _ (r : System) (t : TaskId) where
       (λ u ne. rw (ne_eqb t.0 u.0 (λ q. ne (sym q))) (sym (or-false (task_at r u).overflow))))
 
   module _ (shaped : Shaped r) (ok : system_ok r ≡ true) (h : Histories) {s : Net} (consistent : Consistent (meaning r) s) {w : ChannelId → List Word}
-      (run : Running (meaning r) h s (reading r) w) (a : run_answer r t ≡ Accepted) where
+      (run : Running (meaning r) h s (reading r) w) (a : run_answer r t ≡ Ok tt) where
     unborn_unmarked : (u : TaskId) → is_in Unborn ((reading r).tasks u) ≡ true → ((reading r).tasks u).overflow ≡ false
     unborn_unmarked u e = sym (run.agrees u).overflow ∙ consistent.unmarked u ((run.agrees u).born ∙ rw e refl)
 

@@ -21,7 +21,7 @@ use Rattle.plan.specs.Users.{sender_of, receiver_of, parent_of}
 use Rattle.rules.specs.declared.task.TaskState.TheVariants.{Unborn, Ready, Moving}
 use Rattle.rules.specs.declared.task.Task.{Task}
 use Rattle.rules.specs.declared.message.Message.TheVariants.{Terminated, Migration}
-use Rattle.rules.specs.declared.rule.Received.{Received}
+use Rattle.rules.specs.Reports.{Received}
 use Rattle.rules.specs.Tasks.{is_in, born, departed, arrived, without_child, without_children}
 use Rattle.rules.specs.Local.{create_rule, holding_child}
 use Rattle.rules_sound.proofs.Settled.{settled}

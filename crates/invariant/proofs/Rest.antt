@@ -7,10 +7,10 @@ use native.Mathlib.Omega.{arith}
 use lib.Dec.{eqb}
 use lib.ListN.{length}
 use borrow.Author.Tests.{eqb-true, eq-eqb, lt-ltb, not-true, not-false}
+use Rattle.std.specs.Prelude.{Ok}
 use Rattle.base.specs.Choice.{pick, within}
 use Rattle.base.proofs.Tests.{and_left, and_right, and_both, or_cases, tests_differ, is_true, is_false, within_low, within_high}
 use Rattle.net.specs.Machines.{Normal}
-use Rattle.plan.specs.declared.PlanAnswer.TheVariants.{Accepted}
 use Rattle.plan.specs.declared.TaskId.{TaskId}
 use Rattle.plan.specs.declared.ChannelId.{ChannelId}
 use Rattle.plan.specs.declared.Instruction.{Instruction}
@@ -95,7 +95,7 @@ halted_state {z} (finishing e o some) = eqb-true (state_number z.state) 1 e ∙ 
 halted_state {z} (syncing e o some) = eqb-true (state_number z.state) 2 e ∙ sym (ap pause_of o)
 halted_state {z} (busy {u = u} side e o) = eqb-true (state_number z.state) (state_number u) e ∙ sym (ap pause_of o ∙ side_pause side)
 
-module _ (m : Programs) (accepted : plan_answer m ≡ Accepted) (s : Net) (sane : Consistent m s)
+module _ (m : Programs) (accepted : plan_answer m ≡ Ok tt) (s : Net) (sane : Consistent m s)
     {h : Histories} {x : Reading} {w : ChannelId → List Word} (run : Running m h s x w) (none : x.messages ≡ []) (rest : Resting m x) where
   quiet : (t : TaskId) → coming_to (program_of m t) x.messages (x.tasks t) ≡ []
   quiet t = coming_empty (program_of m t) x.messages (x.tasks t) none
@@ -265,7 +265,7 @@ pub record Same (x y : Task) : Type 0 where
   pub word : x.word ≡ y.word
   pub overflow : x.overflow ≡ y.overflow
 
-module _ (m : Programs) (accepted : plan_answer m ≡ Accepted) {ls : List Label} {s : Net} (reached : Reached m ls s) where
+module _ (m : Programs) (accepted : plan_answer m ≡ Ok tt) {ls : List Label} {s : Net} (reached : Reached m ls s) where
   -- at rest the net is at its end
   pub rest_normal : {h : Histories} {x : Reading} {w : ChannelId → List Word} → Running m h s x w → x.messages ≡ [] → Resting m x → Normal (net m) s
   rest_normal run none rest = normal m accepted s (consistent m accepted reached) run none rest

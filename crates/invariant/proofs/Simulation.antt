@@ -2,7 +2,7 @@
 use mathlib.Core.Path.{◌≡◌}
 use mathlib.Core.List.{List, ◌++◌}
 use mathlib.Core.Bool.{true}
-use Rattle.plan.specs.declared.PlanAnswer.TheVariants.{Accepted}
+use Rattle.std.specs.Prelude.{Ok}
 use Rattle.plan.specs.declared.ChannelId.{ChannelId}
 use Rattle.plan.specs.declared.Word.{Word}
 use Rattle.plan.specs.Programs.{Programs}
@@ -10,7 +10,7 @@ use Rattle.plan.specs.Refusals.{plan_answer}
 use Rattle.plan.specs.declared.TaskId.{TaskId}
 use Rattle.plan.specs.declared.Instruction.{Instruction}
 use Rattle.plan.specs.Kinds.{is_use, op_create}
-use Rattle.rules.specs.declared.rule.Received.{Received}
+use Rattle.rules.specs.Reports.{Received}
 use Rattle.rules.specs.Steps.{word_on}
 use Rattle.rules.specs.Tasks.{is_in}
 use Rattle.rules.specs.declared.task.TaskState.TheVariants.{Unborn}
@@ -28,7 +28,7 @@ use Rattle.invariant.proofs.NetChannel.{channel_follows}
 use Rattle.invariant.proofs.NetTasks.{follows_nothing, own_transition_follows, create_follows, arrival_follows, move_follows, runs_unborn}
 use Rattle.invariant.proofs.NetEnds.{finish_follows, ended_follows}
 
-module _ (m : Programs) (accepted : plan_answer m ≡ Accepted) {ls : List Label} {s : Net} (reached : Reached m ls s)
+module _ (m : Programs) (accepted : plan_answer m ≡ Ok tt) {ls : List Label} {s : Net} (reached : Reached m ls s)
     {h : Histories} {x : Reading} {w : ChannelId → List Word} (run : Running m h s x w) where
   sane : Consistent m s
   sane = consistent m accepted reached

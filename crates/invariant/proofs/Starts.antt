@@ -8,12 +8,12 @@ use Prim.Native.Nat.{ℕ, ◌-◌, ◌≤◌}
 use native.Mathlib.Omega.{arith}
 use lib.ListN.{length}
 use borrow.Author.Tests.{eq-eqb, ne_eqb}
+use Rattle.std.specs.Prelude.{Ok}
 use Rattle.base.specs.Sets.{member}
 use Rattle.base.proofs.Sets.{none_member}
 use Rattle.base.proofs.Tests.{tests_differ, within_low}
 use Rattle.plan.specs.declared.Plan.{Plan}
 use Rattle.plan.specs.declared.TaskId.{TaskId}
-use Rattle.plan.specs.declared.PlanAnswer.TheVariants.{Accepted}
 use Rattle.plan.specs.Programs.{programs}
 use Rattle.plan.specs.Refusals.{plan_answer}
 use Rattle.plan.specs.Users.{parent_of}
@@ -155,7 +155,7 @@ module _ (n : ℕ) (p : Plan) where
       (λ ne. unborn_agrees t ne no_task refl refl refl refl)
 
 -- 9 does not refuse the tasks
-start_tasks_lem : (n : ℕ) (p : Plan) → 1 ≤ n → n ≤ 6 → plan_answer (programs p) ≡ Accepted → TasksOk (programs p) (reading (started n p))
+start_tasks_lem : (n : ℕ) (p : Plan) → 1 ≤ n → n ≤ 6 → plan_answer (programs p) ≡ Ok tt → TasksOk (programs p) (reading (started n p))
 start_tasks_lem n p l h a =
     subst (λ (q : Plan). TasksOk (programs q) (reading (started n p))) (started_plan n p)
     (tasks_ok_lem (started n p) (started_shaped n p) (started_ok n p l h a))
@@ -177,7 +177,7 @@ start_runs n p l h ok =
       passed = λ c. refl;
     }
 
-pub start_running : (n : ℕ) (p : Plan) → 1 ≤ n → n ≤ 6 → plan_answer (programs p) ≡ Accepted
+pub start_running : (n : ℕ) (p : Plan) → 1 ≤ n → n ≤ 6 → plan_answer (programs p) ≡ Ok tt
     → (h : Histories) × Running (programs p) h start_net (reading (started n p)) (λ c. [])
 start_running n p l h a =
     let ok : TasksOk (programs p) (start_reading n p) = rw (read_started n p) at (start_tasks_lem n p l h a) in

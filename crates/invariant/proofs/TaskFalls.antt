@@ -4,9 +4,10 @@ use mathlib.Core.Logic.{◌≢◌, by_cases}
 use mathlib.Core.Bool.{true, ◌&&◌}
 use mathlib.Core.List.{List, ◌++◌, []}
 use mathlib.Core.Option.{some}
-use Prim.Native.Nat.{ℕ, suc, ◌+◌, ◌-◌, ◌≤◌, ◌<◌}
+use Prim.Native.Nat.{ℕ, suc, ◌+◌, ◌≤◌, ◌<◌}
 use native.Mathlib.Omega.{arith}
 use lib.ListN.{length, get_elem?}
+use Rattle.std.specs.Prelude.{Ok}
 use Rattle.base.specs.Choice.{within}
 use Rattle.base.specs.Sets.{removed}
 use Rattle.base.proofs.Choices.{pick_either}
@@ -44,7 +45,6 @@ use Rattle.invariant.specs.Weights.{channel_count, channels_weight, tasks_weight
 use Rattle.invariant.proofs.ChannelFalls.{split, Less}
 use native.Mathlib.Decide.{ℕ_discrete}
 use Rattle.plan.specs.Refusals.{plan_answer}
-use Rattle.plan.specs.declared.PlanAnswer.TheVariants.{Accepted}
 use Rattle.rules.specs.declared.channel.Hint.{Hint}
 use Rattle.rules.specs.Hints.{hint}
 use Rattle.channel.proofs.Bags.{total_post, total_without, in_at, length_without}
@@ -107,7 +107,7 @@ module _ (m : Programs) where
   own_place (goes_on a b) = omega arith
   own_place (waits a b) = omega arith
 
-  module _ (accepted : plan_answer m ≡ Accepted) {h : Histories} {s : Net} {x : Reading} {w : ChannelId → List Word} (run : Running m h s x w) where
+  module _ (accepted : plan_answer m ≡ Ok tt) {h : Histories} {s : Net} {x : Reading} {w : ChannelId → List Word} (run : Running m h s x w) where
     -- births and arrivals change no weight of a channel
     placings : (h' : Histories) (y : Reading) → ((c : ChannelId) → 1 ≤ c.0 → c.0 ≤ 128 → Placing (view_of m h x c) (view_of m h' y c))
         → channels_weight m h' y ≡ channels_weight m h x

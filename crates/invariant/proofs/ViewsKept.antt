@@ -12,7 +12,7 @@ use Rattle.plan.specs.declared.Word.{Word}
 use Rattle.plan.specs.Numbers.{task_id}
 use Rattle.plan.specs.Programs.{Programs}
 use Rattle.rules.specs.declared.message.Message.TheVariants.{Terminated, Migration}
-use Rattle.rules.specs.declared.rule.Received.{Received}
+use Rattle.rules.specs.Reports.{Received}
 use Rattle.rules.specs.declared.message.Message.{Message}
 use Rattle.net.specs.States.{Net}
 use Rattle.channel.specs.Views.{View}

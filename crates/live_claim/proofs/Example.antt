@@ -3,15 +3,11 @@
 use mathlib.Core.Path.{◌≡◌, refl, sym, ap, ◌∙◌}
 use mathlib.Core.Bool.{true, false}
 use mathlib.Core.List.{List, [], ◌∷◌, ◌++◌}
-use mathlib.Core.Logic.{◌≢◌}
 use Prim.Native.Nat.{ℕ, ◌+◌, ◌*◌}
-use native.Mathlib.Omega.{arith}
 use lib.Dec.{leb}
 use lib.ListN.{length, take, drop, replicate, length-replicate}
 use Rattle.base.specs.Choice.{pick}
 use Rattle.base.proofs.Tests.{tests_differ}
-use Rattle.plan.specs.declared.PlanAnswer.TheVariants.{Accepted}
-use Rattle.plan.specs.Files.{file_answer}
 use Rattle.plan.specs.Outcomes.{plan_read, start_number}
 use Rattle.plan.proofs.Edges.{worked}
 use Rattle.rules.specs.declared.step.Stepped.{Stepped}
@@ -20,13 +16,13 @@ use Rattle.rules.specs.declared.system.System.{System}
 use Rattle.rules.specs.Answers.{is_accepted, step_number}
 use Rattle.rules.specs.Numbers.{processor_id}
 use Rattle.rules.specs.Starts.{started}
-use Rattle.rules.specs.Steps.{step, step_answer, run_step}
+use Rattle.rules.specs.Steps.{step, run_step}
 use Rattle.rules.specs.Dispatch.{dispatched}
 use Rattle.rules.proofs.Evaluated.{evaluated}
 use Rattle.image.specs.Image.{image, rig_of, is_image, rig_size}
 use Rattle.image_laws.proofs.Started.{worked_held}
-use Rattle.image.specs.Live.{held, Left, StartMeets, step_given, live_step, word_record, StepMeets, live_dispatch, made_steps, made_reports, all_step_bytes, all_report_bytes, DispatchMeets}
-use Rattle.live_claim.specs.Live.{LiveCall, press, ask, Made, PressMeets, AskMeets, MeetsBy, Played, LiveDemand3}
+use Rattle.image.specs.Live.{Left, StartMeets, live_step, word_record, live_dispatch, made_steps, made_reports, all_step_bytes, all_report_bytes}
+use Rattle.live_claim.specs.Live.{press, ask, Made, PressMeets, AskMeets, MeetsBy, Played, LiveDemand3}
 use Rattle.live_claim.proofs.Played.{Holds, live_step_lem, live_call, live_demand_3}
 
 -- the rig at the start

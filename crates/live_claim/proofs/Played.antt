@@ -5,46 +5,37 @@ use mathlib.Core.List.{List, [], ◌∷◌, ◌++◌, append-nil, append_assoc}
 use mathlib.Core.Logic.{◌≢◌}
 use Prim.Native.Nat.{ℕ}
 use native.Mathlib.Omega.{arith}
-use lib.Dec.{eqb, leb}
-use lib.ListN.{length}
+use lib.Dec.{eqb}
 use borrow.Author.Tests.{eqb-true}
-use Rattle.base.specs.Choice.{pick, unless, within}
-use Rattle.base.proofs.Tests.{within_low, within_high}
-use Rattle.plan.specs.declared.Plan.{Plan}
-use Rattle.plan.specs.declared.PlanAnswer.{PlanAnswer}
-use Rattle.plan.specs.declared.PlanAnswer.TheVariants.{Accepted, Refused}
-use Rattle.plan.specs.declared.Refusal.{Refusal}
-use Rattle.plan.specs.declared.Refusal.TheVariants.{BadProcessors, BadLayout, BadInstruction, BadFinish, BadCreate, BadChannel, OutputShort, BadRepeat, RepeatedCreate, TooLong}
-use Rattle.plan.specs.Answers.{answer_number, refusal_number}
-use Rattle.plan.specs.Answers.{is_accepted as isPlanAccepted}
+use Rattle.std.specs.Prelude.{Ok}
+use Rattle.base.specs.Choice.{pick, within}
+use Rattle.base.proofs.Tests.{within_low, within_high, tests_differ}
+use Rattle.plan.specs.Answers.{PlanAnswer, answer_number}
+use Rattle.plan.specs.declared.Refusal.TheVariants.{BadProcessors}
 use Rattle.plan.specs.Files.{file_programs, file_answer, start_answer}
 use Rattle.plan.specs.Outcomes.{plan_read, start_number}
-use Rattle.plan.specs.Programs.{programs, canonical}
+use Rattle.plan.specs.Programs.{programs}
 use Rattle.plan.specs.Refusals.{plan_answer}
 use Rattle.plan_laws.proofs.Answers.{unless_accepted}
 use Rattle.plan_laws.proofs.Canonical.{meaning_canonical}
 use Rattle.plan_laws.proofs.LayoutRead.{file_plan_lem}
 use Rattle.rules.specs.declared.step.Report.{Report}
 use Rattle.rules.specs.declared.step.Step.{Step}
-use Rattle.rules.specs.declared.step.StepAnswer.{StepAnswer}
+use Rattle.rules.specs.Answers.{is_accepted}
 use Rattle.rules.specs.declared.dispatch.Dispatched.{Dispatched}
 use Rattle.rules.specs.declared.system.System.{System}
 use Rattle.plan.specs.declared.ProcessorId.{ProcessorId}
 use Rattle.rules.specs.Numbers.{processor_id}
-use Rattle.rules.specs.Answers.{is_accepted}
-use Rattle.rules.specs.Starts.{started}
-use Rattle.rules.specs.Steps.{step, answered, step_answer, refused, accepted, performed}
-use Rattle.rules.specs.Dispatch.{dispatched, undispatched, ruled_dispatch, step_of, report_of}
-use Rattle.claim.specs.Events.{Event, ordinary, call, Happened, returned, happens, happened, mixed}
-use Rattle.claim.specs.Dispatch.{MixedDemand3}
-use Rattle.base.proofs.Tests.{tests_differ}
+use Rattle.rules.specs.Steps.{step, answered, step_answer}
+use Rattle.rules.specs.Dispatch.{dispatched, ruled_dispatch}
+use Rattle.claim.specs.Events.{Event, happens, happened}
 use Rattle.rules.specs.declared.step.Stepped.{Stepped}
 use Rattle.rules_laws.proofs.Steps.{step_refused}
 use Rattle.claim.proofs.Lists.{either}
 use Rattle.claim.proofs.Events.{dispatched_cases}
 use Rattle.claim.proofs.Dispatch.{mixed_demand_3}
 use Rattle.image.specs.Image.{rig_of, is_image}
-use Rattle.image.specs.Live.{held, Left, StartMeets, step_given, live_step, StepMeets, byte_given, live_dispatch, made_reports, dispatch_room, DispatchMeets}
+use Rattle.image.specs.Live.{held, Left, StartMeets, step_given, live_step, byte_given, live_dispatch, made_reports}
 use Rattle.live_claim.specs.Live.{LiveCall, press, ask, Made, PressMeets, AskMeets, MeetsBy, Played, last_of, event_of, events_of, reports_by, reports_of, LiveDemand3, LiveClaim}
 
 -- the rig r is in the bytes b
@@ -158,21 +149,8 @@ plays (x ∷ xs) {b} {r} h p =
     }
 
 -- a start that is answered by 0
-accepted_zero : (a : PlanAnswer) → answer_number a ≡ 0 → a ≡ Accepted
-accepted_zero Accepted e = refl
-accepted_zero (Refused x) e = absurd (refused_some x e)
-  where
-    refused_some : (x : Refusal) → refusal_number x ≡ 0 → ⊥
-    refused_some BadProcessors e = omega arith
-    refused_some BadLayout e = omega arith
-    refused_some BadInstruction e = omega arith
-    refused_some BadFinish e = omega arith
-    refused_some BadCreate e = omega arith
-    refused_some BadChannel e = omega arith
-    refused_some OutputShort e = omega arith
-    refused_some BadRepeat e = omega arith
-    refused_some RepeatedCreate e = omega arith
-    refused_some TooLong e = omega arith
+accepted_zero : (a : PlanAnswer) → answer_number a ≡ 0 → a ≡ Ok tt
+accepted_zero a e = grind (arith, e)
 
 module _ (n : ℕ) (plan before b : List ℕ) (m : StartMeets n plan before 0 b) where
   zero_start : start_number n plan ≡ 0
@@ -180,7 +158,7 @@ module _ (n : ℕ) (plan before b : List ℕ) (m : StartMeets n plan before 0 b)
       either (eqb (start_number n plan) 0) (λ e. eqb-true (start_number n plan) 0 e)
       (λ e. let q : 0 ≡ start_number n plan = rw e at m.answer in sym q)
 
-  start_accepted : start_answer n plan ≡ Accepted
+  start_accepted : start_answer n plan ≡ Ok tt
   unfolding start_number
   start_accepted = accepted_zero (start_answer n plan) zero_start
 
@@ -188,11 +166,11 @@ module _ (n : ℕ) (plan before b : List ℕ) (m : StartMeets n plan before 0 b)
   unfolding start_answer
   desks = (unless_accepted (within 1 6 n) BadProcessors (file_answer plan) start_accepted).0
 
-  file_ok : file_answer plan ≡ Accepted
+  file_ok : file_answer plan ≡ Ok tt
   unfolding start_answer
   file_ok = (unless_accepted (within 1 6 n) BadProcessors (file_answer plan) start_accepted).1
 
-  plan_ok : plan_answer (programs (plan_read plan).plan) ≡ Accepted
+  plan_ok : plan_answer (programs (plan_read plan).plan) ≡ Ok tt
   unfolding plan_read
   plan_ok = let p = file_plan_lem plan file_ok in rw (file_ok, meaning_canonical (file_programs plan) p) p
 

@@ -7,11 +7,11 @@ use native.Mathlib.Omega.{arith}
 use lib.ListN.{length, take, length-take}
 use lib.Seq.{get_or-take}
 use borrow.Author.Tests.{eqb-true, eq-eqb, not-false}
+use Rattle.std.specs.Prelude.{Ok}
 use Rattle.base.specs.Choice.{within}
 use Rattle.base.specs.Lists.{any}
 use Rattle.base.proofs.Tests.{and_left, and_right, and_both, or_neither, tests_differ, is_false, is_true, every_at, every_fails}
 use Rattle.base.proofs.Fronts.{any_front_at, any_front_here}
-use Rattle.plan.specs.declared.PlanAnswer.TheVariants.{Accepted}
 use Rattle.plan.specs.declared.TaskId.{TaskId}
 use Rattle.plan.specs.declared.Instruction.{Instruction}
 use Rattle.plan.specs.Numbers.{task_id}
@@ -28,12 +28,12 @@ use Rattle.net.proofs.Remaining.{active_short, active_task}
 use Rattle.net.proofs.NextInstruction.{program_some, next_creates}
 
 -- a task whose parent is t is one of 2 .. T
-pub child_within : (m : Programs) → plan_answer m ≡ Accepted → (t u : TaskId) → 1 ≤ t.0 → parent_of m u ≡ t → within 2 (length m) u.0 ≡ true
+pub child_within : (m : Programs) → plan_answer m ≡ Ok tt → (t u : TaskId) → 1 ≤ t.0 → parent_of m u ≡ t → within 2 (length m) u.0 ≡ true
 child_within m a t u low e =
     is_true (within 2 (length m) u.0)
     (λ w. let z : task_id 0 ≡ t = sym (no_parent m a u.0 w) ∙ e in omega (arith, ap (λ (x : TaskId). x.0) z))
 
-module _ (m : Programs) (a : plan_answer m ≡ Accepted) (s : Net) (c : Consistent m s) where
+module _ (m : Programs) (a : plan_answer m ≡ Ok tt) (s : Net) (c : Consistent m s) where
   -- whom a task is about to create is not born yet
   pub next_unborn : (t u : TaskId) → is_active m s t ≡ true → is_use op_create u.0 (next_of m s t) ≡ true → s.born u ≡ false
   unfolding is_created next_of

@@ -9,12 +9,12 @@ use native.Mathlib.Omega.{arith}
 use lib.Dec.{eqb}
 use lib.ListN.{length}
 use borrow.Author.Tests.{eq-eqb, ne_eqb}
+use Rattle.std.specs.Prelude.{Ok}
 use Rattle.base.specs.Choice.{within}
 use Rattle.base.specs.Lists.{any}
 use Rattle.base.proofs.Tests.{and_left, tests_differ, is_false, within_low, within_high, within_both}
 use Rattle.base.proofs.Fronts.{any_front_more}
 use Rattle.net.proofs.Runs.{run_keeps}
-use Rattle.plan.specs.declared.PlanAnswer.TheVariants.{Accepted}
 use Rattle.plan.specs.declared.TaskId.{TaskId}
 use Rattle.plan.specs.declared.ChannelId.{ChannelId}
 use Rattle.plan.specs.Numbers.{task_id}
@@ -45,7 +45,7 @@ pass_creates m s c t u h p =
     at : (x : TaskId) (k : ℕ) → t.0 ≡ x.0 → eqb k op_create ≡ false → (next_of m s x).opcode ≡ k → is_use op_create u.0 (next_of m s t) ≡ false
     at x k e other o = rw (same_task_lem t x e, o, other) refl
 
-module _ (m : Programs) (a : plan_answer m ≡ Accepted) (s : Net) (old : Consistent m s) where
+module _ (m : Programs) (a : plan_answer m ≡ Ok tt) (s : Net) (old : Consistent m s) where
   -- who is created after a label: also whom a task that takes part creates by it
   created_more : (l : Label) (u : TaskId) → enabled m s l ≡ true → takes_part m (parent_of m u) l ≡ true
       → is_created m (effect m s l) u ≡ is_created m s u || is_use op_create u.0 (next_of m s (parent_of m u))
@@ -119,7 +119,7 @@ module _ (m : Programs) (a : plan_answer m ≡ Accepted) (s : Net) (old : Consis
         sized = λ t. label_sized l t h;
       }
 
-start_consistent : (m : Programs) → plan_answer m ≡ Accepted → Consistent m start_net
+start_consistent : (m : Programs) → plan_answer m ≡ Ok tt → Consistent m start_net
 unfolding start_net is_created any
 start_consistent m a =
     let some = (sized m (plan_passed m a).sizes).tasks.some in
@@ -134,5 +134,5 @@ start_consistent m a =
     }
 
 -- each state that is reached from the start
-pub consistent : (m : Programs) → plan_answer m ≡ Accepted → {ls : List Label} {s : Net} → Reached m ls s → Consistent m s
+pub consistent : (m : Programs) → plan_answer m ≡ Ok tt → {ls : List Label} {s : Net} → Reached m ls s → Consistent m s
 consistent m a r = run_keeps (net m) (Consistent m) (λ s l h c. label_consistent m a s c l h) r (start_consistent m a)

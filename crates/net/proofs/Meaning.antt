@@ -6,12 +6,12 @@ use mathlib.Core.List.{List}
 use Prim.Native.Nat.{suc, ◌+◌, ◌-◌, ◌≤◌}
 use native.Mathlib.Omega.{arith}
 use lib.ListN.{length}
+use Rattle.std.specs.Prelude.{Ok}
 use Rattle.base.specs.Lists.{count}
 use Rattle.base.specs.Beginnings.{Beginning}
 use Rattle.base.proofs.Folds.{fold_same}
 use Rattle.net.specs.Machines.{Run, Normal}
 use Rattle.net.proofs.Confluence.{Rest, onward, one_normal_form}
-use Rattle.plan.specs.declared.PlanAnswer.TheVariants.{Accepted}
 use Rattle.plan.specs.declared.TaskId.{TaskId}
 use Rattle.plan.specs.declared.ChannelId.{ChannelId}
 use Rattle.plan.specs.Numbers.{task_id}
@@ -70,7 +70,7 @@ pub record Meaning (m : Programs) : Type 0 where
   pub normal : Normal (net m) end
   pub stuck : (t : TaskId) → end.born t ≡ true → is_complete m end t ≡ false → Stuck m end t
 
-pub meaning : (m : Programs) → plan_answer m ≡ Accepted → Meaning m
+pub meaning : (m : Programs) → plan_answer m ≡ Ok tt → Meaning m
 meaning m a =
     let h = reaches_normal m start_net in
     record {

@@ -6,9 +6,9 @@ use native.Mathlib.Omega.{arith}
 use lib.Dec.{eqb}
 use lib.ListN.{length}
 use borrow.Author.Tests.{eqb-true, ne_eqb}
+use Rattle.std.specs.Prelude.{Ok}
 use Rattle.base.specs.Choice.{within}
 use Rattle.base.proofs.Tests.{and_left, and_right}
-use Rattle.plan.specs.declared.PlanAnswer.TheVariants.{Accepted}
 use Rattle.plan.specs.declared.TaskId.{TaskId}
 use Rattle.plan.specs.Numbers.{task_id}
 use Rattle.plan.specs.Kinds.{op_create, is_use}
@@ -26,7 +26,7 @@ pub program_some : (m : Programs) (t : TaskId) → 1 ≤ t.0 → program_for m t
 unfolding program_for
 program_some m t h = rw (ne_eqb t.0 0 (λ e. omega arith)) refl
 
-module _ (m : Programs) (a : plan_answer m ≡ Accepted) (s : Net) (t : TaskId) (active : is_active m s t ≡ true) where
+module _ (m : Programs) (a : plan_answer m ≡ Ok tt) (s : Net) (t : TaskId) (active : is_active m s t ≡ true) where
   -- the next instruction of a task is one that the plan was accepted with
   pub next_place : s.completed t < length (program_at m (t.0 - 1))
   next_place = let (low, high) = active_task m s t active in rw (← program_some m t low) (active_short m s t active)

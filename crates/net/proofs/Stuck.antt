@@ -6,9 +6,9 @@ use native.Mathlib.Omega.{arith}
 use lib.Dec.{eqb}
 use lib.ListN.{length}
 use borrow.Author.Tests.{eqb-true, eq-eqb, not-false}
+use Rattle.std.specs.Prelude.{Ok}
 use Rattle.base.proofs.Tests.{and_right, and_both, or_cases, or_neither, first_fails, second_fails, tests_differ, is_false}
 use Rattle.net.specs.Machines.{Normal}
-use Rattle.plan.specs.declared.PlanAnswer.TheVariants.{Accepted}
 use Rattle.plan.specs.declared.TaskId.{TaskId}
 use Rattle.plan.specs.declared.ChannelId.{ChannelId}
 use Rattle.plan.specs.Numbers.{task_id, channel_id}
@@ -29,7 +29,7 @@ use Rattle.net.proofs.NextInstruction.{next_place, next_is}
 use Rattle.net.proofs.Children.{children_complete_lem, waits_for}
 
 -- who stands at a send or a receive is that end of the channel
-module _ (m : Programs) (a : plan_answer m ≡ Accepted) (s : Net) (t : TaskId) (d : ChannelId) where
+module _ (m : Programs) (a : plan_answer m ≡ Ok tt) (s : Net) (t : TaskId) (d : ChannelId) where
   module _ (k : ℕ) (here : stands_at m s t k d ≡ true) where
     used : is_use k d.0 (instruction_at (program_at m (t.0 - 1)) (s.completed t)) ≡ true
     unfolding stands_at
@@ -59,7 +59,7 @@ at_channel_lem m s t k active e =
     let i = next_of m s t in
     and_both (is_active m s t) _ active (and_both (eqb i.opcode k) _ (eq-eqb i.opcode k e) (eq-eqb i.operand i.operand refl))
 
-module _ (m : Programs) (a : plan_answer m ≡ Accepted) (s : Net) (c : Consistent m s) where
+module _ (m : Programs) (a : plan_answer m ≡ Ok tt) (s : Net) (c : Consistent m s) where
   module _ (normal : Normal (net m) s) (t : TaskId) (active : is_active m s t ≡ true) where
     stuck_sending : (next_of m s t).opcode ≡ op_send → Stuck m s t
     unfolding enabled

@@ -1,16 +1,15 @@
 -- The counts of no step, of one step more, of two lists, and of steps that all get one number; those of a panel.
-use mathlib.Core.Path.{◌≡◌, refl, sym, ap, ◌∙◌}
+use mathlib.Core.Path.{◌≡◌, refl, sym, ◌∙◌}
 use mathlib.Core.Bool.{Bool, true, false}
 use mathlib.Core.List.{List, [], ◌∷◌, ◌++◌}
-use mathlib.Core.Logic.{◌≢◌}
 use Prim.Native.Nat.{ℕ, suc, ◌+◌, ◌*◌, ◌<◌, ◌≤◌}
 use native.Mathlib.Nat.{mul_comm}
 use native.Mathlib.Omega.{arith}
 use lib.Dec.{eqb}
 use lib.ListN.{length, length-append, get_or, set, replicate}
 use borrow.Author.Tests.{eqb-true, eq-eqb, ne_eqb}
+use Rattle.std.specs.Prelude.{Ok, Err}
 use Rattle.base.specs.Choice.{pick}
-use Rattle.base.specs.Range.{sum_below}
 use Rattle.base.specs.Lists.{every, count, table}
 use Rattle.base.proofs.Choices.{pick_cases}
 use Rattle.base.proofs.Counts.{count_append}
@@ -20,10 +19,9 @@ use Rattle.base.proofs.Sums.{sum_const}
 use Rattle.base.proofs.Tables.{length_table, get_d_table, table_same, all_same, set_table}
 use Rattle.base.proofs.Tests.{and_left, and_right, and_both}
 use Rattle.rules.specs.declared.step.Step.{Step}
-use Rattle.rules.specs.declared.step.StepAnswer.{StepAnswer}
-use Rattle.rules.specs.declared.step.StepAnswer.TheVariants.{Accepted, BadSystem, NoTask, NotReady, FinishWithChildren, NetworkFull, NoMessage, NoProcessor, AlreadyThere, MoveWithChildren, MovesSpent, BadStep}
+use Rattle.rules.specs.Answers.{StepAnswer, step_number}
+use Rattle.rules.specs.declared.step.StepRefusal.TheVariants.{BadSystem, NoTask, NotReady, FinishWithChildren, NetworkFull, NoMessage, NoProcessor, AlreadyThere, MoveWithChildren, MovesSpent, BadStep}
 use Rattle.rules.specs.declared.system.System.{System}
-use Rattle.rules.specs.Answers.{step_number}
 use Rattle.rules.specs.Sound.{system_ok}
 use Rattle.rules.specs.Steps.{step_answer, move_step}
 use Rattle.rules.specs.Panel.{panel_steps, answering, countable, panel}
@@ -31,18 +29,18 @@ use Rattle.panel_laws.specs.Tallies.{tallied, all_get, moves_of, moves}
 
 -- a number of the paper's answers to steps
 pub number_few : (a : StepAnswer) → step_number a < 27
-number_few Accepted = omega arith
-number_few BadSystem = omega arith
-number_few NoTask = omega arith
-number_few NotReady = omega arith
-number_few FinishWithChildren = omega arith
-number_few NetworkFull = omega arith
-number_few NoMessage = omega arith
-number_few NoProcessor = omega arith
-number_few AlreadyThere = omega arith
-number_few MoveWithChildren = omega arith
-number_few MovesSpent = omega arith
-number_few BadStep = omega arith
+number_few (Ok tt) = omega arith
+number_few (Err BadSystem) = omega arith
+number_few (Err NoTask) = omega arith
+number_few (Err NotReady) = omega arith
+number_few (Err FinishWithChildren) = omega arith
+number_few (Err NetworkFull) = omega arith
+number_few (Err NoMessage) = omega arith
+number_few (Err NoProcessor) = omega arith
+number_few (Err AlreadyThere) = omega arith
+number_few (Err MoveWithChildren) = omega arith
+number_few (Err MovesSpent) = omega arith
+number_few (Err BadStep) = omega arith
 
 -- no more elements pass a test than there are; and all, or none
 pub count_few : {A : Type 0} (p : A → Bool) (xs : List A) → count p xs ≤ length xs

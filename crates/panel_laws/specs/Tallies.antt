@@ -5,7 +5,6 @@ use Rattle.base.specs.Range.{joined}
 use Rattle.base.specs.Lists.{table}
 use Rattle.rules.specs.declared.step.Step.{Step}
 use Rattle.rules.specs.declared.system.System.{System}
-use Rattle.rules.specs.Numbers.{network_size}
 use Rattle.rules.specs.Steps.{run_step, deliver_step, move_step}
 use Rattle.rules.specs.Panel.{answering}
 

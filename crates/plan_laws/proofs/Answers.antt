@@ -7,6 +7,7 @@ use native.Mathlib.Omega.{arith}
 use lib.ListN.{length}
 use lib.Dec.{eqb, leb}
 use borrow.Author.Tests.{leb-true, le-leb, eqb-true, eq-eqb}
+use Rattle.std.specs.Prelude.{Ok, Err}
 use Rattle.base.specs.Choice.{unless}
 use Rattle.base.specs.Range.{below, sum_below}
 use Rattle.base.specs.Lists.{every, table}
@@ -14,19 +15,18 @@ use Rattle.base.proofs.Tests.{and_left, and_right, and_both, within_low, within_
 use Rattle.base.proofs.Tables.{as_table, every_table}
 use Rattle.plan.specs.declared.Refusal.{Refusal}
 use Rattle.plan.specs.declared.Refusal.TheVariants.{BadLayout, BadInstruction}
-use Rattle.plan.specs.declared.PlanAnswer.{PlanAnswer}
-use Rattle.plan.specs.declared.PlanAnswer.TheVariants.{Accepted, Refused}
+use Rattle.plan.specs.Answers.{PlanAnswer}
 use Rattle.plan.specs.Programs.{Program, Programs, program_at}
 use Rattle.plan.specs.Layout.{offset_due, count_of}
 use Rattle.plan.specs.Refusals.{size_ok, sizes_ok, instructions_ok, structure_answer, plan_answer}
 use Rattle.plan.specs.Files.{file_tasks, file_total, file_offset, file_count, count_ok, offset_ok, layout_ok, file_programs, file_answer}
 
 -- an answer that accepts has passed the test and what comes behind it
-pub unless_accepted : (ok : Bool) (r : Refusal) (rest : PlanAnswer) → unless ok (Refused r) rest ≡ Accepted → (ok ≡ true) × (rest ≡ Accepted)
+pub unless_accepted : (ok : Bool) (r : Refusal) (rest : PlanAnswer) → unless ok (Err r) rest ≡ Ok tt → (ok ≡ true) × (rest ≡ Ok tt)
 unless_accepted true r rest h = (refl, h)
 unless_accepted false r rest h = let z : ◌≡◌ {A = ℕ} 0 1 = cc in absurd (omega arith)
 
-pub unless_passed : (ok : Bool) (r : Refusal) (rest : PlanAnswer) → ok ≡ true → rest ≡ Accepted → unless ok (Refused r) rest ≡ Accepted
+pub unless_passed : (ok : Bool) (r : Refusal) (rest : PlanAnswer) → ok ≡ true → rest ≡ Ok tt → unless ok (Err r) rest ≡ Ok tt
 unless_passed ok r rest p q = rw p q
 
 pub and_parts : (x y : Bool) → x && y ≡ true → (x ≡ true) × (y ≡ true)
@@ -36,16 +36,16 @@ and_parts x y h = (and_left x y h, and_right x y h)
 pub record PlanPassed (m : Programs) : Type 0 where
   pub sizes : sizes_ok m ≡ true
   pub instructions : instructions_ok m ≡ true
-  pub structure : structure_answer m ≡ Accepted
+  pub structure : structure_answer m ≡ Ok tt
 
-pub plan_passed : (m : Programs) → plan_answer m ≡ Accepted → PlanPassed m
+pub plan_passed : (m : Programs) → plan_answer m ≡ Ok tt → PlanPassed m
 unfolding plan_answer
 plan_passed m h =
     let (s, r) = unless_accepted (sizes_ok m) BadLayout _ h in
     let (i, t) = unless_accepted (instructions_ok m) BadInstruction _ r in
     record { sizes = s; instructions = i; structure = t }
 
-pub plan_accepted : (m : Programs) → PlanPassed m → plan_answer m ≡ Accepted
+pub plan_accepted : (m : Programs) → PlanPassed m → plan_answer m ≡ Ok tt
 unfolding plan_answer
 plan_accepted m h =
     unless_passed (sizes_ok m) BadLayout _ h.sizes (unless_passed (instructions_ok m) BadInstruction _ h.instructions h.structure)
@@ -54,16 +54,16 @@ plan_accepted m h =
 pub record FilePassed (b : List ℕ) : Type 0 where
   pub layout : layout_ok b ≡ true
   pub instructions : instructions_ok (file_programs b) ≡ true
-  pub structure : structure_answer (file_programs b) ≡ Accepted
+  pub structure : structure_answer (file_programs b) ≡ Ok tt
 
-pub file_passed : (b : List ℕ) → file_answer b ≡ Accepted → FilePassed b
+pub file_passed : (b : List ℕ) → file_answer b ≡ Ok tt → FilePassed b
 unfolding file_answer
 file_passed b h =
     let (l, r) = unless_accepted (layout_ok b) BadLayout _ h in
     let (i, t) = unless_accepted (instructions_ok (file_programs b)) BadInstruction _ r in
     record { layout = l; instructions = i; structure = t }
 
-pub file_accepted : (b : List ℕ) → FilePassed b → file_answer b ≡ Accepted
+pub file_accepted : (b : List ℕ) → FilePassed b → file_answer b ≡ Ok tt
 unfolding file_answer
 file_accepted b h =
     unless_passed (layout_ok b) BadLayout _ h.layout

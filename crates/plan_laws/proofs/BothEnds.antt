@@ -2,10 +2,10 @@
 use mathlib.Core.Path.{◌≡◌, refl, ap}
 use Prim.Native.Nat.{◌<◌}
 use native.Mathlib.Omega.{arith}
+use Rattle.std.specs.Prelude.{Ok}
 use Rattle.base.specs.Range.{fold}
 use Rattle.base.specs.Lists.{every, any, table, table_before}
 use Rattle.base.proofs.Tests.{or_cases}
-use Rattle.plan.specs.declared.PlanAnswer.TheVariants.{Accepted}
 use Rattle.plan.specs.declared.TaskId.{TaskId}
 use Rattle.plan.specs.Numbers.{channel_id}
 use Rattle.plan.specs.Kinds.{op_send, op_receive, is_use}
@@ -24,7 +24,7 @@ used_has_both_ends m a c k i l q used =
     (λ e. sender_both m a (channel_id c) (omega (arith, ap (λ (t : TaskId). t.0) (sends_on_lem m a c k i l q e))))
     (λ e. receiver_both m a (channel_id c) (omega (arith, ap (λ (t : TaskId). t.0) (receives_on_lem m a c k i l q e))))
 
-worked_accepted : plan_answer (file_programs worked) ≡ Accepted
+worked_accepted : plan_answer (file_programs worked) ≡ Ok tt
 unfolding file_programs plan_answer sizes_ok instructions_ok operand_ok finishes_ok finish_ok creates_ok channels_ok structure_answer users fold every any table table_before
 worked_accepted = refl
 

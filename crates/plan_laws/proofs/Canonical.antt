@@ -6,11 +6,11 @@ use Prim.Native.Nat.{ℕ, ◌+◌, ◌*◌, ◌/◌, ◌%◌, ◌<◌, ◌≤◌
 use native.Mathlib.Omega.{arith}
 use native.Mathlib.Decide.{dec_lt}
 use lib.ListN.{length, get_or, get_or-eq_default}
+use Rattle.std.specs.Prelude.{Ok}
 use Rattle.base.specs.Lists.{table}
 use Rattle.base.proofs.Tables.{length_table, get_d_table}
 use Rattle.plan.proofs.Parts.{tasks_of_lem, no_program_of, count_of_lem, instruction_of_lem}
 use Rattle.plan.specs.declared.Plan.{Plan}
-use Rattle.plan.specs.declared.PlanAnswer.TheVariants.{Accepted}
 use Rattle.plan.specs.Kinds.{no_instruction}
 use Rattle.plan.specs.Programs.{Programs, program_at, code_of, slot_of, program_of, programs, in_slot, canonical}
 use Rattle.plan.specs.Layout.{count_of}
@@ -30,7 +30,7 @@ pub record Fits (m : Programs) : Type 0 where
 no_program : (m : Programs) (k : ℕ) → length m ≤ k → count_of m k ≡ 0
 no_program m k l = ap length (get_or-eq_default m [] l)
 
-pub fits : (m : Programs) → plan_answer m ≡ Accepted → Fits m
+pub fits : (m : Programs) → plan_answer m ≡ Ok tt → Fits m
 fits m h =
     let s = sized m (plan_passed m h).sizes in
     record {
@@ -99,10 +99,10 @@ module _ (m : Programs) (h : Fits m) where
         no_code = empty_slot;
       }
 
-pub meaning_canonical : (m : Programs) → plan_answer m ≡ Accepted → programs (canonical m) ≡ m
+pub meaning_canonical : (m : Programs) → plan_answer m ≡ Ok tt → programs (canonical m) ≡ m
 meaning_canonical m h = fits_meaning m (fits m h)
 
-pub canonical_clear : (m : Programs) → plan_answer m ≡ Accepted → Clear (canonical m)
+pub canonical_clear : (m : Programs) → plan_answer m ≡ Ok tt → Clear (canonical m)
 canonical_clear m h = fits_clear m (fits m h)
 
 pub canonical_none_clear : Clear (canonical [])

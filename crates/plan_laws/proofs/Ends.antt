@@ -8,10 +8,10 @@ use native.Mathlib.Omega.{arith}
 use lib.ListN.{length}
 use lib.Dec.{eqb}
 use borrow.Author.Tests.{eq-eqb, not-true}
+use Rattle.std.specs.Prelude.{Ok}
 use Rattle.base.specs.Choice.{within}
 use Rattle.base.specs.Lists.{every, any}
 use Rattle.base.proofs.Tests.{and_left, tests_differ, within_low, within_high, up_to_at}
-use Rattle.plan.specs.declared.PlanAnswer.TheVariants.{Accepted}
 use Rattle.plan.specs.declared.ChannelId.{ChannelId}
 use Rattle.plan.specs.Numbers.{task_id, channel_id}
 use Rattle.plan.specs.Kinds.{op_send, op_receive, is_use}
@@ -36,7 +36,7 @@ one_swap [] (r ∷ rs) = refl
 one_swap (s ∷ ss) [] = refl
 one_swap (s ∷ ss) (r ∷ rs) = refl
 
-module _ (m : Programs) (a : plan_answer m ≡ Accepted) where
+module _ (m : Programs) (a : plan_answer m ≡ Ok tt) where
   -- the sender and the receiver of a channel
   ends : (c : ℕ) → within 1 128 c ≡ true
       → (one_task (users m op_send c) ≡ true) × (one_task (users m op_receive c) ≡ true)

@@ -5,12 +5,12 @@ use mathlib.Core.List.{List, [], ◌∷◌, ◌++◌}
 use Prim.Native.Nat.{ℕ, zero, suc, ◌+◌, ◌*◌, ◌/◌, ◌%◌, ◌<◌}
 use native.Mathlib.Omega.{arith}
 use lib.ListN.{length}
+use Rattle.std.specs.Prelude.{Ok}
 use Rattle.base.specs.Range.{fold, joined}
 use Rattle.base.specs.Lists.{every}
 use Rattle.base.proofs.Joins.{part_of_sum}
 use Rattle.base.proofs.Tests.{every_at}
 use Rattle.plan.specs.declared.Instruction.{Instruction}
-use Rattle.plan.specs.declared.PlanAnswer.TheVariants.{Accepted}
 use Rattle.plan.specs.Kinds.{no_instruction}
 use Rattle.plan.specs.Programs.{Programs, program_at, instruction_at}
 use Rattle.plan.specs.Layout.{bytes16, offset_due, count_of, total_of, head_bytes, instruction_bytes, code_bytes, layout}
@@ -72,7 +72,7 @@ module _ (m : Programs) (p : PlanPassed m) where
       bytes_joined (length g) (λ i. instruction_bytes (instruction_at g i))
       (λ i q. bytes_instruction (instruction_at g i) (instruction_small (length m) few (instruction_at g i) (every_at ok g i no_instruction q all)))
 
-pub layout_bytes : (m : Programs) → plan_answer m ≡ Accepted → Bytes (layout m)
+pub layout_bytes : (m : Programs) → plan_answer m ≡ Ok tt → Bytes (layout m)
 unfolding layout
 layout_bytes m h =
     let p = plan_passed m h in

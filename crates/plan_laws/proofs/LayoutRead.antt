@@ -4,10 +4,10 @@ use mathlib.Core.List.{List, [], ◌++◌}
 use Prim.Native.Nat.{ℕ, ◌+◌, ◌*◌, ◌/◌, ◌%◌, ◌<◌, ◌≤◌}
 use native.Mathlib.Omega.{arith}
 use lib.ListN.{length, take, drop}
+use Rattle.std.specs.Prelude.{Ok}
 use Rattle.base.specs.Range.{joined, sum_below}
 use Rattle.base.proofs.Folds.{fold_same}
 use Rattle.base.proofs.Joins.{part_of_sum}
-use Rattle.plan.specs.declared.PlanAnswer.TheVariants.{Accepted}
 use Rattle.plan.specs.Programs.{program_at, instruction_at}
 use Rattle.plan.specs.Layout.{bytes16, count_of, total_of, head_bytes, instruction_bytes, code_bytes, layout}
 use Rattle.plan.specs.Refusals.{plan_answer}
@@ -92,7 +92,7 @@ module _ (b : List ℕ) (bytes : Bytes b) (laid : Laid b) where
       λ i. start i ++ (h i ++ c i) in
       parts ∙ three_pieces b 4 (4 * file_tasks b) (4 * file_total b) laid.size
 
-pub file_plan_lem : (b : List ℕ) → file_answer b ≡ Accepted → plan_answer (file_programs b) ≡ Accepted
+pub file_plan_lem : (b : List ℕ) → file_answer b ≡ Ok tt → plan_answer (file_programs b) ≡ Ok tt
 file_plan_lem b h =
     let p = file_passed b h in
     let l = laid b p.layout in
@@ -100,5 +100,5 @@ file_plan_lem b h =
     let s : Sized (file_programs b) = record { tasks = rw (tasks_in b) l.tasks; counts = λ k q. counts k (rw (tasks_in b) at q) } in
     plan_accepted (file_programs b) (record { sizes = sized_ok (file_programs b) s; instructions = p.instructions; structure = p.structure })
 
-pub layout_read : (b : List ℕ) → Bytes b → file_answer b ≡ Accepted → (layout (file_programs b) ≡ b) × (plan_answer (file_programs b) ≡ Accepted)
+pub layout_read : (b : List ℕ) → Bytes b → file_answer b ≡ Ok tt → (layout (file_programs b) ≡ b) × (plan_answer (file_programs b) ≡ Ok tt)
 layout_read b bytes h = let p = file_passed b h in (whole_file b bytes (laid b p.layout), file_plan_lem b h)

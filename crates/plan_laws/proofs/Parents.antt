@@ -7,10 +7,10 @@ use native.Mathlib.Omega.{arith}
 use lib.ListN.{length}
 use lib.Dec.{leb}
 use borrow.Author.Tests.{leb-true, ltb-true}
+use Rattle.std.specs.Prelude.{Ok}
 use Rattle.base.specs.Choice.{within}
 use Rattle.base.specs.Lists.{every}
 use Rattle.base.proofs.Tests.{and_left, or_cases, within_low, within_high, within_both, up_to_at}
-use Rattle.plan.specs.declared.PlanAnswer.TheVariants.{Accepted}
 use Rattle.plan.specs.Numbers.{task_id}
 use Rattle.plan.specs.Kinds.{op_create, is_use}
 use Rattle.plan.specs.Programs.{Programs, program_at, instruction_at}
@@ -25,7 +25,7 @@ lower_only u [] h = let z : ◌≡◌ {A = ℕ} 0 1 = cc in absurd (omega arith)
 lower_only u (t ∷ []) h = (refl, ltb-true t u h)
 lower_only u (t ∷ s ∷ l) h = let z : ◌≡◌ {A = ℕ} 0 1 = cc in absurd (omega arith)
 
-module _ (m : Programs) (a : plan_answer m ≡ Accepted) where
+module _ (m : Programs) (a : plan_answer m ≡ Ok tt) where
   -- task u is created once, by a task of a lower number
   created : (u : ℕ) → within 2 (length m) u ≡ true
       → (users m op_create u ≡ first_of (users m op_create u) ∷ []) × (first_of (users m op_create u) < u)

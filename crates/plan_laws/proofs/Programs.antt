@@ -5,12 +5,12 @@ use mathlib.Core.List.{List, [], ◌∷◌}
 use Prim.Native.Nat.{ℕ, zero, suc, ◌≤◌, ◌<◌}
 use native.Mathlib.Omega.{arith}
 use lib.ListN.{length}
+use Rattle.std.specs.Prelude.{Ok}
 use Rattle.base.specs.Choice.{within}
 use Rattle.base.specs.Lists.{every}
 use Rattle.base.proofs.Choices.{pick_either}
 use Rattle.base.proofs.Tests.{and_left, and_right, within_high, within_both, every_at}
 use Rattle.base.proofs.Joins.{every_joined}
-use Rattle.plan.specs.declared.PlanAnswer.TheVariants.{Accepted}
 use Rattle.plan.specs.declared.Instruction.{Instruction}
 use Rattle.plan.specs.declared.Refusal.TheVariants.{BadFinish}
 use Rattle.plan.specs.Kinds.{op_create, op_send, op_receive, is_finish, is_use, no_instruction}
@@ -29,7 +29,7 @@ not_last (x ∷ y ∷ g) zero h l e = omega arith
 not_last (x ∷ y ∷ g) (suc i) h l e = omega (arith, not_last (y ∷ g) i (and_right (not (is_finish x)) (finish_ok (y ∷ g)) h) (omega arith) e)
 
 -- program k of an accepted plan, from 0
-module _ (m : Programs) (a : plan_answer m ≡ Accepted) (k : ℕ) (h : k < length m) where
+module _ (m : Programs) (a : plan_answer m ≡ Ok tt) (k : ℕ) (h : k < length m) where
   pub program_size : InRange (length (program_at m k))
   program_size = (sized m (plan_passed m a).sizes).counts k h
 

@@ -4,10 +4,10 @@ use mathlib.Core.List.{List, [], ◌++◌}
 use Prim.Native.Nat.{ℕ, ◌+◌, ◌*◌, ◌<◌, ◌≤◌}
 use native.Mathlib.Omega.{arith}
 use lib.ListN.{length, length-append}
+use Rattle.std.specs.Prelude.{Ok}
 use Rattle.base.specs.Range.{joined, sum_below}
 use Rattle.base.proofs.Folds.{fold_same}
 use Rattle.base.proofs.Joins.{length_joined}
-use Rattle.plan.specs.declared.PlanAnswer.TheVariants.{Accepted}
 use Rattle.plan.specs.Kinds.{no_instruction}
 use Rattle.plan.specs.Programs.{Program, Programs, program_at, instruction_at}
 use Rattle.plan.specs.Layout.{bytes16, offset_due, count_of, total_of, head_bytes, instruction_bytes, code_bytes, layout}
@@ -117,7 +117,7 @@ module _ (m : Programs) where
         size = rw (tasks_read, total_read) length_layout;
       }
 
-pub read_layout : (m : Programs) → plan_answer m ≡ Accepted → (file_answer (layout m) ≡ Accepted) × (file_programs (layout m) ≡ m)
+pub read_layout : (m : Programs) → plan_answer m ≡ Ok tt → (file_answer (layout m) ≡ Ok tt) × (file_programs (layout m) ≡ m)
 read_layout m h =
     let p = plan_passed m h in (
       file_accepted (layout m)

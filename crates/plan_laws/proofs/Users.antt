@@ -7,11 +7,11 @@ use native.Mathlib.Omega.{arith, by_contra}
 use lib.ListN.{length}
 use lib.Dec.{eqb}
 use borrow.Author.Tests.{eqb-true, eq-eqb}
+use Rattle.std.specs.Prelude.{Ok}
 use Rattle.base.specs.Choice.{pick, within}
 use Rattle.base.specs.Lists.{every, any}
 use Rattle.base.proofs.Tests.{and_left, and_both, or_cases}
 use Rattle.base.proofs.Joins.{part_of_sum, one_adds, length_joined, every_part, any_part}
-use Rattle.plan.specs.declared.PlanAnswer.TheVariants.{Accepted}
 use Rattle.plan.specs.declared.Refusal.TheVariants.{BadFinish, BadCreate, BadChannel}
 use Rattle.plan.specs.declared.Instruction.{Instruction}
 use Rattle.plan.specs.Kinds.{is_use}
@@ -74,7 +74,7 @@ module _ (m : Programs) (k a : ℕ) where
       let these = length_joined (length (program_at m j)) at in
       one_adds (length (program_at m j)) (λ i. length (at i)) (omega arith) i n p q (rw e (omega arith)) (rw r (omega arith))
 
-module _ (m : Programs) (a : plan_answer m ≡ Accepted) where
+module _ (m : Programs) (a : plan_answer m ≡ Ok tt) where
   -- a kind whose argument is within bounds
   module _ (k low high : ℕ)
       (bounds : (x : Instruction) → instruction_ok (length m) x ≡ true → x.opcode ≡ k → within low high x.operand ≡ true) where

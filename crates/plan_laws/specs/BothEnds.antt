@@ -1,6 +1,5 @@
 -- A channel that is used has both ends: what 6 says of an accepted plan.
-use Rattle.std.specs.Prelude.{◌≡◌, true, ◌||◌, ◌≢◌, ℕ, ◌≤◌, ◌<◌, length}
-use Rattle.plan.specs.declared.PlanAnswer.TheVariants.{Accepted}
+use Rattle.std.specs.Prelude.{◌≡◌, true, ◌||◌, ◌≢◌, ℕ, ◌≤◌, ◌<◌, length, Ok}
 use Rattle.plan.specs.declared.ChannelId.{ChannelId}
 use Rattle.plan.specs.Numbers.{channel_id}
 use Rattle.plan.specs.Kinds.{op_send, op_receive, is_use}
@@ -19,6 +18,6 @@ pub record BothEnds (m : Programs) (c : ChannelId) : Type 0 where
 -- "a channel used by a sender has a receiver, and the reverse": instruction i + 1 of task k + 1 is a send or a receive on c
 abbrev pub UsedHasBothEnds : Type 0
 UsedHasBothEnds =
-    (m : Programs) → plan_answer m ≡ Accepted → (c k i : ℕ) → k < length m → i < length (program_at m k)
+    (m : Programs) → plan_answer m ≡ Ok tt → (c k i : ℕ) → k < length m → i < length (program_at m k)
     → is_use op_send c (instruction_at (program_at m k) i) || is_use op_receive c (instruction_at (program_at m k) i) ≡ true
     → BothEnds m (channel_id c)

@@ -1,26 +1,26 @@
 -- A task goes on from a place, by the instruction that stands there.
-use mathlib.Core.Path.{◌≡◌, refl, sym, ap, ◌∙◌}
+use mathlib.Core.Path.{◌≡◌, refl, sym, ◌∙◌}
 use mathlib.Core.Bool.{Bool, true, false, not, ◌&&◌}
-use mathlib.Core.List.{List, [], ◌∷◌, ◌++◌, append_assoc, append-nil}
+use mathlib.Core.List.{[], ◌∷◌, ◌++◌, append_assoc, append-nil}
 use mathlib.Core.Logic.{by_cases}
-use Prim.Native.Nat.{ℕ, zero, suc, ◌+◌, ◌*◌, ◌-◌, ◌≤◌, ◌<◌}
+use Prim.Native.Nat.{ℕ, zero, suc, ◌-◌, ◌≤◌, ◌<◌}
 use native.Mathlib.Decide.{ℕ_discrete, dec_lt}
 use native.Mathlib.Omega.{arith}
-use lib.Dec.{eqb, ltb}
+use lib.Dec.{eqb}
 use lib.ListN.{length, take, drop, drop_of_length-le}
 use lib.Seq.{drop-cons, take-suc}
 use borrow.Author.Tests.{eqb-true, eqb-false, ne_eqb, lt-ltb, le-ltb, not-true, not-false}
-use Rattle.base.specs.Choice.{pick, within}
+use Rattle.base.specs.Choice.{pick}
 use Rattle.base.specs.Lists.{every}
 use Rattle.base.proofs.Tests.{and_left, and_right, or_cases, every_at, within_low}
 use Rattle.plan.specs.declared.Instruction.{Instruction}
 use Rattle.plan.specs.Kinds.{op_create, no_instruction}
 use Rattle.plan.specs.Programs.{Program, instruction_at}
 use Rattle.plan.specs.Repeats.{is_repeat, is_repeat_end, times, body_of, written_from, written_out}
-use Rattle.plan.specs.RepeatPlaces.{Place, place, behind_repeat, go_on}
+use Rattle.plan.specs.RepeatPlaces.{place, behind_repeat, go_on}
 use Rattle.plan.specs.RepeatRefusals.{new_instruction_ok, marks_fit, inside_after, paired_from, creates_from}
-use Rattle.repeat_laws.specs.Left.{is_outside, body_at, left_from, goings_from, goings, creates_in, Inside, Stands, is_mark, said_by, On}
-use Rattle.repeat_laws.proofs.Lists.{times_none, times_more, product_more, creates_append}
+use Rattle.repeat_laws.specs.Left.{is_outside, left_from, goings_from, goings, creates_in, Inside, Stands, is_mark, On}
+use Rattle.repeat_laws.proofs.Lists.{times_more, product_more, creates_append}
 
 -- the place behind the last repeat
 pub behind_at_most : (g : Program) (k : ℕ) → behind_repeat g k ≤ k

@@ -1,21 +1,19 @@
 -- A file without a repeat is answered as by plan check, and is written as it is.
-use mathlib.Core.Path.{◌≡◌, refl, sym, ◌∙◌}
-use mathlib.Core.Bool.{Bool, true, false, not, ◌&&◌, ◌||◌, true≢false}
-use mathlib.Core.List.{List, [], ◌∷◌, ◌++◌, map}
+use mathlib.Core.Path.{◌≡◌, refl, sym}
+use mathlib.Core.Bool.{Bool, true, false, not, ◌||◌, true≢false}
+use mathlib.Core.List.{List, [], ◌∷◌, ◌++◌}
 use Prim.Native.Nat.{ℕ, ◌<◌, ◌≤◌}
-use native.Mathlib.Omega.{arith}
-use lib.Dec.{eqb, leb}
+use lib.Dec.{leb}
 use lib.ListN.{length, drop}
-use borrow.Author.Tests.{eqb-true, leb-true, le-leb}
+use borrow.Author.Tests.{eqb-true, le-leb}
+use Rattle.std.specs.Prelude.{Ok, Err}
 use Rattle.base.specs.Choice.{unless}
 use Rattle.base.specs.Lists.{every}
 use Rattle.base.proofs.Tests.{and_left, and_right, and_both, within_high}
 use Rattle.plan.specs.declared.Instruction.{Instruction}
-use Rattle.plan.specs.declared.PlanAnswer.{PlanAnswer}
-use Rattle.plan.specs.declared.PlanAnswer.TheVariants.{Accepted, Refused}
+use Rattle.plan.specs.Answers.{PlanAnswer}
 use Rattle.plan.specs.declared.Refusal.TheVariants.{BadLayout}
 use Rattle.plan.specs.Programs.{Program, Programs}
-use Rattle.plan.specs.Layout.{layout}
 use Rattle.plan.specs.Refusals.{level_ok, size_ok, sizes_ok, operand_ok, instruction_ok, instructions_ok}
 use Rattle.plan.specs.Files.{file_tasks, layout_ok, file_programs, file_answer}
 use Rattle.plan.specs.Repeats.{op_repeat, op_repeat_end, is_repeat, is_repeat_end, written_from, written_out, written_out_plan}
@@ -138,18 +136,18 @@ module _ (b : List ℕ) where
       let allowed = all_allowed (length m) m h in
       let paired = all_of (paired_from false) plain_paired m h in
       let creates = all_of (creates_from false) plain_creates m h in
-      behind (layout_ok b) (Refused BadLayout) _ _ (λ e. rw (allowed, paired, creates, lengths h e, all_written m h) refl)
+      behind (layout_ok b) (Err BadLayout) _ _ (λ e. rw (allowed, paired, creates, lengths h e, all_written m h) refl)
 
-  pub plain_file_lem : Bytes b → without_repeats (file_programs b) ≡ true → file_answer b ≡ Accepted → converted_file b ≡ b
+  pub plain_file_lem : Bytes b → without_repeats (file_programs b) ≡ true → file_answer b ≡ Ok tt → converted_file b ≡ b
   plain_file_lem bytes h a = rw (all_written (file_programs b) h) (layout_read b bytes a).0
 
   -- a file that plan check accepts has no repeat
-  pub present_plain : file_answer b ≡ Accepted → without_repeats (file_programs b) ≡ true
+  pub present_plain : file_answer b ≡ Ok tt → without_repeats (file_programs b) ≡ true
   unfolding instructions_ok
   present_plain a = present_programs (length (file_programs b)) (file_programs b) (file_passed b a).instructions
 
   -- and is written as it is
-  pub present_output : (out : List ℕ) → Bytes b → file_answer b ≡ Accepted → length b ≤ length out → convert_output b out ≡ b ++ drop (length b) out
+  pub present_output : (out : List ℕ) → Bytes b → file_answer b ≡ Ok tt → length b ≤ length out → convert_output b out ≡ b ++ drop (length b) out
   unfolding convert_answer convert_output
   present_output out bytes a l =
       let h = present_plain a in

@@ -1,26 +1,17 @@
 -- The written-out plan of a file that has passed 3 and 21: its instructions are the present edition's, and 4 to 6 are what plan check says of it.
-use mathlib.Core.Path.{◌≡◌, refl, sym, ap, ◌∙◌}
-use mathlib.Core.Bool.{Bool, true, false, not, ◌&&◌, true≢false}
+use mathlib.Core.Path.{◌≡◌, refl, sym, ◌∙◌}
+use mathlib.Core.Bool.{Bool, true, false, not, true≢false}
 use mathlib.Core.List.{List, [], ◌∷◌, ◌++◌, map}
-use Prim.Native.Nat.{ℕ, zero, suc, ◌≤◌, ◌<◌}
-use native.Mathlib.Omega.{arith}
-use lib.Dec.{eqb, leb}
-use lib.ListN.{length, get_or, length-map}
-use borrow.Author.Tests.{eqb-true, ne_eqb, leb-true, le-leb}
-use Rattle.base.specs.Choice.{pick, unless, within}
+use Prim.Native.Nat.{ℕ, zero, suc}
+use lib.ListN.{length, length-map}
+use Rattle.base.specs.Choice.{pick}
 use Rattle.base.specs.Lists.{every}
-use Rattle.base.proofs.Tests.{and_left, and_right, and_both, and_true, every_append, every_at, within_both}
+use Rattle.base.proofs.Tests.{and_left, and_right, and_both, every_append}
 use Rattle.plan.specs.declared.Instruction.{Instruction}
-use Rattle.plan.specs.declared.PlanAnswer.TheVariants.{Accepted, Refused}
-use Rattle.plan.specs.declared.Refusal.TheVariants.{BadLayout, BadInstruction, BadFinish, BadRepeat, RepeatedCreate, TooLong}
-use Rattle.plan.specs.Programs.{Program, Programs, program_at}
-use Rattle.plan.specs.Layout.{count_of}
-use Rattle.plan.specs.Refusals.{size_ok, sizes_ok, instruction_ok, instructions_ok, finish_ok, finishes_ok, structure_answer, plan_answer}
-use Rattle.plan.specs.Files.{layout_ok, file_programs}
+use Rattle.plan.specs.Programs.{Program, Programs}
+use Rattle.plan.specs.Refusals.{instruction_ok, instructions_ok}
 use Rattle.plan.specs.Repeats.{is_repeat, is_repeat_end, times, body_of, written_from, written_out, written_out_plan}
-use Rattle.plan.specs.RepeatRefusals.{new_instruction_ok, new_instructions_ok, marks_fit, inside_after, paired_from, paired_ok, repeated_ok, lengths_ok, repeats_answer}
-use Rattle.plan.proofs.Parts.{tasks_in}
-use Rattle.plan_laws.proofs.Answers.{unless_accepted, PlanPassed, plan_accepted, plan_passed, laid, InRange, in_range_ok, Sized, sized, sized_ok}
+use Rattle.plan.specs.RepeatRefusals.{new_instruction_ok, new_instructions_ok, marks_fit, paired_from, paired_ok}
 
 -- a test of all of a list so many times in a row
 every_times : {A : Type 0} (p : A → Bool) (n : ℕ) (l : List A) → every p l ≡ true → every p (times n l) ≡ true

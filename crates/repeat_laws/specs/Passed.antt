@@ -1,7 +1,6 @@
 -- What an accepted file of the new edition has passed, and whether a written-out plan has a task left empty.
-use Rattle.std.specs.Prelude.{◌≡◌, Bool, true, List, ℕ, leb, length}
+use Rattle.std.specs.Prelude.{◌≡◌, Bool, true, List, ℕ, leb, length, Ok}
 use Rattle.base.specs.Lists.{every}
-use Rattle.plan.specs.declared.PlanAnswer.TheVariants.{Accepted}
 use Rattle.plan.specs.Programs.{Programs}
 use Rattle.plan.specs.Refusals.{structure_answer}
 use Rattle.plan.specs.Files.{layout_ok, file_programs}
@@ -18,4 +17,4 @@ pub record RepeatsPassed (b : List ℕ) : Type 0 where
   pub paired : paired_ok (file_programs b) ≡ true
   pub creates : repeated_ok (file_programs b) ≡ true
   pub lengths : lengths_ok (file_programs b) ≡ true
-  pub structure : structure_answer (written_out_plan (file_programs b)) ≡ Accepted
+  pub structure : structure_answer (written_out_plan (file_programs b)) ≡ Ok tt

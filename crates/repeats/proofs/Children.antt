@@ -1,14 +1,12 @@
 -- The children that a task has created so far: complete here where they are there.
-use mathlib.Core.Path.{◌≡◌, refl, sym, ap, ◌∙◌}
-use mathlib.Core.Bool.{Bool, true, false, not, ◌||◌, ◌&&◌}
-use mathlib.Core.List.{List, [], ◌∷◌}
-use Prim.Native.Nat.{ℕ}
+use mathlib.Core.Path.{◌≡◌, refl, sym, ◌∙◌}
+use mathlib.Core.Bool.{Bool, true, false, not, ◌&&◌}
+use mathlib.Core.List.{[], ◌∷◌}
 use lib.Dec.{eqb}
 use Rattle.base.specs.Choice.{pick}
 use Rattle.base.specs.Lists.{every}
 use Rattle.base.proofs.Tests.{and_left, and_right, and_both, or_follows}
 use Rattle.plan.specs.declared.TaskId.{TaskId}
-use Rattle.plan.specs.declared.Instruction.{Instruction}
 use Rattle.plan.specs.Numbers.{task_id}
 use Rattle.plan.specs.Kinds.{op_create}
 use Rattle.plan.specs.Programs.{Program, Programs}

@@ -1,9 +1,9 @@
 -- Each label of the machine leaves fewer goings on, so that it comes to rest.
-use mathlib.Core.Path.{◌≡◌, refl, sym, ap, subst, ◌∙◌}
-use mathlib.Core.Bool.{Bool, true, false}
+use mathlib.Core.Path.{◌≡◌, ap}
+use mathlib.Core.Bool.{true}
 use mathlib.Core.List.{List, [], ◌∷◌}
 use mathlib.Core.Logic.{◌≢◌, ◌⊎◌, inl, inr, ⊎_elim, by_cases}
-use Prim.Native.Nat.{ℕ, zero, suc, ◌+◌, ◌-◌, ◌≤◌, ◌<◌}
+use Prim.Native.Nat.{ℕ, zero, suc, ◌-◌, ◌≤◌, ◌<◌}
 use native.Mathlib.Nat.{le_refl}
 use native.Mathlib.Decide.{ℕ_discrete}
 use native.Mathlib.Omega.{arith}
@@ -15,12 +15,12 @@ use Rattle.plan.specs.declared.TaskId.{TaskId}
 use Rattle.plan.specs.declared.ChannelId.{ChannelId}
 use Rattle.plan.specs.Numbers.{task_id}
 use Rattle.plan.specs.Kinds.{op_send, op_receive}
-use Rattle.plan.specs.Programs.{Program, Programs}
+use Rattle.plan.specs.Programs.{Programs}
 use Rattle.plan.specs.Users.{sender_of, receiver_of}
 use Rattle.plan.specs.Repeats.{written_out_plan}
 use Rattle.plan.specs.RepeatPlaces.{place, go_on}
 use Rattle.plan.specs.RepeatRefusals.{new_instructions_ok}
-use Rattle.repeat_laws.specs.Left.{goings, is_mark}
+use Rattle.repeat_laws.specs.Left.{goings}
 use Rattle.net.specs.Machines.{Run, stop, take, Normal}
 use Rattle.net.specs.States.{Net, at_task}
 use Rattle.net.specs.Labels.{Label, own, pass}
@@ -31,8 +31,8 @@ use Rattle.net.proofs.Parts.{same_task_lem, own_active, sender_stands, receiver_
 use Rattle.net.proofs.Halting.{Next, Halts}
 use Rattle.net.proofs.Remaining.{active_short, active_task, reaches_normal}
 use Rattle.repeats.specs.Machine.{Repeated, place_in, repeat_effect, repeat_machine}
-use Rattle.repeats.specs.Beside.{Beside, Alike}
-use Rattle.repeats.proofs.Tasks.{plain_on, beside_less}
+use Rattle.repeats.specs.Beside.{Alike}
+use Rattle.repeats.proofs.Tasks.{beside_less}
 use Rattle.repeats.proofs.Follows.{kind_plain, program_fine, goes_plain, Follows, still, along, follows}
 
 -- how often a task goes on from where it stands, and all tasks together

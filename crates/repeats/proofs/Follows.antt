@@ -1,33 +1,31 @@
 -- A label of the machine is one of the written-out plan's net, or, at a repeat or its end, none.
 use mathlib.Core.Path.{◌≡◌, refl, sym, ap, subst, fun_ext, ◌∙◌}
-use mathlib.Core.Bool.{Bool, true, false, not, ◌||◌, ◌&&◌, or-false}
-use mathlib.Core.List.{List, [], ◌∷◌, ◌++◌}
+use mathlib.Core.Bool.{Bool, true, false, not, or-false}
+use mathlib.Core.List.{[]}
 use mathlib.Core.Logic.{◌≢◌, by_cases}
-use Prim.Native.Nat.{ℕ, suc, ◌+◌, ◌-◌, ◌≤◌, ◌<◌}
+use Prim.Native.Nat.{ℕ, suc, ◌-◌, ◌≤◌, ◌<◌}
 use native.Mathlib.Decide.{ℕ_discrete, dec_lt}
 use native.Mathlib.Omega.{arith}
-use lib.Dec.{eqb, ltb}
+use lib.Dec.{eqb}
 use lib.ListN.{length, take, get_or-eq_default}
-use borrow.Author.Tests.{eqb-true, ne_eqb, lt-ltb, le-ltb, ltb-true, ltb-false, not-true, not-false}
-use Rattle.base.specs.Choice.{pick}
+use borrow.Author.Tests.{eqb-true, ne_eqb, lt-ltb, le-ltb, ltb-false, not-true}
 use Rattle.base.specs.Lists.{every}
-use Rattle.base.specs.Updates.{updated}
 use Rattle.base.proofs.Choices.{pick_either}
 use Rattle.base.proofs.Tests.{and_left, and_right, and_both, or_cases, or_follows, every_at}
 use Rattle.base.proofs.Updates.{updated_at, updated_same, updated_other}
 use Rattle.plan.specs.declared.TaskId.{TaskId}
 use Rattle.plan.specs.declared.ChannelId.{ChannelId}
 use Rattle.plan.specs.declared.Instruction.{Instruction}
-use Rattle.plan.specs.Kinds.{op_send, op_receive, is_use}
+use Rattle.plan.specs.Kinds.{op_send, op_receive}
 use Rattle.plan.specs.Programs.{Program, Programs, program_at, instruction_at}
 use Rattle.plan.specs.Users.{sender_of, receiver_of}
 use Rattle.plan.specs.Repeats.{is_repeat, is_repeat_end, written_out, written_out_plan}
 use Rattle.plan.specs.RepeatPlaces.{Place, place, go_on}
-use Rattle.plan.specs.RepeatRefusals.{new_instruction_ok, new_instructions_ok, paired_from, creates_from, paired_ok, repeated_ok}
+use Rattle.plan.specs.RepeatRefusals.{new_instruction_ok, new_instructions_ok}
 use Rattle.repeat_laws.specs.Left.{is_mark}
-use Rattle.net.specs.States.{Net, at_task, at_channel}
-use Rattle.net.specs.Labels.{Label, own, pass, is_create, is_join, is_transfer}
-use Rattle.net.specs.Guards.{program_for, is_complete, is_active, next_of, stands_at, child_complete, children_complete, is_free, enabled}
+use Rattle.net.specs.States.{Net, at_task}
+use Rattle.net.specs.Labels.{Label, own, pass, is_join, is_transfer}
+use Rattle.net.specs.Guards.{program_for, is_complete, is_active, next_of, stands_at, children_complete, is_free, enabled}
 use Rattle.net.specs.Effects.{born_after, word_after, overflow_after, after_own, after_pass, effect}
 use Rattle.net.proofs.Parts.{same_task_lem, own_active, own_free, sender_stands, receiver_stands, stands_active, stands_opcode, ends_apart}
 use Rattle.net.proofs.Remaining.{active_short}

@@ -1,16 +1,14 @@
 -- A plan of the new edition that is accepted: every run to rest ends as the runs of its written-out plan do, and there is one.
-use mathlib.Core.Path.{◌≡◌, refl, sym, ap, subst, ◌∙◌}
+use mathlib.Core.Path.{◌≡◌, refl, sym, subst}
 use mathlib.Core.Bool.{Bool, true, false}
 use mathlib.Core.List.{List, [], ◌∷◌, ◌++◌}
-use Prim.Native.Nat.{ℕ}
-use Rattle.base.specs.Lists.{every}
-use Rattle.plan.specs.declared.PlanAnswer.TheVariants.{Accepted}
+use Rattle.std.specs.Prelude.{Ok}
 use Rattle.plan.specs.declared.TaskId.{TaskId}
 use Rattle.plan.specs.Programs.{Programs}
 use Rattle.plan.specs.Refusals.{plan_answer}
 use Rattle.plan.specs.Repeats.{written_out_plan}
 use Rattle.plan.specs.RepeatRefusals.{new_instructions_ok, paired_from, creates_from, paired_ok, repeated_ok}
-use Rattle.net.specs.Machines.{Run, stop, take, Normal}
+use Rattle.net.specs.Machines.{stop, take, Normal}
 use Rattle.net.specs.States.{Net, start_net}
 use Rattle.net.specs.Labels.{Label}
 use Rattle.net.specs.Guards.{is_complete, enabled}
@@ -20,8 +18,8 @@ use Rattle.net.proofs.Runs.{run_append, run_keeps}
 use Rattle.net.proofs.Halting.{Halts}
 use Rattle.net.proofs.Consistent.{consistent}
 use Rattle.net.proofs.Meaning.{same_end}
-use Rattle.repeats.specs.Machine.{Repeated, start_repeated, place_in, repeat_effect, repeat_machine, RepeatReached}
-use Rattle.repeats.specs.Beside.{Beside, Alike}
+use Rattle.repeats.specs.Machine.{Repeated, start_repeated, repeat_effect, repeat_machine, RepeatReached}
+use Rattle.repeats.specs.Beside.{Alike}
 use Rattle.repeats.proofs.Tasks.{beside_start}
 use Rattle.repeats.proofs.Follows.{program_all, complete_follows, Follows, still, along, follows}
 use Rattle.repeats.proofs.Rests.{complete_here, normal_there}
@@ -73,7 +71,7 @@ module _ (m : Programs) (fine : new_instructions_ok m ≡ true) (paired : paired
   repeats_rest = comes_to_rest m fine start_repeated start_net start_alike
 
   -- and each ends where those of the written-out plan end
-  module _ (accepted : plan_answer (written_out_plan m) ≡ Accepted) {ls : List Label} {s : Repeated} (r : RepeatReached m ls s) (normal : Normal (repeat_machine m) s) where
+  module _ (accepted : plan_answer (written_out_plan m) ≡ Ok tt) {ls : List Label} {s : Repeated} (r : RepeatReached m ls s) (normal : Normal (repeat_machine m) s) where
     rests_there : Normal (net (written_out_plan m)) (twin r).state
     rests_there =
         normal_there m fine accepted s (twin r).state (twin r).alike (consistent (written_out_plan m) accepted (twin r).reached) normal

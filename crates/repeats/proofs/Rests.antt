@@ -1,40 +1,37 @@
 -- Where no label of the machine may be taken, none of the written-out plan's net may.
-use mathlib.Core.Path.{◌≡◌, refl, sym, ap, subst, ◌∙◌}
-use mathlib.Core.Bool.{Bool, true, false, not, ◌||◌, ◌&&◌}
-use mathlib.Core.List.{List, []}
+use mathlib.Core.Path.{◌≡◌, refl, ap}
+use mathlib.Core.Bool.{Bool, true, false, not}
+use mathlib.Core.List.{[]}
 use mathlib.Core.Logic.{by_cases}
-use Prim.Native.Nat.{ℕ, suc, ◌+◌, ◌-◌, ◌≤◌, ◌<◌}
+use Prim.Native.Nat.{ℕ, ◌-◌, ◌≤◌, ◌<◌}
 use native.Mathlib.Decide.{ℕ_discrete, dec_lt}
 use native.Mathlib.Omega.{arith}
-use lib.Dec.{eqb, ltb}
 use lib.ListN.{length, take, length-map, get_or-eq_default}
 use borrow.Author.Tests.{eq-eqb, ne_eqb, lt-ltb, le-ltb, ltb-false, not-true}
-use Rattle.base.proofs.Tests.{and_left, and_right, and_both, or_follows, is_false, is_true, tests_differ}
-use Rattle.plan.specs.declared.PlanAnswer.TheVariants.{Accepted}
+use Rattle.std.specs.Prelude.{Ok}
+use Rattle.base.proofs.Tests.{and_left, and_right, and_both, or_follows, is_false, tests_differ}
 use Rattle.plan.specs.declared.TaskId.{TaskId}
 use Rattle.plan.specs.declared.ChannelId.{ChannelId}
-use Rattle.plan.specs.declared.Instruction.{Instruction}
-use Rattle.plan.specs.Kinds.{op_send, op_receive, is_use}
-use Rattle.plan.specs.Programs.{Program, Programs, program_at, instruction_at}
+use Rattle.plan.specs.Kinds.{op_send, op_receive}
+use Rattle.plan.specs.Programs.{Program, Programs}
 use Rattle.plan.specs.Refusals.{plan_answer}
 use Rattle.plan.specs.Users.{sender_of, receiver_of}
-use Rattle.plan.specs.Repeats.{is_repeat, is_repeat_end, written_out, written_out_plan}
-use Rattle.plan.specs.RepeatPlaces.{place}
+use Rattle.plan.specs.Repeats.{written_out, written_out_plan}
 use Rattle.plan.specs.RepeatRefusals.{new_instructions_ok}
 use Rattle.plan_laws.proofs.Programs.{program_size}
 use Rattle.repeat_laws.specs.Left.{is_mark}
 use Rattle.net.specs.Machines.{Normal}
 use Rattle.net.specs.States.{Net}
 use Rattle.net.specs.Consistent.{Consistent}
-use Rattle.net.specs.Labels.{Label, own, pass, is_create, is_join, is_transfer}
+use Rattle.net.specs.Labels.{own, pass, is_join, is_transfer}
 use Rattle.net.specs.Guards.{program_for, is_complete, is_active, next_of, stands_at, children_complete, is_free, enabled}
 use Rattle.net.specs.Nets.{net}
 use Rattle.net.proofs.Parts.{own_active, own_free, sender_stands, receiver_stands, stands_active}
-use Rattle.net.proofs.Remaining.{active_short, active_task}
+use Rattle.net.proofs.Remaining.{active_short}
 use Rattle.net.proofs.NextInstruction.{program_some}
-use Rattle.repeats.specs.Machine.{Repeated, place_in, repeat_machine}
-use Rattle.repeats.specs.Beside.{Beside, Alike}
-use Rattle.repeats.proofs.Tasks.{beside_end, beside_more, beside_short, beside_same}
+use Rattle.repeats.specs.Machine.{Repeated, repeat_machine}
+use Rattle.repeats.specs.Beside.{Alike}
+use Rattle.repeats.proofs.Tasks.{beside_more, beside_short, beside_same}
 use Rattle.repeats.proofs.Ends.{program_written, same_sender, same_receiver}
 use Rattle.repeats.proofs.Children.{children_follow}
 use Rattle.repeats.proofs.Follows.{mark_kind, program_fine}
@@ -48,7 +45,7 @@ none_past : (m : Programs) (u : TaskId) → (u.0 ≡ 0 → ⊥) → length m ≤
 unfolding program_for
 none_past m u ne h = rw (ne_eqb u.0 0 ne) (ap length (get_or-eq_default m [] {n = u.0 - 1} h))
 
-module _ (m : Programs) (fine : new_instructions_ok m ≡ true) (accepted : plan_answer (written_out_plan m) ≡ Accepted) (s : Repeated) (n : Net) (a : Alike m s n)
+module _ (m : Programs) (fine : new_instructions_ok m ≡ true) (accepted : plan_answer (written_out_plan m) ≡ Ok tt) (s : Repeated) (n : Net) (a : Alike m s n)
     (kept : Consistent (written_out_plan m) n) (normal : Normal (repeat_machine m) s) where
   -- a born task that is not at its program's end stands at neither a repeat nor its end: it could go on
   plain_here : (t : TaskId) → n.born t ≡ true → s.net.completed t < length (program_for m t) → is_mark (next_of m s.net t) ≡ false

@@ -1,9 +1,9 @@
 -- A task at a place beside the instructions that it has completed.
 use mathlib.Core.Path.{◌≡◌, refl, sym, ap, subst, ◌∙◌}
-use mathlib.Core.Bool.{Bool, true, false, ◌||◌}
-use mathlib.Core.List.{List, [], ◌∷◌, ◌++◌, append-nil}
+use mathlib.Core.Bool.{true, false}
+use mathlib.Core.List.{[], ◌∷◌, append-nil}
 use mathlib.Core.Logic.{by_cases}
-use Prim.Native.Nat.{ℕ, suc, ◌+◌, ◌≤◌, ◌<◌}
+use Prim.Native.Nat.{ℕ, suc, ◌≤◌, ◌<◌}
 use native.Mathlib.Decide.{dec_lt}
 use native.Mathlib.Omega.{arith}
 use lib.ListN.{length, get_or, take, drop, length-drop, drop_of_length-le}
@@ -16,7 +16,7 @@ use Rattle.plan.specs.Programs.{Program, instruction_at}
 use Rattle.plan.specs.Repeats.{is_repeat, is_repeat_end, written_out}
 use Rattle.plan.specs.RepeatPlaces.{Place, place, go_on}
 use Rattle.plan.specs.RepeatRefusals.{new_instruction_ok, paired_from, creates_from}
-use Rattle.repeat_laws.specs.Left.{left_from, goings, creates_in, Stands, is_mark, said_by, On}
+use Rattle.repeat_laws.specs.Left.{left_from, goings, creates_in, is_mark, On}
 use Rattle.repeat_laws.proofs.Lists.{creates_append}
 use Rattle.repeat_laws.proofs.Going.{goes_on, starts, left_start, left_end}
 use Rattle.repeats.specs.Beside.{Beside}

@@ -1,10 +1,8 @@
 -- A state of the machine of a plan of the new edition beside one of its written-out plan's net.
-use Rattle.std.specs.Prelude.{◌≡◌, Bool, true, List, ℕ, ◌≤◌, length, take, drop}
-use Rattle.base.specs.Lists.{every}
+use Rattle.std.specs.Prelude.{◌≡◌, ℕ, ◌≤◌, length, take, drop}
 use Rattle.plan.specs.declared.TaskId.{TaskId}
-use Rattle.plan.specs.declared.ChannelId.{ChannelId}
 use Rattle.plan.specs.Programs.{Program, Programs}
-use Rattle.plan.specs.Repeats.{written_out, written_out_plan}
+use Rattle.plan.specs.Repeats.{written_out}
 use Rattle.plan.specs.RepeatPlaces.{Place}
 use Rattle.net.specs.States.{Net}
 use Rattle.net.specs.Guards.{program_for}

@@ -4,6 +4,7 @@ use mathlib.Core.Bool.{Bool}
 use mathlib.Core.List.{List, [], ◌∷◌}
 use Prim.Native.Nat.{ℕ, suc, ◌≤◌}
 use lib.Dec.{eqb}
+use Rattle.std.specs.Prelude.{Ok}
 use Rattle.base.proofs.Choices.{pick_cases, pick_either}
 use Rattle.plan.specs.declared.TaskId.{TaskId}
 use Rattle.plan.specs.declared.ProcessorId.{ProcessorId}
@@ -19,7 +20,6 @@ use Rattle.rules.specs.declared.message.Network.{Network}
 use Rattle.rules.specs.declared.message.Message.TheVariants.{Empty, Offered, Advert, ReadyToReceive, Data, Terminated, Migration}
 use Rattle.rules.specs.declared.rule.Outcome.{Outcome}
 use Rattle.rules.specs.declared.step.Step.{Step}
-use Rattle.rules.specs.declared.step.StepAnswer.TheVariants.{Accepted}
 use Rattle.rules.specs.declared.system.ParentEntry.{ParentEntry}
 use Rattle.rules.specs.declared.system.System.{System}
 use Rattle.rules.specs.Numbers.{task_id, processor_id, channel_id}
@@ -143,7 +143,7 @@ module _ (P : System → Type 0) (k : Kept P) where
   unfolding completed
   completed_keeps e h = k.join e.system _ h
 
-  performed_keeps : (r : System) (s : Step) → step_answer r s ≡ Accepted → P r → P (performed r s).system
+  performed_keeps : (r : System) (s : Step) → step_answer r s ≡ Ok tt → P r → P (performed r s).system
   unfolding performed
   performed_keeps r s a h =
       let Q : Effect → Type 0 = λ e. P e.system in

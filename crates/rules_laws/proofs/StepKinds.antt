@@ -4,11 +4,13 @@ use mathlib.Core.Bool.{true, false}
 use Prim.Native.Nat.{ℕ, ◌≤◌}
 use native.Mathlib.Omega.{arith}
 use borrow.Author.Tests.{eqb-true, ne_eqb}
+use Rattle.std.specs.Prelude.{Ok, Err}
 use Rattle.base.specs.Choice.{within}
 use Rattle.base.proofs.Tests.{within_low, within_high}
+use Rattle.base.proofs.Answers.{err_not_ok}
 use Rattle.base.proofs.Choices.{unless_not_refused}
 use Rattle.rules.specs.declared.step.Step.{Step}
-use Rattle.rules.specs.declared.step.StepAnswer.TheVariants.{Accepted, NoMessage}
+use Rattle.rules.specs.declared.step.StepRefusal.TheVariants.{NoMessage}
 use Rattle.rules.specs.declared.system.System.{System}
 use Rattle.rules.specs.Numbers.{task_id, processor_id}
 use Rattle.rules.specs.Runs.{ran, run_answer}
@@ -57,8 +59,8 @@ module _ (r : System) (s : Step) where
     performed_move = rw (neither_run, nor_deliver) refl
 
 -- a letter is there
-pub deliver_passed : (r : System) (p : ℕ) → deliver_answer r p ≡ Accepted → (1 ≤ p) × (p ≤ r.network.used)
+pub deliver_passed : (r : System) (p : ℕ) → deliver_answer r p ≡ Ok tt → (1 ≤ p) × (p ≤ r.network.used)
 unfolding deliver_answer
 deliver_passed r p h =
-    let (w, _) = unless_not_refused (within 1 r.network.used p) NoMessage Accepted Accepted (λ e. let z : ◌≡◌ {A = ℕ} 0 1 = cc in omega arith) h in
+    let (w, _) = unless_not_refused (within 1 r.network.used p) (Err NoMessage) (Ok tt) (Ok tt) (err_not_ok _ _) h in
     (within_low 1 r.network.used p w, within_high 1 r.network.used p w)

@@ -4,11 +4,13 @@ use mathlib.Core.Bool.{Bool, true, false}
 use mathlib.Core.List.{List, [], ◌∷◌, ◌++◌, append_assoc}
 use Prim.Native.Nat.{ℕ}
 use native.Mathlib.Omega.{arith}
+use Rattle.std.specs.Prelude.{Ok, Err}
+use Rattle.base.proofs.Answers.{err_not_ok}
 use Rattle.base.proofs.Choices.{unless_not_refused}
 use Rattle.plan.specs.declared.ChannelId.{ChannelId}
 use Rattle.rules.specs.declared.step.Step.{Step}
-use Rattle.rules.specs.declared.step.StepAnswer.{StepAnswer}
-use Rattle.rules.specs.declared.step.StepAnswer.TheVariants.{Accepted, BadSystem, NoTask, NotReady, FinishWithChildren, NetworkFull, NoMessage, NoProcessor, AlreadyThere, MoveWithChildren, MovesSpent, BadStep}
+use Rattle.rules.specs.Answers.{StepAnswer}
+use Rattle.rules.specs.declared.step.StepRefusal.TheVariants.{BadSystem, NoTask, NotReady, FinishWithChildren, NetworkFull, NoMessage, NoProcessor, AlreadyThere, MoveWithChildren, MovesSpent, BadStep}
 use Rattle.rules.specs.declared.step.Report.{Report}
 use Rattle.rules.specs.declared.step.Stepped.{Stepped}
 use Rattle.rules.specs.declared.system.System.{System}
@@ -17,32 +19,32 @@ use Rattle.rules.specs.Sound.{system_ok}
 use Rattle.rules.specs.Steps.{well_formed, kind_answer, ruled_answer, step_answer, performed, refused, accepted, answered, step, ruled_step, steps_by, word_on, received_on}
 
 -- only one answer has number 0
-pub accepted_is : (a : StepAnswer) → is_accepted a ≡ true → a ≡ Accepted
-accepted_is Accepted h = refl
-accepted_is BadSystem h = cc
-accepted_is NoTask h = cc
-accepted_is NotReady h = cc
-accepted_is FinishWithChildren h = cc
-accepted_is NetworkFull h = cc
-accepted_is NoMessage h = cc
-accepted_is NoProcessor h = cc
-accepted_is AlreadyThere h = cc
-accepted_is MoveWithChildren h = cc
-accepted_is MovesSpent h = cc
-accepted_is BadStep h = cc
+pub accepted_is : (a : StepAnswer) → is_accepted a ≡ true → a ≡ Ok tt
+accepted_is (Ok tt) h = refl
+accepted_is (Err BadSystem) h = cc
+accepted_is (Err NoTask) h = cc
+accepted_is (Err NotReady) h = cc
+accepted_is (Err FinishWithChildren) h = cc
+accepted_is (Err NetworkFull) h = cc
+accepted_is (Err NoMessage) h = cc
+accepted_is (Err NoProcessor) h = cc
+accepted_is (Err AlreadyThere) h = cc
+accepted_is (Err MoveWithChildren) h = cc
+accepted_is (Err MovesSpent) h = cc
+accepted_is (Err BadStep) h = cc
 
 module _ (r : System) (s : Step) where
   pub step_refused : (a : StepAnswer) → step_answer r s ≡ a → is_accepted a ≡ false → step r s ≡ refused r a
   unfolding step answered
   step_refused a e h = rw (e, h) refl
 
-  pub step_accepted : step_answer r s ≡ Accepted → step r s ≡ accepted (performed r s)
+  pub step_accepted : step_answer r s ≡ Ok tt → step r s ≡ accepted (performed r s)
   unfolding step answered
   step_accepted e = rw e refl
 
   -- what holds of each refusal and of the acceptance holds of the step
   pub step_cases : (P : Stepped → Type 0) → (is_accepted (step_answer r s) ≡ false → P (refused r (step_answer r s)))
-      → (step_answer r s ≡ Accepted → P (accepted (performed r s)))
+      → (step_answer r s ≡ Ok tt → P (accepted (performed r s)))
       → P (step r s)
   step_cases P f g = go (is_accepted (step_answer r s)) refl
     where
@@ -63,13 +65,13 @@ step_answer_lem r s = step_cases r s (λ o. o.report.answer ≡ step_answer r s)
 pub record StepPassed (r : System) (s : Step) : Type 0 where
   pub system : system_ok r ≡ true
   pub form : well_formed s ≡ true
-  pub rule : kind_answer r s ≡ Accepted
+  pub rule : kind_answer r s ≡ Ok tt
 
-pub step_passed : (r : System) (s : Step) → step_answer r s ≡ Accepted → StepPassed r s
+pub step_passed : (r : System) (s : Step) → step_answer r s ≡ Ok tt → StepPassed r s
 unfolding step_answer ruled_answer
 step_passed r s h =
-    let (o, h₁) = unless_not_refused (system_ok r) BadSystem _ Accepted (λ e. let z : ◌≡◌ {A = ℕ} 0 1 = cc in omega arith) h in
-    let (f, a) = unless_not_refused (well_formed s) BadStep (kind_answer r s) Accepted (λ e. let z : ◌≡◌ {A = ℕ} 0 1 = cc in omega arith) h₁ in
+    let (o, h₁) = unless_not_refused (system_ok r) (Err BadSystem) _ (Ok tt) (err_not_ok _ _) h in
+    let (f, a) = unless_not_refused (well_formed s) (Err BadStep) (kind_answer r s) (Ok tt) (err_not_ok _ _) h₁ in
     record { system = o; form = f; rule = a }
 
 -- steps, then more steps, one by one in any way

@@ -5,14 +5,15 @@ use mathlib.Core.Logic.{◌≢◌}
 use Prim.Native.Nat.{ℕ}
 use lib.Dec.{eqb}
 use borrow.Author.Tests.{eqb-true, eqb-false, not-true}
+use Rattle.std.specs.Prelude.{Ok, Err}
 use Rattle.base.specs.Choice.{unless, within}
 use Rattle.base.proofs.Choices.{pick_either, unless_not_refused}
 use Rattle.plan.specs.declared.TaskId.{TaskId}
 use Rattle.plan.specs.declared.ProcessorId.{ProcessorId}
 use Rattle.rules.specs.declared.task.TaskState.TheVariants.{Ready}
 use Rattle.rules.specs.declared.step.Step.{Step}
-use Rattle.rules.specs.declared.step.StepAnswer.{StepAnswer}
-use Rattle.rules.specs.declared.step.StepAnswer.TheVariants.{Accepted, BadSystem, NoTask, NotReady, FinishWithChildren, NetworkFull, NoMessage, NoProcessor, AlreadyThere, MovesSpent, BadStep}
+use Rattle.rules.specs.Answers.{StepAnswer}
+use Rattle.rules.specs.declared.step.StepRefusal.TheVariants.{BadSystem, NoTask, NotReady, FinishWithChildren, NetworkFull, NoMessage, NoProcessor, AlreadyThere, MovesSpent, BadStep}
 use Rattle.rules.specs.declared.system.System.{System}
 use Rattle.rules.specs.Numbers.{task_id, processor_id}
 use Rattle.rules.specs.Answers.{step_number}
@@ -25,8 +26,8 @@ use Rattle.rules.specs.Sound.{system_ok}
 use Rattle.rules.specs.Steps.{is_run, is_deliver, well_formed, kind_answer, ruled_answer, step_answer}
 
 -- an answer of another number is no acceptance
-passed : (ok : Bool) (a rest : StepAnswer) → eqb (step_number a) 0 ≡ false → unless ok a rest ≡ Accepted → (ok ≡ true) × (rest ≡ Accepted)
-passed ok a rest z h = unless_not_refused ok a rest Accepted (λ e. eqb-false (step_number a) 0 z (ap step_number e)) h
+passed : (ok : Bool) (a rest : StepAnswer) → eqb (step_number a) 0 ≡ false → unless ok a rest ≡ Ok tt → (ok ≡ true) × (rest ≡ Ok tt)
+passed ok a rest z h = unless_not_refused ok a rest (Ok tt) (λ e. eqb-false (step_number a) 0 z (ap step_number e)) h
 
 pub record RunPassed (r : System) (t : TaskId) : Type 0 where
   pub task : within 1 r.plan.tasks t.0 ≡ true
@@ -34,13 +35,13 @@ pub record RunPassed (r : System) (t : TaskId) : Type 0 where
   pub timely : finishes_early r t ≡ false
   pub fitting : fits r (ran r t) ≡ true
 
-pub run_passed : (r : System) (t : TaskId) → run_answer r t ≡ Accepted → RunPassed r t
+pub run_passed : (r : System) (t : TaskId) → run_answer r t ≡ Ok tt → RunPassed r t
 unfolding run_answer
 run_passed r t h =
-    let (i, h₁) = passed (within 1 r.plan.tasks t.0) NoTask _ refl h in
-    let (y, h₂) = passed (is_in Ready (task_at r t)) NotReady _ refl h₁ in
-    let (e, h₃) = passed (not (finishes_early r t)) FinishWithChildren _ refl h₂ in
-    let (f, _) = passed (fits r (ran r t)) NetworkFull Accepted refl h₃ in
+    let (i, h₁) = passed (within 1 r.plan.tasks t.0) (Err NoTask) _ refl h in
+    let (y, h₂) = passed (is_in Ready (task_at r t)) (Err NotReady) _ refl h₁ in
+    let (e, h₃) = passed (not (finishes_early r t)) (Err FinishWithChildren) _ refl h₂ in
+    let (f, _) = passed (fits r (ran r t)) (Err NetworkFull) (Ok tt) refl h₃ in
     record { task = i; ready = y; timely = not-true _ e; fitting = f }
 
 pub record MovePassed (r : System) (t : TaskId) (e : ProcessorId) : Type 0 where
@@ -51,28 +52,28 @@ pub record MovePassed (r : System) (t : TaskId) (e : ProcessorId) : Type 0 where
   pub count : eqb (task_at r t).moves 9999 ≡ false
   pub fitting : fits r (moved r t e) ≡ true
 
-pub move_passed : (r : System) (t : TaskId) (e : ProcessorId) → move_answer r t e ≡ Accepted → MovePassed r t e
+pub move_passed : (r : System) (t : TaskId) (e : ProcessorId) → move_answer r t e ≡ Ok tt → MovePassed r t e
 unfolding move_answer
 move_passed r t e h =
-    let (i, h₁) = passed (within 1 r.plan.tasks t.0) NoTask _ refl h in
-    let (d, h₂) = passed (within 1 r.processors e.0) NoProcessor _ refl h₁ in
-    let (y, h₃) = passed (is_in Ready (task_at r t)) NotReady _ refl h₂ in
-    let (a, h₄) = passed (not (is_at e (task_at r t))) AlreadyThere _ refl h₃ in
-    let (k, h₅) = passed (not (eqb (task_at r t).moves 9999)) MovesSpent _ refl h₄ in
-    let (f, _) = passed (fits r (moved r t e)) NetworkFull Accepted refl h₅ in
+    let (i, h₁) = passed (within 1 r.plan.tasks t.0) (Err NoTask) _ refl h in
+    let (d, h₂) = passed (within 1 r.processors e.0) (Err NoProcessor) _ refl h₁ in
+    let (y, h₃) = passed (is_in Ready (task_at r t)) (Err NotReady) _ refl h₂ in
+    let (a, h₄) = passed (not (is_at e (task_at r t))) (Err AlreadyThere) _ refl h₃ in
+    let (k, h₅) = passed (not (eqb (task_at r t).moves 9999)) (Err MovesSpent) _ refl h₄ in
+    let (f, _) = passed (fits r (moved r t e)) (Err NetworkFull) (Ok tt) refl h₅ in
     record { task = i; processor = d; ready = y; elsewhere = not-true _ a; count = not-true _ k; fitting = f }
 
 -- what holds of every answer but 9, 17 and 18
 pub record Answers (P : StepAnswer → Type 0) : Type 0 where
-  pub accepted : P Accepted
-  pub no_task_lem : P NoTask
-  pub not_ready : P NotReady
-  pub finish_with_children : P FinishWithChildren
-  pub network_full : P NetworkFull
-  pub no_message : P NoMessage
-  pub no_processor_lem : P NoProcessor
-  pub already_there : P AlreadyThere
-  pub bad_step : P BadStep
+  pub accepted : P (Ok tt)
+  pub no_task_lem : P (Err NoTask)
+  pub not_ready : P (Err NotReady)
+  pub finish_with_children : P (Err FinishWithChildren)
+  pub network_full : P (Err NetworkFull)
+  pub no_message : P (Err NoMessage)
+  pub no_processor_lem : P (Err NoProcessor)
+  pub already_there : P (Err AlreadyThere)
+  pub bad_step : P (Err BadStep)
 
 -- holds of the answer of a rig that 9 does not refuse, if it holds of 18 where the task has that count
 module _ (r : System) (P : StepAnswer → Type 0) (all : Answers P) where
@@ -83,34 +84,34 @@ module _ (r : System) (P : StepAnswer → Type 0) (all : Answers P) where
   run_either : (t : TaskId) → P (run_answer r t)
   unfolding run_answer
   run_either t =
-      either (within 1 r.plan.tasks t.0) NoTask _ all.no_task_lem
-      (either (is_in Ready (task_at r t)) NotReady _ all.not_ready
-      (either (not (finishes_early r t)) FinishWithChildren _ all.finish_with_children
-      (either (fits r (ran r t)) NetworkFull Accepted all.network_full all.accepted)))
+      either (within 1 r.plan.tasks t.0) (Err NoTask) _ all.no_task_lem
+      (either (is_in Ready (task_at r t)) (Err NotReady) _ all.not_ready
+      (either (not (finishes_early r t)) (Err FinishWithChildren) _ all.finish_with_children
+      (either (fits r (ran r t)) (Err NetworkFull) (Ok tt) all.network_full all.accepted)))
 
   deliver_either : (p : ℕ) → P (deliver_answer r p)
   unfolding deliver_answer
-  deliver_either p = either (within 1 r.network.used p) NoMessage Accepted all.no_message all.accepted
+  deliver_either p = either (within 1 r.network.used p) (Err NoMessage) (Ok tt) all.no_message all.accepted
 
-  move_either : (t : TaskId) (e : ProcessorId) → ((task_at r t).moves ≡ 9999 → P MovesSpent) → P (move_answer r t e)
+  move_either : (t : TaskId) (e : ProcessorId) → ((task_at r t).moves ≡ 9999 → P (Err MovesSpent)) → P (move_answer r t e)
   unfolding move_answer
   move_either t e spent =
-      let rest = either (fits r (moved r t e)) NetworkFull Accepted all.network_full all.accepted in
-      either (within 1 r.plan.tasks t.0) NoTask _ all.no_task_lem
-      (either (within 1 r.processors e.0) NoProcessor _ all.no_processor_lem
-      (either (is_in Ready (task_at r t)) NotReady _ all.not_ready
-      (either (not (is_at e (task_at r t))) AlreadyThere _ all.already_there
-      (count (eqb (task_at r t).moves 9999) refl (unless (fits r (moved r t e)) NetworkFull Accepted) rest))))
+      let rest = either (fits r (moved r t e)) (Err NetworkFull) (Ok tt) all.network_full all.accepted in
+      either (within 1 r.plan.tasks t.0) (Err NoTask) _ all.no_task_lem
+      (either (within 1 r.processors e.0) (Err NoProcessor) _ all.no_processor_lem
+      (either (is_in Ready (task_at r t)) (Err NotReady) _ all.not_ready
+      (either (not (is_at e (task_at r t))) (Err AlreadyThere) _ all.already_there
+      (count (eqb (task_at r t).moves 9999) refl (unless (fits r (moved r t e)) (Err NetworkFull) (Ok tt)) rest))))
     where
-      count : (b : Bool) → eqb (task_at r t).moves 9999 ≡ b → (a : StepAnswer) → P a → P (unless (not b) MovesSpent a)
+      count : (b : Bool) → eqb (task_at r t).moves 9999 ≡ b → (a : StepAnswer) → P a → P (unless (not b) (Err MovesSpent) a)
       count true f a p = spent (eqb-true (task_at r t).moves 9999 f)
       count false f a p = p
 
-  pub each_answer : (s : Step) → system_ok r ≡ true → ((task_at r (task_id s.task)).moves ≡ 9999 → P MovesSpent) → P (step_answer r s)
+  pub each_answer : (s : Step) → system_ok r ≡ true → ((task_at r (task_id s.task)).moves ≡ 9999 → P (Err MovesSpent)) → P (step_answer r s)
   unfolding step_answer ruled_answer kind_answer
   each_answer s h spent =
       rw h
-      (either (well_formed s) BadStep _ all.bad_step
+      (either (well_formed s) (Err BadStep) _ all.bad_step
       (pick_either P (is_run s) _ _ (run_either (task_id s.task))
       (pick_either P (is_deliver s) _ _ (deliver_either s.number) (move_either (task_id s.task) (processor_id s.number) spent))))
 
@@ -138,5 +139,5 @@ module _ (r : System) (s : Step) (ok : system_ok r ≡ true) where
       others : Answers (Other 18)
       others = search
 
-  pub not_bad : step_answer r s ≢ BadSystem
+  pub not_bad : step_answer r s ≢ Err BadSystem
   not_bad e = eqb-false (step_number (step_answer r s)) 9 number_not_9 (ap step_number e)

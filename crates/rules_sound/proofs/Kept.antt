@@ -6,6 +6,7 @@ use Prim.Native.Nat.{ℕ, ◌+◌, ◌≤◌}
 use native.Mathlib.Omega.{arith}
 use lib.ListN.{length}
 use borrow.Author.Tests.{leb-true, eqb-true, eqb-false}
+use Rattle.std.specs.Prelude.{Ok}
 use Rattle.base.specs.Choice.{pick}
 use Rattle.base.proofs.Tests.{within_low, within_high}
 use Rattle.plan.specs.declared.TaskId.{TaskId}
@@ -13,7 +14,6 @@ use Rattle.plan.specs.declared.ProcessorId.{ProcessorId}
 use Rattle.rules.specs.declared.message.Message.{Message}
 use Rattle.rules.specs.declared.message.Network.{Network}
 use Rattle.rules.specs.declared.step.Step.{Step}
-use Rattle.rules.specs.declared.step.StepAnswer.TheVariants.{Accepted}
 use Rattle.rules.specs.declared.system.System.{System}
 use Rattle.rules.specs.Numbers.{task_id, processor_id}
 use Rattle.rules.specs.Networks.{messages, message_at, dequeued, messages_of}
@@ -73,14 +73,14 @@ module _ (r : System) (z : Shaped r) (f : Sound r) where
   unfolding fits
   fitting_in_lem e g h = record { network = f.network; fine = g; fitting = leb-true _ 256 h }
 
-  run_performed : (t : TaskId) → run_answer r t ≡ Accepted → Performed r.network (ran r t)
+  run_performed : (t : TaskId) → run_answer r t ≡ Ok tt → Performed r.network (ran r t)
   run_performed t a =
       let p = run_passed r t a in
       let low = within_low 1 r.plan.tasks t.0 p.task in
       let high = within_high 1 r.plan.tasks t.0 p.task in
       fitting_in_lem (ran r t) (run_fine r f.frame whole t low high p.ready) p.fitting
 
-  move_performed : (t : TaskId) (e : ProcessorId) → move_answer r t e ≡ Accepted → Performed r.network (moved r t e)
+  move_performed : (t : TaskId) (e : ProcessorId) → move_answer r t e ≡ Ok tt → Performed r.network (moved r t e)
   move_performed t e a =
       let p = move_passed r t e a in
       let low = within_low 1 r.plan.tasks t.0 p.task in
@@ -88,7 +88,7 @@ module _ (r : System) (z : Shaped r) (f : Sound r) where
       let more = eqb-false (task_at r t).moves 9999 p.count in
       fitting_in_lem (moved r t e) (move_fine r f.frame whole t low high p.ready more e p.processor) p.fitting
 
-  deliver_performed : (p : ℕ) → deliver_answer r p ≡ Accepted → Performed (dequeued r.network p) (delivered r p)
+  deliver_performed : (p : ℕ) → deliver_answer r p ≡ Ok tt → Performed (dequeued r.network p) (delivered r p)
   unfolding delivered
   deliver_performed p a =
       let (some, there) = deliver_passed r p a in
@@ -103,7 +103,7 @@ module _ (r : System) (z : Shaped r) (f : Sound r) where
         fitting = omega (arith, g.posting.few, dequeued_used k p, f.network.used);
       }
 
-  pub step_performed : (s : Step) → step_answer r s ≡ Accepted → Performed (standing r s) (performed r s)
+  pub step_performed : (s : Step) → step_answer r s ≡ Ok tt → Performed (standing r s) (performed r s)
   unfolding performed well_formed
   step_performed s a =
       let p = step_passed r s a in
@@ -112,19 +112,19 @@ module _ (r : System) (z : Shaped r) (f : Sound r) where
       (λ d. deliver_performed s.number (sym (answer_deliver r s d) ∙ p.rule))
       (λ m. move_performed (task_id s.task) (processor_id s.number) (sym (answer_move r s m) ∙ p.rule))
 
-  performed_sound : (s : Step) → step_answer r s ≡ Accepted → Sound (completed (performed r s))
+  performed_sound : (s : Step) → step_answer r s ≡ Ok tt → Sound (completed (performed r s))
   performed_sound s a =
       let d = step_performed s a in
       completed_sound r.processors r.plan (standing r s) (performed r s) f.frame d.network d.fine d.fitting
 
 -- an accepted step
-pub kept : (r : System) (s : Step) → Shaped r → step_answer r s ≡ Accepted → system_ok (step r s).system ≡ true
+pub kept : (r : System) (s : Step) → Shaped r → step_answer r s ≡ Ok tt → system_ok (step r s).system ≡ true
 kept r s z a =
     sound_ok (step r s).system (step_shaped r s z)
     (rw (step_accepted r s a) (performed_sound r z (sound r z (step_passed r s a).system) s a))
 
 -- the letters after an accepted step: those posted stand behind the others
-pub mail_then : (r : System) (s : Step) → Shaped r → step_answer r s ≡ Accepted → (ms : List Message) × (messages (step r s).system.network ≡ messages (standing r s) ++ ms)
+pub mail_then : (r : System) (s : Step) → Shaped r → step_answer r s ≡ Ok tt → (ms : List Message) × (messages (step r s).system.network ≡ messages (standing r s) ++ ms)
 unfolding completed
 mail_then r s z a =
     let d = step_performed r z (sound r z (step_passed r s a).system) s a in

@@ -5,9 +5,9 @@ use Prim.Native.Nat.{suc}
 use native.Mathlib.Omega.{arith}
 use lib.Dec.{leb}
 use borrow.Author.Tests.{leb-true, le-leb}
+use Rattle.std.specs.Prelude.{Ok, Err}
 use Rattle.base.proofs.Tests.{and_both, within_low, within_high, within_both, up_to_at, below_all}
-use Rattle.plan.specs.declared.PlanAnswer.{PlanAnswer}
-use Rattle.plan.specs.declared.PlanAnswer.TheVariants.{Accepted, Refused}
+use Rattle.plan.specs.Answers.{PlanAnswer}
 use Rattle.plan.specs.Answers.{is_accepted}
 use Rattle.plan.specs.Refusals.{plan_answer}
 use Rattle.plan_laws.proofs.Answers.{and_parts}
@@ -21,9 +21,9 @@ use Rattle.rules_laws.proofs.Sound.{task_ok_in, system_passed, system_ok_lem, or
 use Rattle.rules_sound.specs.Sound.{Sound}
 use Rattle.rules_sound.proofs.Entries.{tables_fine, fine_tables, channels_fine, fine_channels, parents_fine, fine_parents}
 
-pub accepted_is : (a : PlanAnswer) → is_accepted a ≡ true → a ≡ Accepted
-accepted_is Accepted h = refl
-accepted_is (Refused r) h = cc
+pub accepted_is : (a : PlanAnswer) → is_accepted a ≡ true → a ≡ Ok tt
+accepted_is (Ok tt) h = refl
+accepted_is (Err r) h = cc
 
 module _ (r : System) (s : Shaped r) where
   pub sound : system_ok r ≡ true → Sound r

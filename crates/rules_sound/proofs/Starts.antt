@@ -8,6 +8,7 @@ use native.Mathlib.Omega.{arith}
 use lib.Pow.{pow_pos}
 use lib.ListN.{get_or-replicate}
 use borrow.Author.Tests.{ne_eqb, le-leb}
+use Rattle.std.specs.Prelude.{Ok, Err}
 use Rattle.base.specs.Lists.{every}
 use Rattle.base.proofs.Tests.{within_both}
 use Rattle.base.proofs.SetsOf.{set_is}
@@ -16,11 +17,10 @@ use Rattle.plan.specs.declared.Plan.{Plan}
 use Rattle.plan.specs.declared.TaskId.{TaskId}
 use Rattle.plan.specs.declared.ProcessorId.{ProcessorId}
 use Rattle.plan.specs.declared.ChannelId.{ChannelId}
-use Rattle.plan.specs.declared.PlanAnswer.TheVariants.{Accepted}
 use Rattle.plan.specs.Programs.{programs}
 use Rattle.plan.specs.Refusals.{plan_answer}
 use Rattle.rules.specs.declared.step.Step.{Step}
-use Rattle.rules.specs.declared.step.StepAnswer.TheVariants.{BadSystem}
+use Rattle.rules.specs.declared.step.StepRefusal.TheVariants.{BadSystem}
 use Rattle.rules.specs.Numbers.{task_id, processor_id}
 use Rattle.rules.specs.Tasks.{no_task, unborn}
 use Rattle.rules.specs.Networks.{messages}
@@ -110,10 +110,10 @@ started_sound n p s =
     stands_sound n p k (started n p) s (blank_network n p s)
     (birth_stands n p k s (blank n p) (blank_stands n p s) (task_id 1) (tasks_some n p s) (processor_id 1) (within_both 1 n 1 (omega arith) s.some) unknown refl)
 
-pub started_ok : (n : ℕ) (p : Plan) → 1 ≤ n → n ≤ 6 → plan_answer (programs p) ≡ Accepted → system_ok (started n p) ≡ true
+pub started_ok : (n : ℕ) (p : Plan) → 1 ≤ n → n ≤ 6 → plan_answer (programs p) ≡ Ok tt → system_ok (started n p) ≡ true
 started_ok n p l h a = sound_ok (started n p) (started_shaped n p) (started_sound n p (record { some = l; few = h; plan = a }))
 
 -- after any steps from the start, no step is answered by 9
-pub never_bad : (n : ℕ) (p : Plan) → 1 ≤ n → n ≤ 6 → plan_answer (programs p) ≡ Accepted → (ss : List Step) (s : Step)
-    → step_answer (steps (started n p) ss).system s ≢ BadSystem
+pub never_bad : (n : ℕ) (p : Plan) → 1 ≤ n → n ≤ 6 → plan_answer (programs p) ≡ Ok tt → (ss : List Step) (s : Step)
+    → step_answer (steps (started n p) ss).system s ≢ Err BadSystem
 never_bad n p l h a ss s = not_bad (steps (started n p) ss).system s (steps_kept (started n p) ss (started_shaped n p) (started_ok n p l h a))

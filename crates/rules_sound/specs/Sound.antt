@@ -1,11 +1,10 @@
 -- A rig that 9 does not refuse: by fields, what the test says of each task, of each desk and channel, and of the mail.
-use Rattle.std.specs.Prelude.{◌≡◌, true, ℕ, ◌-◌, ◌≤◌}
+use Rattle.std.specs.Prelude.{◌≡◌, true, ℕ, ◌-◌, ◌≤◌, Ok}
 use Rattle.base.specs.Lists.{every}
 use Rattle.plan.specs.declared.Plan.{Plan}
 use Rattle.plan.specs.declared.TaskId.{TaskId}
 use Rattle.plan.specs.declared.ProcessorId.{ProcessorId}
 use Rattle.plan.specs.declared.ChannelId.{ChannelId}
-use Rattle.plan.specs.declared.PlanAnswer.TheVariants.{Accepted}
 use Rattle.plan.specs.Programs.{Program, program_at, programs}
 use Rattle.plan.specs.Refusals.{plan_answer}
 use Rattle.rules.specs.declared.message.Network.{Network}
@@ -38,7 +37,7 @@ pub record HoldsNetwork (n : ℕ) (p : Plan) (k : Network) : Type 0 where
 pub record Startable (n : ℕ) (p : Plan) : Type 0 where
   pub some : 1 ≤ n
   pub few : n ≤ 6
-  pub plan : plan_answer (programs p) ≡ Accepted
+  pub plan : plan_answer (programs p) ≡ Ok tt
 
 -- the whole rig
 pub record Sound (r : System) : Type 0 where

@@ -1,5 +1,5 @@
 -- A property of words that a run keeps: of a task, of a letter, of what is received, of a rig, and of what a rule and a step leave.
-use Rattle.std.specs.Prelude.{◌≡◌, Bool, true, ◌&&◌, ℕ, ◌<◌, leb, length}
+use Rattle.std.specs.Prelude.{◌≡◌, Bool, true, ◌&&◌, ℕ, ◌<◌, leb, length, None, Some}
 use Rattle.base.specs.Lists.{every}
 use Rattle.plan.specs.declared.Instruction.{Instruction}
 use Rattle.plan.specs.declared.Word.{Word as WordOf}
@@ -10,8 +10,7 @@ use Rattle.rules.specs.declared.message.Message.{Message}
 use Rattle.rules.specs.declared.message.Message.TheVariants.{Empty, Offered, Advert, ReadyToReceive, Data, Terminated, Migration}
 use Rattle.rules.specs.declared.message.Slot.{Slot}
 use Rattle.rules.specs.declared.rule.Posting.{Posting}
-use Rattle.rules.specs.declared.rule.Received.{Received}
-use Rattle.rules.specs.declared.rule.Received.TheVariants.{Nothing, Word}
+use Rattle.rules.specs.Reports.{Received}
 use Rattle.rules.specs.declared.rule.Outcome.{Outcome}
 use Rattle.rules.specs.declared.step.Report.{Report}
 use Rattle.rules.specs.declared.system.System.{System}
@@ -51,8 +50,8 @@ module _ (good : WordOf → Bool) where
 
   -- what is received, on a channel that there is
   unfoldable pub received_good : Received → Bool
-  received_good Nothing = true
-  received_good (Word c w) = leb c.0 128 && good w
+  received_good None = true
+  received_good (Some (c, w)) = leb c.0 128 && good w
 
   abbrev pub report_good : Report → Bool
   report_good q = received_good q.received

@@ -7,13 +7,13 @@ use Prim.Native.Nat.{ℕ, ◌-◌, ◌≤◌}
 use native.Mathlib.Omega.{arith}
 use lib.ListN.{length, get_elem?}
 use borrow.Author.Tests.{eqb-true}
+use Rattle.std.specs.Prelude.{None, Ok}
 use Rattle.base.specs.Choice.{pick, within}
 use Rattle.base.proofs.Tests.{and_right, is_true, within_low}
 use Rattle.plan.specs.declared.TaskId.{TaskId}
 use Rattle.plan.specs.declared.ProcessorId.{ProcessorId}
 use Rattle.plan.specs.declared.ChannelId.{ChannelId}
 use Rattle.plan.specs.declared.Word.{Word}
-use Rattle.plan.specs.declared.PlanAnswer.TheVariants.{Accepted}
 use Rattle.plan.specs.Programs.{Program, Programs}
 use Rattle.plan.specs.Refusals.{plan_answer}
 use Rattle.plan.proofs.Parts.{tasks_of_lem}
@@ -23,7 +23,6 @@ use Rattle.rules.specs.declared.channel.Entry.{Entry}
 use Rattle.rules.specs.declared.channel.Channel.{Channel}
 use Rattle.rules.specs.declared.channel.Cell.{Cell}
 use Rattle.rules.specs.declared.message.Message.TheVariants.{Migration}
-use Rattle.rules.specs.declared.rule.Received.TheVariants.{Nothing}
 use Rattle.rules.specs.declared.system.System.{System}
 use Rattle.rules.specs.Numbers.{processor_ok}
 use Rattle.rules.specs.Tasks.{is_in, arrived, without_children}
@@ -53,7 +52,7 @@ use Rattle.transitions.specs.Views.{Histories, sender_view, receiver_view, table
 use Rattle.transitions.specs.Transitions.{Placing, none, sender_arrival, receiver_arrival, ArrivalTransition}
 use Rattle.transitions.specs.Family.{Placed}
 use Rattle.transitions.specs.Agreement.{Running}
-use Rattle.transitions.proofs.Flats.{flat_without, flat_place, own_mover, no_mover}
+use Rattle.transitions.proofs.Flats.{flat_without, flat_place, own_mover}
 use Rattle.transitions.proofs.Tasks.{state_is, blocked_in}
 use Rattle.transitions.proofs.Frames.{read_dequeued, parent_there}
 use Rattle.transitions.proofs.Rigs.{plan_accepted, network_few, is_task, message_ok_lem, message_at_lem, emptied, emptied_shaped}
@@ -119,7 +118,7 @@ arrived_read m t d p x =
     d.0 (without x.messages p) x
 
 -- a mover letter in a rig that is read, at place p of the mail
-module _ (m : Programs) (plan : plan_answer m ≡ Accepted) (h : Histories) (x : Reading) (p : ℕ) (d : ProcessorId) (t : TaskId)
+module _ (m : Programs) (plan : plan_answer m ≡ Ok tt) (h : Histories) (x : Reading) (p : ℕ) (d : ProcessorId) (t : TaskId)
     (message : get_elem? x.messages p ≡ some (Migration d t)) (number : within 1 (length m) t.0 ≡ true)
     (fine : task_ok x.processors (length m) (program_of m t) (x.tasks t) ≡ true)
     (stands : Placed x.processors (h t) (x.tasks t) (x.parents t) (movers_of t x.messages)) where
@@ -179,7 +178,7 @@ module _ (m : Programs) (plan : plan_answer m ≡ Accepted) (h : Histories) (x :
 
 -- an arrival reports no word
 pub arrival_received : (r : System) (p : ℕ) (d : ProcessorId) (t : TaskId) → message_at r.network p ≡ Migration d t
-    → (delivered r p).received ≡ Nothing
+    → (delivered r p).received ≡ None
 unfolding delivered opened
 arrival_received r p d t e = rw e refl
 

@@ -7,11 +7,11 @@ use Prim.Native.Nat.{ℕ, ◌-◌, ◌≤◌}
 use native.Mathlib.Omega.{arith}
 use lib.ListN.{get_elem?}
 use borrow.Author.Tests.{eq-eqb}
+use Rattle.std.specs.Prelude.{None, Some, Ok}
 use Rattle.base.proofs.Tests.{and_left, within_low, within_high}
 use Rattle.plan.specs.declared.ProcessorId.{ProcessorId}
 use Rattle.plan.specs.declared.ChannelId.{ChannelId}
 use Rattle.plan.specs.declared.Word.{Word}
-use Rattle.plan.specs.declared.PlanAnswer.TheVariants.{Accepted}
 use Rattle.plan.specs.Refusals.{plan_answer}
 use Rattle.plan.specs.Kinds.{op_send, op_receive}
 use Rattle.plan.specs.Numbers.{task_id}
@@ -24,7 +24,6 @@ use Rattle.rules.specs.declared.task.Task.{Task}
 use Rattle.rules.specs.declared.task.TaskState.TheVariants.{Sending, Receiving}
 use Rattle.rules.specs.declared.message.Message.TheVariants.{ReadyToReceive, Data}
 use Rattle.rules.specs.declared.rule.Posting.TheVariants.{Nothing, Single}
-use Rattle.rules.specs.declared.rule.Received.TheVariants.{Nothing as NoWord, Word as GotWord}
 use Rattle.rules.specs.declared.rule.Outcome.{Outcome}
 use Rattle.rules.specs.declared.system.System.{System}
 use Rattle.rules.specs.Numbers.{processor_ok, channel_number_ok}
@@ -102,7 +101,7 @@ module _ (m : Programs) (x : Reading) (none : x.tasks (task_id 0) ≡ no_task) (
             receiver = target;
             cell = with_hint (cell_of x c d.0) (newer (x.entries c d.0).hint hint);
             posting = Single (Data c hint.processor source.word);
-            received = NoWord;
+            received = None;
           }
 
       call_leaves_lem : then_sent ≡ call_rule (site_read m x c d.0) c d hint
@@ -138,7 +137,7 @@ module _ (m : Programs) (x : Reading) (none : x.tasks (task_id 0) ≡ no_task) (
           )
           refl
 
-      call_transitions : plan_answer m ≡ Accepted → c.0 ≤ 128 → Transitions m h x p c d.0 (call_rule (site_read m x c d.0) c d hint)
+      call_transitions : plan_answer m ≡ Ok tt → c.0 ≤ 128 → Transitions m h x p c d.0 (call_rule (site_read m x c d.0) c d hint)
       unfolding delivery_guard messages_of
       call_transitions accepted high =
           let some = (waits_in m x none tasks sends (sender_of m c) (user_few m op_send c.0) sender_waits).0 in
@@ -172,7 +171,7 @@ module _ (m : Programs) (x : Reading) (none : x.tasks (task_id 0) ≡ no_task) (
 
       abbrev then_received : Outcome
       then_received =
-          record { sender = source; receiver = taking target w; cell = cleared (cell_of x c d.0); posting = Nothing; received = GotWord c w }
+          record { sender = source; receiver = taking target w; cell = cleared (cell_of x c d.0); posting = Nothing; received = Some (c, w) }
 
       word_leaves_lem : then_received ≡ data_rule (site_read m x c d.0) c d w
       unfolding data_rule
@@ -193,7 +192,7 @@ module _ (m : Programs) (x : Reading) (none : x.tasks (task_id 0) ≡ no_task) (
           let kind = (waits_in m x none tasks receives (receiver_of m c) (user_few m op_receive c.0) receiver_waits).1 in
           rw (receiver_ends (program_of m (receiver_of m c)) c target (h (receiver_of m c)) w low receiving kind, tables_same (x.entries c) d.0) refl
 
-      data_transitions : plan_answer m ≡ Accepted → c.0 ≤ 128 → Transitions m h x p c d.0 (data_rule (site_read m x c d.0) c d w)
+      data_transitions : plan_answer m ≡ Ok tt → c.0 ≤ 128 → Transitions m h x p c d.0 (data_rule (site_read m x c d.0) c d w)
       unfolding delivery_guard messages_of
       data_transitions accepted high =
           let nothing = append-nil (without ours its.place) in

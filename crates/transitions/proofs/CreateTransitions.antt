@@ -3,11 +3,12 @@ use mathlib.Core.Path.{◌≡◌, refl, sym, ap, ◌∙◌}
 use mathlib.Core.Bool.{true, false}
 use mathlib.Core.List.{List}
 use mathlib.Core.Logic.{◌≢◌}
-use Prim.Native.Nat.{ℕ, ◌-◌, ◌≤◌}
+use Prim.Native.Nat.{ℕ, ◌≤◌}
 use native.Mathlib.Omega.{arith}
 use lib.Dec.{eqb}
 use lib.ListN.{length}
 use borrow.Author.Tests.{eqb-true, eq-eqb}
+use Rattle.std.specs.Prelude.{None, Ok}
 use Rattle.base.specs.Choice.{within}
 use Rattle.base.specs.Range.{fold}
 use Rattle.base.proofs.Tests.{and_left, and_both, within_low}
@@ -16,7 +17,6 @@ use Rattle.plan.specs.declared.ProcessorId.{ProcessorId}
 use Rattle.plan.specs.declared.ChannelId.{ChannelId}
 use Rattle.plan.specs.declared.Instruction.{Instruction}
 use Rattle.plan.specs.declared.Word.{Word}
-use Rattle.plan.specs.declared.PlanAnswer.TheVariants.{Accepted as PlanAccepted}
 use Rattle.plan.specs.Numbers.{task_id}
 use Rattle.plan.specs.Kinds.{op_create, is_use}
 use Rattle.plan.specs.Programs.{Program, Programs, programs}
@@ -28,8 +28,6 @@ use Rattle.rules.specs.declared.task.Task.{Task}
 use Rattle.rules.specs.declared.channel.Entry.{Entry}
 use Rattle.rules.specs.declared.channel.Channel.{Channel}
 use Rattle.rules.specs.declared.channel.Cell.{Cell}
-use Rattle.rules.specs.declared.rule.Received.TheVariants.{Nothing}
-use Rattle.rules.specs.declared.step.StepAnswer.TheVariants.{Accepted}
 use Rattle.rules.specs.declared.system.System.{System}
 use Rattle.rules.specs.Tasks.{is_in, born, with_child}
 use Rattle.rules.specs.Cells.{hint}
@@ -110,7 +108,7 @@ born_read m t u x =
     placed_read m u (born d (hint d (x.tasks t).moves)) (pointing (x.parents u d.0) (hint d 1)) (located d 1) (λ y. y) d.0 x.messages
     (created_read t u x)
 
-module _ (m : Programs) (plan : plan_answer m ≡ PlanAccepted) (h : Histories) (x : Reading) (t u : TaskId) {i : Instruction} (runs : Runs m x t i)
+module _ (m : Programs) (plan : plan_answer m ≡ Ok tt) (h : Histories) (x : Reading) (t u : TaskId) {i : Instruction} (runs : Runs m x t i)
     (creates : is_use op_create u.0 i ≡ true) (unborn : is_in Unborn (x.tasks u) ≡ true) where
   abbrev processor : ProcessorId
   processor = (x.tasks t).processor
@@ -166,12 +164,12 @@ module _ (m : Programs) (plan : plan_answer m ≡ PlanAccepted) (h : Histories) 
         }
 
 -- a create reports no word
-pub create_received : (r : System) (t : TaskId) → (next_of r t).opcode ≡ op_create → (ran r t).received ≡ Nothing
+pub create_received : (r : System) (t : TaskId) → (next_of r t).opcode ≡ op_create → (ran r t).received ≡ None
 unfolding ran executed ran_create
 create_received r t e = rw (eq-eqb (next_of r t).opcode op_create e) refl
 
 module _ (r : System) (shaped : Shaped r) (ok : system_ok r ≡ true) where
-  module _ (t : TaskId) (accepted : run_answer r t ≡ Accepted) (create : (next_of r t).opcode ≡ op_create) where
+  module _ (t : TaskId) (accepted : run_answer r t ≡ Ok tt) (create : (next_of r t).opcode ≡ op_create) where
     abbrev child : TaskId
     child = task_id (next_of r t).operand
 
@@ -207,7 +205,7 @@ module _ (r : System) (shaped : Shaped r) (ok : system_ok r ≡ true) where
 
   module _ (h : Histories) {s : Net} {w : ChannelId → List Word} (run : Running (meaning r) h s (reading r) w) where
     -- the child is unborn
-    pub create_transition : (t : TaskId) → run_answer r t ≡ Accepted → (next_of r t).opcode ≡ op_create
+    pub create_transition : (t : TaskId) → run_answer r t ≡ Ok tt → (next_of r t).opcode ≡ op_create
         → is_in Unborn ((reading r).tasks (task_id (next_of r t).operand)) ≡ true
         → (h' : Histories) × CreateTransition (meaning r) h h' (reading r) (reading (completed (ran r t)))
     unfolding reading

@@ -5,6 +5,7 @@ use mathlib.Core.List.{List}
 use Prim.Native.Nat.{ℕ, ◌≤◌}
 use lib.Dec.{eqb}
 use borrow.Author.Tests.{eqb-true, eq-eqb}
+use Rattle.std.specs.Prelude.{None, Ok}
 use Rattle.base.proofs.Tests.{tests_differ, and_both}
 use Rattle.plan.specs.declared.TaskId.{TaskId}
 use Rattle.plan.specs.declared.ChannelId.{ChannelId}
@@ -14,9 +15,7 @@ use Rattle.plan.specs.Kinds.{op_create, op_finish, op_send, op_receive, is_finis
 use Rattle.plan.specs.Numbers.{task_id}
 use Rattle.rules.specs.declared.message.Message.{Message}
 use Rattle.rules.specs.declared.message.Message.TheVariants.{Empty, Offered, Advert, ReadyToReceive, Data, Terminated, Migration}
-use Rattle.rules.specs.declared.step.StepAnswer.TheVariants.{Accepted}
-use Rattle.rules.specs.declared.rule.Received.{Received}
-use Rattle.rules.specs.declared.rule.Received.TheVariants.{Nothing}
+use Rattle.rules.specs.Reports.{Received}
 use Rattle.rules.specs.declared.system.System.{System}
 use Rattle.rules.specs.Systems.{meaning}
 use Rattle.rules.specs.Effects.{completed}
@@ -49,11 +48,11 @@ use Rattle.transitions.proofs.CallTransitions.{call_transition, data_transition}
 module _ (r : System) (shaped : Shaped r) (ok : system_ok r ≡ true) (h : Histories) {s : Net} {w : ChannelId → List Word}
     (run : Running (meaning r) h s (reading r) w) where
   -- an accepted run, by the kind of the instruction
-  module _ (t : TaskId) (a : run_answer r t ≡ Accepted) where
+  module _ (t : TaskId) (a : run_answer r t ≡ Ok tt) where
     abbrev RunTo : Histories → Received → Type 0
     RunTo h' got = RunTransition (meaning r) h (reading r) h' (reading (completed (ran r t))) got
 
-    silent : {h' : Histories} → (ran r t).received ≡ Nothing → RunTo h' Nothing → RunTo h' (ran r t).received
+    silent : {h' : Histories} → (ran r t).received ≡ None → RunTo h' None → RunTo h' (ran r t).received
     silent {h'} e transition = subst (RunTo h') (sym e) transition
 
     transfer_transitions : (e : Transfer) × ChannelTransition (meaning r) h (reading r) (reading (completed (ran r t))) (transfer e) (ran r t).received

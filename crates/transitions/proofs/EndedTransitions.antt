@@ -10,6 +10,7 @@ use Prim.Native.Nat.{ℕ, ◌-◌, ◌≤◌, ◌+◌}
 use native.Mathlib.Omega.{arith}
 use lib.ListN.{length, get_elem?}
 use borrow.Author.Tests.{eqb-true, eqb-false, ltb-true, ltb-false}
+use Rattle.std.specs.Prelude.{None}
 use Rattle.base.specs.Choice.{within}
 use Rattle.base.specs.Sets.{member}
 use Rattle.base.proofs.Tests.{and_right, is_true, and_left, within_low, within_high}
@@ -23,7 +24,6 @@ use Rattle.plan.proofs.Parts.{tasks_of_lem}
 use Rattle.rules.specs.declared.task.TaskState.TheVariants.{Unborn, Done}
 use Rattle.rules.specs.declared.task.Task.{Task}
 use Rattle.rules.specs.declared.message.Message.TheVariants.{Terminated}
-use Rattle.rules.specs.declared.rule.Received.TheVariants.{Nothing}
 use Rattle.rules.specs.declared.system.System.{System}
 use Rattle.rules.specs.Numbers.{processor_ok, task_number_ok, same_processor}
 use Rattle.rules.specs.Tasks.{is_in, is_at, without_child}
@@ -160,7 +160,7 @@ module _ (r : System) (shaped : Shaped r) (ok : system_ok r ≡ true) (h : Histo
   unfolding delivered opened got_terminated
   effect = rw (message, entry_there) refl
 
-  pub ended_received : (delivered r p).received ≡ Nothing
+  pub ended_received : (delivered r p).received ≡ None
   ended_received = rw effect refl
 
   -- what the desk keeps for the parent is written as it was read

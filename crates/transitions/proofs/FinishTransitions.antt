@@ -6,6 +6,7 @@ use mathlib.Core.List.{List, ◌++◌}
 use Prim.Native.Nat.{◌+◌, ◌≤◌}
 use lib.ListN.{length}
 use borrow.Author.Tests.{eqb-true, eqb-false, not-false, ne_eqb}
+use Rattle.std.specs.Prelude.{None, Ok}
 use Rattle.base.specs.Choice.{within}
 use Rattle.base.proofs.Tests.{second_fails}
 use Rattle.plan.specs.declared.TaskId.{TaskId}
@@ -17,8 +18,6 @@ use Rattle.plan.specs.Users.{parent_of}
 use Rattle.rules.specs.declared.task.Task.{Task}
 use Rattle.rules.specs.declared.message.Message.TheVariants.{Terminated}
 use Rattle.rules.specs.declared.rule.Posting.TheVariants.{Single}
-use Rattle.rules.specs.declared.rule.Received.TheVariants.{Nothing}
-use Rattle.rules.specs.declared.step.StepAnswer.TheVariants.{Accepted}
 use Rattle.rules.specs.declared.system.System.{System}
 use Rattle.rules.specs.Tasks.{is_at, is_childless, without_child, is_in}
 use Rattle.rules.specs.Networks.{messages_of}
@@ -57,7 +56,7 @@ use Rattle.transitions.proofs.Ways.{finish_way, finish_other}
 use Rattle.transitions.proofs.Tasks.{state_is}
 
 module _ (r : System) (shaped : Shaped r) (ok : system_ok r ≡ true) (h : Histories) {s : Net} {w : ChannelId → List Word}
-    (run : Running (meaning r) h s (reading r) w) (t : TaskId) (a : run_answer r t ≡ Accepted) (kind : (next_of r t).opcode ≡ op_finish) where
+    (run : Running (meaning r) h s (reading r) w) (t : TaskId) (a : run_answer r t ≡ Ok tt) (kind : (next_of r t).opcode ≡ op_finish) where
   abbrev own : Task
   own = task_at r t
 
@@ -74,7 +73,7 @@ module _ (r : System) (shaped : Shaped r) (ok : system_ok r ≡ true) (h : Histo
   unfolding ran executed
   effect = rw kind refl
 
-  pub finish_received : (ran r t).received ≡ Nothing
+  pub finish_received : (ran r t).received ≡ None
   unfolding ran_finish
   finish_received = rw effect refl
 

@@ -3,11 +3,11 @@ use mathlib.Core.Path.{◌≡◌, refl, sym, ap, ◌∙◌}
 use mathlib.Core.Bool.{true}
 use mathlib.Core.List.{List, [], ◌++◌, append-nil}
 use mathlib.Core.Option.{some}
-use Prim.Native.Nat.{ℕ, ◌+◌, ◌-◌, ◌≤◌}
+use Prim.Native.Nat.{ℕ, ◌-◌, ◌≤◌}
 use native.Mathlib.Omega.{arith}
 use lib.ListN.{length, get_elem?}
+use Rattle.std.specs.Prelude.{Ok}
 use Rattle.base.proofs.Tests.{within_low, within_high}
-use Rattle.plan.specs.declared.PlanAnswer.TheVariants.{Accepted}
 use Rattle.plan.specs.declared.TaskId.{TaskId}
 use Rattle.plan.specs.declared.ProcessorId.{ProcessorId}
 use Rattle.plan.specs.declared.ChannelId.{ChannelId}
@@ -32,7 +32,7 @@ use Rattle.rules.specs.Sound.{system_ok}
 use Rattle.rules_laws.specs.Shapes.{Shaped}
 use Rattle.rules_laws.proofs.Messages.{dequeued_used}
 use Rattle.channel.specs.Bags.{one, without}
-use Rattle.channel.specs.Messages.{word, ChannelMessage}
+use Rattle.channel.specs.Messages.{ChannelMessage}
 use Rattle.channel.specs.Views.{with_messages}
 use Rattle.channel.specs.Events.{Delivery, delivery, delivery_guard, guard, after, delivered as deliveredView}
 use Rattle.transitions.specs.Readings.{Reading, reading, with_outcome_read}
@@ -76,7 +76,7 @@ pub record Transitions (m : Programs) (h : Histories) (x : Reading) (p : ℕ) (c
   pub by : Delivery
   pub transition : ChannelTransition m h x (with_message_read m x p c d o) (delivery place by) o.received
 
-module _ (m : Programs) (accepted : plan_answer m ≡ Accepted) (h : Histories) (x : Reading) (c : ChannelId) (low : 1 ≤ c.0) (high : c.0 ≤ 128)
+module _ (m : Programs) (accepted : plan_answer m ≡ Ok tt) (h : Histories) (x : Reading) (c : ChannelId) (low : 1 ≤ c.0) (high : c.0 ≤ 128)
     (p d : ℕ) where
   module _ {a : Message} {l : ChannelMessage} (at : get_elem? x.messages p ≡ some a) (is : Posted c (one a) (one l)) where
     abbrev q : ℕ
@@ -191,7 +191,7 @@ module _ (r : System) (shaped : Shaped r) (ok : system_ok r ≡ true) (p : ℕ) 
       effect_read by = ap (λ x. reading (completed x)) effect ∙ read_rest outcome by.few by.no_sender by.no_receiver
 
       -- where what the rule leaves is an act, so is the delivery
-      pub delivery_transition : (plan_answer (meaning r) ≡ Accepted → 1 ≤ c.0 → c.0 ≤ 128 → get_elem? (reading r).messages (p - 1) ≡ some a
+      pub delivery_transition : (plan_answer (meaning r) ≡ Ok tt → 1 ≤ c.0 → c.0 ≤ 128 → get_elem? (reading r).messages (p - 1) ≡ some a
           → Transitions (meaning r) h (reading r) (p - 1) c d.0 outcome)
           → DeliveredTransition r h p
       delivery_transition transitions =

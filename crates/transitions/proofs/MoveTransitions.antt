@@ -7,13 +7,13 @@ use native.Mathlib.Numerals.{add-one}
 use native.Mathlib.Omega.{arith}
 use lib.ListN.{length}
 use borrow.Author.Tests.{leb-true, eqb-false}
+use Rattle.std.specs.Prelude.{None, Ok}
 use Rattle.base.specs.Choice.{within}
 use Rattle.base.proofs.Tests.{within_low, within_high}
 use Rattle.plan.specs.declared.TaskId.{TaskId}
 use Rattle.plan.specs.declared.ProcessorId.{ProcessorId}
 use Rattle.plan.specs.declared.ChannelId.{ChannelId}
 use Rattle.plan.specs.declared.Word.{Word}
-use Rattle.plan.specs.declared.PlanAnswer.TheVariants.{Accepted as PlanAccepted}
 use Rattle.plan.specs.Programs.{Program, Programs}
 use Rattle.plan.specs.Refusals.{plan_answer}
 use Rattle.plan.proofs.Parts.{tasks_of_lem}
@@ -23,8 +23,6 @@ use Rattle.rules.specs.declared.channel.Entry.{Entry}
 use Rattle.rules.specs.declared.channel.Channel.{Channel}
 use Rattle.rules.specs.declared.channel.Cell.{Cell}
 use Rattle.rules.specs.declared.message.Message.TheVariants.{Migration}
-use Rattle.rules.specs.declared.rule.Received.TheVariants.{Nothing}
-use Rattle.rules.specs.declared.step.StepAnswer.TheVariants.{Accepted}
 use Rattle.rules.specs.declared.system.System.{System}
 use Rattle.rules.specs.Tasks.{is_in, departed}
 use Rattle.rules.specs.Networks.{messages_of}
@@ -98,7 +96,7 @@ moved_read m t e x =
     placed_read m t (departed y) (pointing (x.parents t d) (hint e (y.moves + 1))) (located e (y.moves + 1)) departure_sending d
     (x.messages ++ one (Migration e t)) x
 
-module _ (m : Programs) (plan : plan_answer m ≡ PlanAccepted) (h : Histories) (x : Reading) (t : TaskId) (e : ProcessorId) where
+module _ (m : Programs) (plan : plan_answer m ≡ Ok tt) (h : Histories) (x : Reading) (t : TaskId) (e : ProcessorId) where
   abbrev task : Task
   task = x.tasks t
 
@@ -142,12 +140,12 @@ module _ (m : Programs) (plan : plan_answer m ≡ PlanAccepted) (h : Histories) 
         }
 
 -- a move reports no word
-pub move_received : (r : System) (t : TaskId) (e : ProcessorId) → (moved r t e).received ≡ Nothing
+pub move_received : (r : System) (t : TaskId) (e : ProcessorId) → (moved r t e).received ≡ None
 unfolding moved
 move_received r t e = refl
 
 module _ (r : System) (shaped : Shaped r) (ok : system_ok r ≡ true) (h : Histories) {s : Net} {w : ChannelId → List Word}
-    (run : Running (meaning r) h s (reading r) w) (t : TaskId) (e : ProcessorId) (accepted : move_answer r t e ≡ Accepted) where
+    (run : Running (meaning r) h s (reading r) w) (t : TaskId) (e : ProcessorId) (accepted : move_answer r t e ≡ Ok tt) where
   abbrev now : Task
   now = task_at r t
 

@@ -8,10 +8,10 @@ use Prim.Native.Nat.{ℕ, ◌-◌, ◌≤◌, ◌<◌}
 use native.Mathlib.Numerals.{add-one}
 use lib.ListN.{get_elem?}
 use borrow.Author.Tests.{eqb-true, eqb-false, ltb-true, ltb-false, not-true, not-false}
+use Rattle.std.specs.Prelude.{Ok}
 use Rattle.base.proofs.Choices.{pick_cases}
 use Rattle.base.proofs.Tests.{and_left, and_right, first_fails, second_fails}
 use Rattle.plan.specs.declared.ChannelId.{ChannelId}
-use Rattle.plan.specs.declared.PlanAnswer.TheVariants.{Accepted}
 use Rattle.plan.specs.Refusals.{plan_answer}
 use Rattle.plan.specs.declared.Word.{Word}
 use Rattle.plan.specs.Programs.{Programs}
@@ -135,7 +135,7 @@ module _ (m : Programs) (h : Histories) (x : Reading) (c : ChannelId) (p : ℕ) 
       }
 
   -- .. and its act
-  module _ (accepted : plan_answer m ≡ Accepted) (low : 1 ≤ c.0) (high : c.0 ≤ 128) where
+  module _ (accepted : plan_answer m ≡ Ok tt) (low : 1 ≤ c.0) (high : c.0 ≤ 128) where
     abbrev Transition : Outcome → Type 0
     Transition = Transitions m h x p c d
 

@@ -9,10 +9,10 @@ use native.Mathlib.Omega.{arith}
 use lib.Dec.{eqb}
 use lib.ListN.{get_elem?}
 use borrow.Author.Tests.{eq-eqb, ne_eqb}
+use Rattle.std.specs.Prelude.{None, Some, Ok}
 use Rattle.base.specs.Choice.{pick}
 use Rattle.base.specs.Updates.{updated}
 use Rattle.base.proofs.Choices.{pick_under}
-use Rattle.plan.specs.declared.PlanAnswer.TheVariants.{Accepted}
 use Rattle.plan.specs.declared.TaskId.{TaskId}
 use Rattle.plan.specs.declared.ProcessorId.{ProcessorId}
 use Rattle.plan.specs.declared.ChannelId.{ChannelId}
@@ -32,8 +32,7 @@ use Rattle.rules.specs.declared.message.Message.{Message}
 use Rattle.rules.specs.declared.message.Message.TheVariants.{Offered, Advert, ReadyToReceive, Data}
 use Rattle.rules.specs.declared.rule.Site.{Site}
 use Rattle.rules.specs.declared.rule.Outcome.{Outcome}
-use Rattle.rules.specs.declared.rule.Received.{Received}
-use Rattle.rules.specs.declared.rule.Received.TheVariants.{Nothing as NoWord, Word as GotWord}
+use Rattle.rules.specs.Reports.{Received}
 use Rattle.rules.specs.declared.rule.Posting.TheVariants.{Nothing}
 use Rattle.rules.specs.declared.system.System.{System}
 use Rattle.rules.specs.Networks.{messages_of}
@@ -185,16 +184,16 @@ module _ (c : ChannelId) where
 
 -- how the word passes, with the words under way then
 module _ {c : ChannelId} {value : Word} {before then : List Word} where
-  pub passing_nothing : {w : Word} → then ≡ before → Passing c value before 0 0 w then NoWord
+  pub passing_nothing : {w : Word} → then ≡ before → Passing c value before 0 0 w then None
   passing_nothing e = rw e nothing
 
-  pub passing_direct : before ≡ [] → then ≡ [] → Passing c value before 1 1 value then (GotWord c value)
+  pub passing_direct : before ≡ [] → then ≡ [] → Passing c value before 1 1 value then (Some (c, value))
   passing_direct b e = rw e (direct b)
 
-  pub passing_called : {w : Word} → before ≡ [] → then ≡ one value → Passing c value before 1 0 w then NoWord
+  pub passing_called : {w : Word} → before ≡ [] → then ≡ one value → Passing c value before 1 0 w then None
   passing_called b e = rw e (called b)
 
-  pub passing_taken : (w : Word) → before ≡ one w → then ≡ [] → Passing c value before 0 1 w then (GotWord c w)
+  pub passing_taken : (w : Word) → before ≡ one w → then ≡ [] → Passing c value before 0 1 w then (Some (c, w))
   passing_taken w b e = rw e (taken w b)
 
 -- the view of channel c after outcome o at desk d, with the mail ms
@@ -220,7 +219,7 @@ pub record EndsStep (m : Programs) (x : Reading) (c : ChannelId) (o : Outcome) (
 abbrev tasks_then : Programs → Reading → ChannelId → Outcome → TaskId → Task
 tasks_then m x c o = at_task (at_task x.tasks (sender_of m c) o.sender) (receiver_of m c) o.receiver
 
-module _ (m : Programs) (a : plan_answer m ≡ Accepted) (x : Reading) (c : ChannelId) (o : Outcome) {n k : ℕ} {value : Word}
+module _ (m : Programs) (a : plan_answer m ≡ Ok tt) (x : Reading) (c : ChannelId) (o : Outcome) {n k : ℕ} {value : Word}
     (ends : EndsStep m x c o n k value) where
   receiver_then_lem : tasks_then m x c o (receiver_of m c) ≡ o.receiver
   receiver_then_lem = at_task_lem (at_task x.tasks (sender_of m c) o.sender) (receiver_of m c) o.receiver
@@ -277,7 +276,7 @@ module _ (m : Programs) (a : plan_answer m ≡ Accepted) (x : Reading) (c : Chan
         refl
 
 -- the act by which that happens: the event, and how the word passes and places go on
-module _ (m : Programs) (a : plan_answer m ≡ Accepted) (h : Histories) (x : Reading) (c : ChannelId) (low : 1 ≤ c.0) (high : c.0 ≤ 128)
+module _ (m : Programs) (a : plan_answer m ≡ Ok tt) (h : Histories) (x : Reading) (c : ChannelId) (low : 1 ≤ c.0) (high : c.0 ≤ 128)
     (d : ℕ) (o : Outcome) where
   pub outcome_transition : {ms : List Message} {n k : ℕ} {value : Word} {received : Received} (e : Event)
       → EndsStep m x c o n k value

@@ -4,6 +4,7 @@ use mathlib.Core.Bool.{Bool, true, false, ◌||◌, or-false}
 use Prim.Native.Nat.{ℕ}
 use lib.Dec.{eqb}
 use borrow.Author.Tests.{eqb-true}
+use Rattle.std.specs.Prelude.{None, Ok}
 use Rattle.base.specs.Choice.{pick}
 use Rattle.base.proofs.Choices.{pick_cases}
 use Rattle.base.proofs.Tests.{and_right, is_true, or_neither, tests_differ}
@@ -16,8 +17,6 @@ use Rattle.plan.specs.Refusals.{level_ok, operand_ok, instruction_ok}
 use Rattle.plan.specs.Words.{set_word, add_word}
 use Rattle.rules.specs.declared.task.Task.{Task}
 use Rattle.rules.specs.declared.task.TaskState.TheVariants.{Waiting}
-use Rattle.rules.specs.declared.rule.Received.TheVariants.{Nothing}
-use Rattle.rules.specs.declared.step.StepAnswer.TheVariants.{Accepted}
 use Rattle.rules.specs.declared.system.System.{System}
 use Rattle.rules.specs.Tasks.{with_state, with_word, with_overflow, advanced, is_childless}
 use Rattle.rules.specs.Systems.{task_at, with_task, meaning}
@@ -96,7 +95,7 @@ own_alike m x t i run y (goes_on n j) =
     (overflow_after i (x.tasks t).word (x.tasks t).overflow)
 own_alike m x t i run y (waits k c) = alike_waits (program_of m t) (x.tasks t) run.ready run.low
 
-module _ (r : System) (shaped : Shaped r) (ok : system_ok r ≡ true) (h : Histories) (t : TaskId) (a : run_answer r t ≡ Accepted)
+module _ (r : System) (shaped : Shaped r) (ok : system_ok r ≡ true) (h : Histories) (t : TaskId) (a : run_answer r t ≡ Ok tt)
     (no_create : is_create (next_of r t) ≡ false) (no_finish : is_finish (next_of r t) ≡ false) (no-transfer : is_transfer (next_of r t) ≡ false) where
   abbrev then : Task
   then = own_rule (next_of r t) (task_at r t)
@@ -105,7 +104,7 @@ module _ (r : System) (shaped : Shaped r) (ok : system_ok r ≡ true) (h : Histo
   unfolding ran
   effect = own_effect (next_of r t) no_create no_finish no-transfer r t
 
-  pub own_received : (ran r t).received ≡ Nothing
+  pub own_received : (ran r t).received ≡ None
   own_received = rw effect refl
 
   read : reading (completed (ran r t)) ≡ with_task_read (reading r) t then

@@ -5,9 +5,9 @@ use mathlib.Core.Logic.{◌≢◌}
 use Prim.Native.Nat.{ℕ, ◌≤◌, ◌<◌}
 use native.Mathlib.Omega.{arith, by_contra}
 use lib.ListN.{length}
+use Rattle.std.specs.Prelude.{Ok}
 use Rattle.base.specs.Choice.{within}
 use Rattle.base.proofs.Tests.{within_low, within_high, within_both}
-use Rattle.plan.specs.declared.PlanAnswer.TheVariants.{Accepted}
 use Rattle.plan.specs.declared.TaskId.{TaskId}
 use Rattle.plan.specs.Programs.{Programs}
 use Rattle.plan.specs.Refusals.{plan_answer}
@@ -23,7 +23,7 @@ child_number n k w ne =
 pub task_number_lem : (n k : ℕ) → within 2 n k ≡ true → within 1 n k ≡ true
 task_number_lem n k w = within_both 1 n k (omega (arith, within_low 2 n k w)) (within_high 2 n k w)
 
-module _ (m : Programs) (accepted : plan_answer m ≡ Accepted) (u : TaskId) (number : within 2 (length m) u.0 ≡ true) where
+module _ (m : Programs) (accepted : plan_answer m ≡ Ok tt) (u : TaskId) (number : within 2 (length m) u.0 ≡ true) where
   parent_lower : (1 ≤ (parent_of m u).0) × ((parent_of m u).0 < u.0)
   parent_lower = has_parent_lem m accepted u.0 (within_low 2 (length m) u.0 number) (within_high 2 (length m) u.0 number)
 

@@ -3,16 +3,16 @@ use mathlib.Core.Path.{◌≡◌, refl, sym, ap, fun_ext, ◌∙◌, subst, subs
 use mathlib.Core.Bool.{Bool, true, false, ◌&&◌}
 use mathlib.Core.List.{List}
 use mathlib.Core.Logic.{◌≢◌, by_cases}
-use Prim.Native.Nat.{ℕ, ◌-◌, ◌≤◌}
+use Prim.Native.Nat.{ℕ, ◌≤◌}
 use native.Mathlib.Decide.{ℕ_discrete}
 use native.Mathlib.Omega.{arith}
 use borrow.Author.Tests.{eq-eqb, ne_eqb}
+use Rattle.std.specs.Prelude.{Ok}
 use Rattle.base.proofs.Choices.{pick_either}
 use Rattle.base.proofs.Tests.{within_both}
 use Rattle.plan.specs.declared.TaskId.{TaskId}
 use Rattle.plan.specs.declared.ProcessorId.{ProcessorId}
 use Rattle.plan.specs.declared.ChannelId.{ChannelId}
-use Rattle.plan.specs.declared.PlanAnswer.TheVariants.{Accepted}
 use Rattle.plan.specs.Numbers.{task_id}
 use Rattle.plan.specs.Programs.{Program, Programs, programs}
 use Rattle.plan.specs.Users.{sender_of, receiver_of}
@@ -83,7 +83,7 @@ pub same_parts : (n : ℕ) {l l' : List ChannelMessage} {s s' : Sender} {u u' : 
     → l ≡ l' → s ≡ s' → u ≡ u' → e ≡ e' → k ≡ k' → view_by n l s u e k ≡ view_by n l' s' u' e' k'
 same_parts n l s u e k = λ i. view_by n (l i) (s i) (u i) (e i) (k i)
 
-module _ (m : Programs) (plan : plan_answer m ≡ Accepted) (h h' : Histories) (x : Reading) (t : TaskId) (some : 1 ≤ t.0)
+module _ (m : Programs) (plan : plan_answer m ≡ Ok tt) (h h' : Histories) (x : Reading) (t : TaskId) (some : 1 ≤ t.0)
     (kept : (u : TaskId) → u.0 ≢ t.0 → h' u ≡ h u) (x' : Task) (entry : ParentEntry) (receiving sending : Cell → Cell) (d : ℕ) (ms : List Message)
     (c : ChannelId) (low : 1 ≤ c.0) (high : c.0 ≤ 128) (network : messages_on c ms ≡ messages_on c x.messages) where
   abbrev here : Cell

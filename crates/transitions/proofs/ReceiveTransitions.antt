@@ -8,10 +8,10 @@ use native.Mathlib.Numerals.{add-one}
 use native.Mathlib.Omega.{arith}
 use lib.ListN.{length}
 use borrow.Author.Tests.{eqb-true, eqb-false, eq-eqb, ltb-true, ltb-false, not-true, not-false}
+use Rattle.std.specs.Prelude.{Ok}
 use Rattle.base.specs.Choice.{within}
 use Rattle.base.proofs.Choices.{pick_cases}
 use Rattle.base.proofs.Tests.{and_left, and_right, second_fails, within_low, within_high}
-use Rattle.plan.specs.declared.PlanAnswer.TheVariants.{Accepted}
 use Rattle.plan.specs.declared.TaskId.{TaskId}
 use Rattle.plan.specs.declared.ProcessorId.{ProcessorId}
 use Rattle.plan.specs.declared.ChannelId.{ChannelId}
@@ -29,7 +29,6 @@ use Rattle.rules.specs.declared.rule.Posting.{Posting}
 use Rattle.rules.specs.declared.rule.Posting.TheVariants.{Nothing}
 use Rattle.rules.specs.declared.rule.Site.{Site}
 use Rattle.rules.specs.declared.rule.Outcome.{Outcome}
-use Rattle.rules.specs.declared.step.StepAnswer.TheVariants.{Accepted as Passed}
 use Rattle.rules.specs.declared.system.System.{System}
 use Rattle.rules.specs.Numbers.{no_processor, is_none}
 use Rattle.rules.specs.Tasks.{is_in, is_at}
@@ -68,7 +67,7 @@ use Rattle.transitions.proofs.Transfers.{view_is, Transfers, transfers_by, words
 use Rattle.transitions.proofs.Transfers.{transfer_transition}
 
 -- channel c, whose receiver is about to receive on it
-module _ (m : Programs) (a : plan_answer m ≡ Accepted) (h : Histories) (x : Reading) (c : ChannelId) (low : 1 ≤ c.0) (high : c.0 ≤ 128)
+module _ (m : Programs) (a : plan_answer m ≡ Ok tt) (h : Histories) (x : Reading) (c : ChannelId) (low : 1 ≤ c.0) (high : c.0 ≤ 128)
     (inv : Invariant (view_of m h x c)) (number : within 1 (length m) (receiver_of m c).0 ≡ true)
     (next : AtUse (program_of m (receiver_of m c)) op_receive c (x.tasks (receiver_of m c))) (stands : 1 ≤ (x.tasks (receiver_of m c)).processor.0)
     (waiting : is_in Sending (x.tasks (sender_of m c)) ≡ true
@@ -250,7 +249,7 @@ module _ (r : System) (shaped : Shaped r) (ok : system_ok r ≡ true) (h : Histo
       is.processor sender)
       on.fits
 
-  pub receive_transition : (t : TaskId) → run_answer r t ≡ Passed → (next_of r t).opcode ≡ op_receive → TransferTransition r h (ran r t)
+  pub receive_transition : (t : TaskId) → run_answer r t ≡ Ok tt → (next_of r t).opcode ≡ op_receive → TransferTransition r h (ran r t)
   unfolding ran executed
   receive_transition t a kind =
       let m = meaning r in

@@ -5,9 +5,9 @@ use mathlib.Core.Option.{some}
 use Prim.Native.Nat.{ℕ, ◌-◌, ◌≤◌}
 use native.Mathlib.Omega.{arith}
 use lib.ListN.{length, get_elem?}
+use Rattle.std.specs.Prelude.{Ok}
 use Rattle.base.specs.Choice.{within}
 use Rattle.base.proofs.Tests.{within_low, within_high}
-use Rattle.plan.specs.declared.PlanAnswer.TheVariants.{Accepted as PlanAccepted}
 use Rattle.plan.specs.declared.TaskId.{TaskId}
 use Rattle.plan.specs.declared.ProcessorId.{ProcessorId}
 use Rattle.plan.specs.declared.ChannelId.{ChannelId}
@@ -36,7 +36,7 @@ module _ (r : System) (shaped : Shaped r) (ok : system_ok r ≡ true) where
   pub is_sound : Sound r
   is_sound = sound r shaped ok
 
-  pub plan_accepted : plan_answer (meaning r) ≡ PlanAccepted
+  pub plan_accepted : plan_answer (meaning r) ≡ Ok tt
   plan_accepted = is_sound.frame.plan
 
   pub processors_few : r.processors ≤ 6

@@ -5,13 +5,13 @@ use Prim.Native.Nat.{◌+◌, ◌-◌, ◌≤◌}
 use native.Mathlib.Omega.{arith}
 use lib.ListN.{length}
 use borrow.Author.Tests.{leb-true}
+use Rattle.std.specs.Prelude.{Ok}
 use Rattle.base.proofs.Tests.{within_high}
 use Rattle.plan.specs.declared.TaskId.{TaskId}
 use Rattle.plan.specs.Programs.{programs}
 use Rattle.plan.specs.Refusals.{instruction_ok}
 use Rattle.plan.proofs.Parts.{tasks_of_lem}
 use Rattle.plan_laws.proofs.Programs.{instruction_fine}
-use Rattle.rules.specs.declared.step.StepAnswer.TheVariants.{Accepted}
 use Rattle.rules.specs.declared.task.TaskState.TheVariants.{Ready}
 use Rattle.rules.specs.declared.system.System.{System}
 use Rattle.rules.specs.Networks.{enqueued_all, messages_of}
@@ -36,7 +36,7 @@ unfolding completed enqueued_all messages_of
 completed_changed q = refl
 
 module _ (r : System) (shaped : Shaped r) (ok : system_ok r ≡ true) where
-  module _ (t : TaskId) (a : run_answer r t ≡ Accepted) where
+  module _ (t : TaskId) (a : run_answer r t ≡ Ok tt) where
     pub run_is_task : IsTask t
     run_is_task = is_task r shaped ok t (run_passed r t a).task
 

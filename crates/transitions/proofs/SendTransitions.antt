@@ -7,11 +7,11 @@ use native.Mathlib.Omega.{arith}
 use lib.Dec.{eqb}
 use lib.ListN.{length}
 use borrow.Author.Tests.{eqb-true, eqb-false, ne_eqb, not-true}
+use Rattle.std.specs.Prelude.{Ok}
 use Rattle.base.specs.Choice.{pick, within}
 use Rattle.base.specs.Range.{fold, joined}
 use Rattle.base.proofs.Choices.{pick_cases, pick_either, pick_under}
 use Rattle.base.proofs.Tests.{and_left, and_right, second_fails, within_low, within_high}
-use Rattle.plan.specs.declared.PlanAnswer.TheVariants.{Accepted}
 use Rattle.plan.specs.declared.TaskId.{TaskId}
 use Rattle.plan.specs.declared.ProcessorId.{ProcessorId}
 use Rattle.plan.specs.declared.ChannelId.{ChannelId}
@@ -33,7 +33,6 @@ use Rattle.rules.specs.declared.rule.Posting.{Posting}
 use Rattle.rules.specs.declared.rule.Posting.TheVariants.{Nothing, Single, Adverts}
 use Rattle.rules.specs.declared.rule.Site.{Site}
 use Rattle.rules.specs.declared.rule.Outcome.{Outcome}
-use Rattle.rules.specs.declared.step.StepAnswer.TheVariants.{Accepted as Passed}
 use Rattle.rules.specs.declared.system.System.{System}
 use Rattle.rules.specs.Numbers.{same_processor}
 use Rattle.rules.specs.Tasks.{state_number, is_in, is_at, with_state, with_word, advanced, readied}
@@ -122,7 +121,7 @@ readied_ready : (x : Task) → is_in Ready x ≡ true → readied x ≡ x
 readied_ready x e = ap (with_state x) (sym (same_state x.state Ready (eqb-true (state_number x.state) 1 e)))
 
 -- channel c, whose sender is about to send on it
-module _ (m : Programs) (a : plan_answer m ≡ Accepted) (h : Histories) (x : Reading) (c : ChannelId) (low : 1 ≤ c.0) (high : c.0 ≤ 128)
+module _ (m : Programs) (a : plan_answer m ≡ Ok tt) (h : Histories) (x : Reading) (c : ChannelId) (low : 1 ≤ c.0) (high : c.0 ≤ 128)
     (inv : Invariant (view_of m h x c)) (number : within 1 (length m) (sender_of m c).0 ≡ true)
     (next : AtUse (program_of m (sender_of m c)) op_send c (x.tasks (sender_of m c))) (stands : 1 ≤ (x.tasks (sender_of m c)).processor.0)
     (waiting : is_in Receiving (x.tasks (receiver_of m c)) ≡ true
@@ -307,7 +306,7 @@ module _ (r : System) (shaped : Shaped r) (ok : system_ok r ≡ true) (h : Histo
       is.processor receiver)
       on.fits
 
-  pub send_transition : (t : TaskId) → run_answer r t ≡ Passed → (next_of r t).opcode ≡ op_send → TransferTransition r h (ran r t)
+  pub send_transition : (t : TaskId) → run_answer r t ≡ Ok tt → (next_of r t).opcode ≡ op_send → TransferTransition r h (ran r t)
   unfolding ran executed
   send_transition t a kind =
       let m = meaning r in

@@ -6,9 +6,9 @@ use Prim.Native.Nat.{ℕ, suc, ◌+◌, ◌-◌, ◌≤◌, ◌<◌}
 use native.Mathlib.Omega.{arith}
 use lib.ListN.{length}
 use borrow.Author.Tests.{eq-eqb}
+use Rattle.std.specs.Prelude.{Ok}
 use Rattle.base.specs.Choice.{within}
 use Rattle.base.proofs.Tests.{and_both, within_low, within_high}
-use Rattle.plan.specs.declared.PlanAnswer.TheVariants.{Accepted}
 use Rattle.plan.specs.declared.TaskId.{TaskId}
 use Rattle.plan.specs.declared.ProcessorId.{ProcessorId}
 use Rattle.plan.specs.declared.ChannelId.{ChannelId}
@@ -21,7 +21,6 @@ use Rattle.plan.specs.Users.{sender_of, receiver_of}
 use Rattle.rules.specs.declared.task.Task.{Task}
 use Rattle.rules.specs.declared.rule.Site.{Site}
 use Rattle.rules.specs.declared.rule.Outcome.{Outcome}
-use Rattle.rules.specs.declared.step.StepAnswer.TheVariants.{Accepted as Passed}
 use Rattle.rules.specs.declared.system.System.{System}
 use Rattle.rules.specs.Networks.{messages_of}
 use Rattle.rules.specs.Places.{next_in}
@@ -59,7 +58,7 @@ pub record Transfers (m : Programs) (h : Histories) (x : Reading) (c : ChannelId
       ChannelTransition m h x (with_outcome_read x (sender_of m c) (receiver_of m c) c d o (x.messages ++ messages_of x.processors o.posting)) (transfer by)
       o.received
 
-module _ (m : Programs) (a : plan_answer m ≡ Accepted) (h : Histories) (x : Reading) (c : ChannelId) (low : 1 ≤ c.0) (high : c.0 ≤ 128) (d : ℕ) where
+module _ (m : Programs) (a : plan_answer m ≡ Ok tt) (h : Histories) (x : Reading) (c : ChannelId) (low : 1 ≤ c.0) (high : c.0 ≤ 128) (d : ℕ) where
   -- by event e; ls is what is posted
   pub transfers_by : (e : Transfer) (o : Outcome) {ls : List ChannelMessage} {n k : ℕ} {value : Word} → EndsStep m x c o n k value
       → Posted c (messages_of x.processors o.posting) ls
@@ -112,7 +111,7 @@ module _ (r : System) (shaped : Shaped r) (ok : system_ok r ≡ true) where
 
 -- task t is accepted to run an instruction of kind k on channel c, by an effect
 pub record RunsOn (r : System) (k : ℕ) (c : ChannelId) (t : TaskId) (effect : Effect) : Type 0 where
-  pub accepted : run_answer r t ≡ Passed
+  pub accepted : run_answer r t ≡ Ok tt
   pub kind : (next_of r t).opcode ≡ k
   pub operand : (next_of r t).operand ≡ c.0
   pub fits : r.network.used + length (messages_of r.processors effect.posting) ≤ 256
@@ -137,7 +136,7 @@ module _ (r : System) (shaped : Shaped r) (ok : system_ok r ≡ true) where
       → ((c j i : ℕ) → j < length (meaning r) → i < length (program_at (meaning r) j) → is_use k c (instruction_at (program_at (meaning r) j) i) ≡ true
       → end (channel_id c) ≡ task_id (suc j))
       → ((c : ChannelId) → within 1 128 c.0 ≡ true → RunsOn r k c (end c) (effect (end c) c) → TransferTransition r h (effect (end c) c))
-      → (t : TaskId) → run_answer r t ≡ Passed → (next_of r t).opcode ≡ k → within 1 128 (next_of r t).operand ≡ true
+      → (t : TaskId) → run_answer r t ≡ Ok tt → (next_of r t).opcode ≡ k → within 1 128 (next_of r t).operand ≡ true
       → ran r t ≡ effect t (channel_id (next_of r t).operand) → TransferTransition r h (ran r t)
   unfolding next_in
   transfer_transition h k end effect law transitions t a kind channel is =

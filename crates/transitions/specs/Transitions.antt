@@ -1,6 +1,6 @@
 -- The accepted steps, as changes of a rig that is read: from x to y. m is the plan's meaning. The steps about one channel first, then those of
 -- one task, births, ends, departures and arrivals.
-use Rattle.std.specs.Prelude.{◌≡◌, ◌≢◌, true, false, List, [], ◌++◌, ℕ, suc, ◌+◌, ◌≤◌, ◌<◌, length}
+use Rattle.std.specs.Prelude.{◌≡◌, ◌≢◌, true, false, List, [], ◌++◌, ℕ, suc, ◌+◌, ◌≤◌, ◌<◌, length, None, Some}
 use Rattle.std.proofs.Math.Option.{some}
 use Rattle.std.proofs.Math.ListN.{get_elem?}
 use Rattle.base.specs.Choice.{within}
@@ -17,8 +17,7 @@ use Rattle.plan.specs.Users.{sender_of, receiver_of, parent_of}
 use Rattle.rules.specs.declared.task.TaskState.TheVariants.{Unborn, Ready, Waiting, Sending, Receiving, Moving, Done}
 use Rattle.rules.specs.declared.task.Task.{Task}
 use Rattle.rules.specs.declared.message.Message.TheVariants.{Terminated, Migration}
-use Rattle.rules.specs.declared.rule.Received.{Received}
-use Rattle.rules.specs.declared.rule.Received.TheVariants.{Nothing, Word as GotWord}
+use Rattle.rules.specs.Reports.{Received}
 use Rattle.rules.specs.Tasks.{is_in, is_childless, with_state, with_word, with_overflow, advanced, born, departed, arrived, without_child, without_children}
 use Rattle.rules.specs.Places.{next_in}
 use Rattle.rules.specs.Local.{create_rule, holding_child}
@@ -44,10 +43,10 @@ use Rattle.channel.specs.Hints.{Way, Coming}
 -- How a word passes a channel c: the sender's word, the words under way before, how many instructions the sender and the receiver complete, the
 -- receiver's word then, the words under way after, and what is reported as received
 pub data Passing (c : ChannelId) (value : Word) (before : List Word) : ℕ → ℕ → Word → List Word → Received → Type 0 where
-  nothing : {w : Word} → Passing c value before 0 0 w before Nothing
-  direct : before ≡ [] → Passing c value before 1 1 value [] (GotWord c value)
-  called : {w : Word} → before ≡ [] → Passing c value before 1 0 w (one value) Nothing
-  taken : (w : Word) → before ≡ one w → Passing c value before 0 1 w [] (GotWord c w)
+  nothing : {w : Word} → Passing c value before 0 0 w before None
+  direct : before ≡ [] → Passing c value before 1 1 value [] (Some (c, value))
+  called : {w : Word} → before ≡ [] → Passing c value before 1 0 w (one value) None
+  taken : (w : Word) → before ≡ one w → Passing c value before 0 1 w [] (Some (c, w))
 
 -- Whose place goes on by an event of a channel: the sender's or the receiver's by a transfer, nobody's by a delivery. s and u are the two ends
 pub data Ran (m : Programs) (s u : TaskId) (x y : TaskId → Task) : Event → Type 0 where
@@ -240,11 +239,11 @@ pub record MoveTransition (m : Programs) (h h' : Histories) (x y : Reading) : Ty
 -- an accepted run step, and an accepted delivery
 pub data RunTransition (m : Programs) (h : Histories) (x : Reading) : Histories → Reading → Received → Type 0 where
   transfers : {y : Reading} {received : Received} (e : Transfer) → ChannelTransition m h x y (transfer e) received → RunTransition m h x h y received
-  owns : {y : Reading} → OwnTransition m h x y → RunTransition m h x h y Nothing
-  creates : {h' : Histories} {y : Reading} → CreateTransition m h h' x y → RunTransition m h x h' y Nothing
-  finishes : {y : Reading} → FinishTransition m h x y → RunTransition m h x h y Nothing
+  owns : {y : Reading} → OwnTransition m h x y → RunTransition m h x h y None
+  creates : {h' : Histories} {y : Reading} → CreateTransition m h h' x y → RunTransition m h x h' y None
+  finishes : {y : Reading} → FinishTransition m h x y → RunTransition m h x h y None
 
 pub data DeliverTransition (m : Programs) (h : Histories) (x y : Reading) : Received → Type 0 where
   delivers : {received : Received} (p : ℕ) (a : Delivery) → ChannelTransition m h x y (delivery p a) received → DeliverTransition m h x y received
-  ends : EndedTransition m h x y → DeliverTransition m h x y Nothing
-  arrives : ArrivalTransition m h x y → DeliverTransition m h x y Nothing
+  ends : EndedTransition m h x y → DeliverTransition m h x y None
+  arrives : ArrivalTransition m h x y → DeliverTransition m h x y None

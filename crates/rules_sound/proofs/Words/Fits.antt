@@ -6,10 +6,10 @@ use native.Mathlib.Omega.{arith}
 use lib.Dec.{eqb, ltb}
 use lib.ListN.{length}
 use borrow.Author.Tests.{ltb-true, lt-ltb}
+use Rattle.std.specs.Prelude.{Ok}
 use Rattle.base.proofs.Choices.{pick_either}
 use Rattle.base.proofs.Tests.{and_left, and_right}
 use Rattle.plan.specs.declared.Instruction.{Instruction}
-use Rattle.plan.specs.declared.PlanAnswer.TheVariants.{Accepted}
 use Rattle.plan.specs.declared.Word.{Word}
 use Rattle.plan.specs.Programs.{Programs, program_at, instruction_at}
 use Rattle.plan.specs.Refusals.{plan_answer}
@@ -62,7 +62,7 @@ operand_keeps i l =
       add = λ w h. with_fits w i.level ((level_of w i.level + i.operand) % 65536) h (omega arith);
     }
 
-pub plan_keeps : (m : Programs) → plan_answer m ≡ Accepted → KeptBy word_fits m
+pub plan_keeps : (m : Programs) → plan_answer m ≡ Ok tt → KeptBy word_fits m
 plan_keeps m a =
     let few : length m ≤ 64 = (sized m (plan_passed m a).sizes).tasks.few in
     record {

@@ -3,6 +3,7 @@ use mathlib.Core.Path.{◌≡◌, refl}
 use mathlib.Core.Bool.{Bool, true, not, ◌&&◌}
 use Prim.Native.Nat.{ℕ, ◌≤◌}
 use borrow.Author.Tests.{le-leb}
+use Rattle.std.specs.Prelude.{Some}
 use Rattle.base.proofs.Choices.{pick_either}
 use Rattle.plan.specs.declared.ProcessorId.{ProcessorId}
 use Rattle.plan.specs.declared.ChannelId.{ChannelId}
@@ -13,7 +14,6 @@ use Rattle.rules.specs.declared.channel.Cell.{Cell}
 use Rattle.rules.specs.declared.message.Message.TheVariants.{Offered, ReadyToReceive, Data}
 use Rattle.rules.specs.declared.rule.Site.{Site}
 use Rattle.rules.specs.declared.rule.Posting.{Posting}
-use Rattle.rules.specs.declared.rule.Received.TheVariants.{Word}
 use Rattle.rules.specs.Numbers.{same_processor, is_none}
 use Rattle.rules.specs.Tasks.{is_at}
 use Rattle.rules.specs.Cells.{hint, is_unknown, offer, counts, none_called}
@@ -24,7 +24,7 @@ use Rattle.rules.specs.Calls.{call_rule, data_rule}
 use Rattle.rules_sound.specs.Words.{task_good, message_good, received_good, GoodPosting, GoodOutcome}
 use Rattle.rules_sound.proofs.Words.Postings.{none_good, message_good_lem, adverts_good}
 
-received_good_lem : (good : WordOf → Bool) (c : ChannelId) (w : WordOf) → c.0 ≤ 128 → good w ≡ true → received_good good (Word c w) ≡ true
+received_good_lem : (good : WordOf → Bool) (c : ChannelId) (w : WordOf) → c.0 ≤ 128 → good w ≡ true → received_good good (Some (c, w)) ≡ true
 unfolding received_good
 received_good_lem good c w h k = rw (le-leb c.0 128 h) k
 

@@ -3,17 +3,16 @@ use mathlib.Core.Path.{◌≡◌, refl, sym, ◌∙◌}
 use mathlib.Core.Bool.{Bool, true}
 use mathlib.Core.List.{List, [], ◌∷◌}
 use Prim.Native.Nat.{ℕ, ◌≤◌}
+use Rattle.std.specs.Prelude.{Ok}
 use Rattle.base.specs.Lists.{every}
 use Rattle.base.proofs.Choices.{pick_cases}
 use Rattle.base.proofs.Tests.{and_both, within_low, within_high}
 use Rattle.plan.specs.declared.Plan.{Plan}
 use Rattle.plan.specs.declared.TaskId.{TaskId}
-use Rattle.plan.specs.declared.PlanAnswer.TheVariants.{Accepted as PlanAccepted}
 use Rattle.plan.specs.declared.Word.{Word as WordOf}
 use Rattle.plan.specs.Programs.{programs}
 use Rattle.plan.specs.Refusals.{plan_answer}
 use Rattle.rules.specs.declared.step.Step.{Step}
-use Rattle.rules.specs.declared.step.StepAnswer.TheVariants.{Accepted}
 use Rattle.rules.specs.declared.system.System.{System}
 use Rattle.rules.specs.Numbers.{task_id, processor_id}
 use Rattle.rules.specs.Systems.{meaning}
@@ -37,7 +36,7 @@ use Rattle.rules_sound.proofs.Words.Runs.{executed_good, moved_good}
 use Rattle.rules_sound.proofs.Words.Deliveries.{delivered_good}
 
 module _ {good : WordOf → Bool} (r : System) (z : Shaped r) (ok : system_ok r ≡ true) (k : KeptBy good (meaning r)) (h : GoodSystem good r) where
-  run_good : (t : TaskId) → run_answer r t ≡ Accepted → GoodEffect good (ran r t)
+  run_good : (t : TaskId) → run_answer r t ≡ Ok tt → GoodEffect good (ran r t)
   unfolding ran
   run_good t a =
       let f = sound r z ok in
@@ -47,7 +46,7 @@ module _ {good : WordOf → Bool} (r : System) (z : Shaped r) (ok : system_ok r 
       let keeps = next_in_lem r f.frame (whole r z f) t low high p.ready (Keeps good) k.instructions in
       executed_good r h t r.plan.tasks (next_of r t) (next_fine r f.frame (whole r z f) t low high p.ready) keeps
 
-  performed_good : (s : Step) → step_answer r s ≡ Accepted → GoodEffect good (performed r s)
+  performed_good : (s : Step) → step_answer r s ≡ Ok tt → GoodEffect good (performed r s)
   unfolding performed
   performed_good s a =
       let rule = (step_passed r s a).rule in
@@ -77,7 +76,7 @@ module _ {good : WordOf → Bool} where
       record { system = more.system; reports = and_both _ _ report more.reports }
 
   -- any list of steps from the start of an accepted plan
-  pub words_good : (n : ℕ) (p : Plan) (ss : List Step) → 1 ≤ n → n ≤ 6 → plan_answer (programs p) ≡ PlanAccepted → KeptBy good (programs p)
+  pub words_good : (n : ℕ) (p : Plan) (ss : List Step) → 1 ≤ n → n ≤ 6 → plan_answer (programs p) ≡ Ok tt → KeptBy good (programs p)
       → GoodHistory good (steps (started n p) ss)
   words_good n p ss some few a k =
       steps_good (started n p) (started_shaped n p) (started_ok n p some few a) (rw (started_plan n p) k) (started_good k.birth n p) ss
