@@ -10,27 +10,21 @@ use rules::channel::{Cell, Offer};
 pub fn carrying(x: Cell, o: Offer) -> Cell
     ensures { result ≡ carrying x o }
 {
-    let carried = x.channel.carried;
-    let kept = order::larger(carried, o);
-    crate::fields::with_carried(x, kept)
+    fields::with_carried(x, order::larger(x.channel.carried, o))
 }
 
 // An offer is held at the desk, beside one that may be there.
 pub fn holding(x: Cell, o: Offer) -> Cell
     ensures { result ≡ holding x o }
 {
-    let held = x.entry.held;
-    let kept = order::larger(held, o);
-    fields::with_held(x, kept)
+    fields::with_held(x, order::larger(x.entry.held, o))
 }
 
 // An advert is noted at the desk.
 pub fn noting(x: Cell, d: ProcessorId) -> Cell
     ensures { result ≡ noting x d }
 {
-    let noted = x.entry.noted;
-    let kept = order::first_noted(noted, d);
-    crate::fields::with_noted(x, kept)
+    fields::with_noted(x, order::first_noted(x.entry.noted, d))
 }
 
 // One more word is called for, and the call is marked.
@@ -38,10 +32,8 @@ pub fn granting(mut x: Cell) -> Cell
     requires { x.channel.granted < 255 }
     ensures { result ≡ granting x }
 {
-    let mut k = x.channel;
-    k.granted = k.granted + 1;
-    k.awaiting = true;
-    x.channel = k;
+    x.channel.granted += 1;
+    x.channel.awaiting = true;
     x
 }
 
@@ -49,19 +41,14 @@ pub fn granting(mut x: Cell) -> Cell
 pub fn cleared(mut x: Cell) -> Cell
     ensures { result ≡ cleared x }
 {
-    let mut k = x.channel;
-    k.awaiting = false;
-    x.channel = k;
+    x.channel.awaiting = false;
     x
 }
 
 // The w-th word passes directly.
-pub fn passing(x: Cell, w: u8) -> Cell
+pub fn passing(mut x: Cell, w: u8) -> Cell
     ensures { result ≡ passing x w }
 {
-    let mut y = cleared(x);
-    let mut k = y.channel;
-    k.granted = w;
-    y.channel = k;
-    y
+    x.channel.granted = w;
+    cleared(x)
 }

@@ -9,9 +9,7 @@ use rules::channel::{Cell, Hint, Offer};
 pub fn with_held(mut x: Cell, o: Offer) -> Cell
     ensures { result ≡ with_held x o }
 {
-    let mut e = x.entry;
-    e.held = o;
-    x.entry = e;
+    x.entry.held = o;
     x
 }
 
@@ -19,9 +17,7 @@ pub fn with_held(mut x: Cell, o: Offer) -> Cell
 pub fn with_hint(mut x: Cell, h: Hint) -> Cell
     ensures { result ≡ with_hint x h }
 {
-    let mut e = x.entry;
-    e.hint = h;
-    x.entry = e;
+    x.entry.hint = h;
     x
 }
 
@@ -29,9 +25,7 @@ pub fn with_hint(mut x: Cell, h: Hint) -> Cell
 pub fn with_noted(mut x: Cell, d: ProcessorId) -> Cell
     ensures { result ≡ with_noted x d }
 {
-    let mut e = x.entry;
-    e.noted = d;
-    x.entry = e;
+    x.entry.noted = d;
     x
 }
 
@@ -39,8 +33,6 @@ pub fn with_noted(mut x: Cell, d: ProcessorId) -> Cell
 pub fn with_carried(mut x: Cell, o: Offer) -> Cell
     ensures { result ≡ with_carried x o }
 {
-    let mut k = x.channel;
-    k.carried = o;
-    x.channel = k;
+    x.channel.carried = o;
     x
 }

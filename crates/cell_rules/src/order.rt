@@ -7,6 +7,7 @@ use plan::ProcessorId;
 use rules::channel::{Hint, Offer};
 
 // The offer with the larger number; the earlier of equals.
+#[tactic(auto, unfolding(rules::specs::Cells::larger))]
 pub fn larger(earlier: Offer, later: Offer) -> Offer
     ensures { result ≡ larger earlier later }
 {
@@ -18,6 +19,7 @@ pub fn larger(earlier: Offer, later: Offer) -> Offer
 }
 
 // Of two adverts the first stays.
+#[tactic(auto, unfolding(rules::specs::Cells::first_noted))]
 pub fn first_noted(first: ProcessorId, later: ProcessorId) -> ProcessorId
     ensures { result ≡ first_noted first later }
 {
@@ -38,14 +40,14 @@ pub fn unknown() -> Hint
 pub fn no_offer() -> Offer
     ensures { result ≡ no_offer }
 {
-    let none = ProcessorId(0);
     Offer {
-        processor: none,
+        processor: ProcessorId(0),
         number: 0,
     }
 }
 
 // The pointer with the larger count; the desk's own of equals.
+#[tactic(auto, unfolding(rules::specs::Hints::newer))]
 pub fn newer(own: Hint, other: Hint) -> Hint
     ensures { result ≡ newer own other }
 {
@@ -56,6 +58,5 @@ pub fn newer(own: Hint, other: Hint) -> Hint
 pub fn points_on(own: Hint, along: Hint) -> bool
     ensures { result ≡ points_on own along along.processor }
 {
-    let stays = own.processor.0 == along.processor.0;
-    base::both(!stays, along.moves < own.moves)
+    own.processor != along.processor && along.moves < own.moves
 }

@@ -4,6 +4,7 @@ mod calls;
 ghost use Rattle.std.specs.Prelude.{◌≡◌};
 ghost use Rattle.channel_rules.specs.messages.Messages.{on_call, on_data};
 
+use crate::outcomes;
 use rules::message::Message;
 use rules::rule::{Outcome, Site};
 
@@ -12,7 +13,7 @@ pub fn call(x: Site, m: Message) -> Outcome
     ensures { result ≡ on_call x m }
 {
     let Message::ReadyToReceive(c, d, h) = m else {
-        return crate::outcomes::untouched(x);
+        return outcomes::untouched(x);
     };
     calls::call_rule(x, c, d, h)
 }
@@ -22,7 +23,7 @@ pub fn data(x: Site, m: Message) -> Outcome
     ensures { result ≡ on_data x m }
 {
     let Message::Data(c, d, w) = m else {
-        return crate::outcomes::untouched(x);
+        return outcomes::untouched(x);
     };
     calls::data_rule(x, c, d, w)
 }

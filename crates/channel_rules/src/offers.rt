@@ -4,6 +4,7 @@ mod rule;
 ghost use Rattle.std.specs.Prelude.{◌≡◌, ◌<◌};
 ghost use Rattle.channel_rules.specs.offers.Offers.{on_offer, on_advert};
 
+use crate::outcomes;
 use rules::message::Message;
 use rules::rule::{Outcome, Site};
 
@@ -13,7 +14,7 @@ pub fn offer(x: Site, m: Message) -> Outcome
     ensures { result ≡ on_offer x m }
 {
     let Message::Offered(c, o, h) = m else {
-        return crate::outcomes::untouched(x);
+        return outcomes::untouched(x);
     };
     rule::offer_rule(x, c, o, h)
 }
@@ -24,7 +25,7 @@ pub fn advert(x: Site, m: Message) -> Outcome
     ensures { result ≡ on_advert x m }
 {
     let Message::Advert(c, d, from) = m else {
-        return crate::outcomes::untouched(x);
+        return outcomes::untouched(x);
     };
     rule::advert_rule(x, c, d, from)
 }

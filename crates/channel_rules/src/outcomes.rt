@@ -7,16 +7,15 @@ ghost use Rattle.channel_rules.specs.outcomes.Outcomes.{untouched};
 use plan::{ChannelId, ProcessorId};
 use rules::channel::{Cell, Hint};
 use rules::message::Message;
-use rules::rule::{Outcome, Posting, Received, Site};
+use rules::rule::{Outcome, Posting, Site};
 use rules::task::Task;
 
 // A call to the desk that offered, from the receiver x.
 pub fn call_to(from: ProcessorId, c: ChannelId, x: Task) -> Posting
     ensures { result ≡ call_to from c x }
 {
-    let d = x.processor;
     let h = Hint {
-        processor: d,
+        processor: x.processor,
         moves: x.moves,
     };
     Posting::Single(Message::ReadyToReceive(c, from, h))
@@ -26,14 +25,12 @@ pub fn call_to(from: ProcessorId, c: ChannelId, x: Task) -> Posting
 pub fn kept(x: Site, cell: Cell, posting: Posting) -> Outcome
     ensures { result ≡ kept x cell posting }
 {
-    let sender = x.sender;
-    let receiver = x.receiver;
     Outcome {
-        sender: sender,
-        receiver: receiver,
-        cell: cell,
-        posting: posting,
-        received: Received::Nothing,
+        sender: x.sender,
+        receiver: x.receiver,
+        cell,
+        posting,
+        received: None,
     }
 }
 

@@ -4,47 +4,40 @@ ghost use Rattle.channel_rules.specs.Tests.{sends_here, advert_stands};
 ghost use Rattle.rules.specs.Cells.{granting};
 ghost use Rattle.rules.specs.Receive.{call_to, receive_passes, receive_waits, receive_rule};
 
+use crate::outcomes;
 use plan::{ChannelId, ProcessorId};
 use rules::channel::Cell;
-use rules::rule::{Outcome, Posting, Received, Site};
+use rules::rule::{Outcome, Posting, Site};
 use rules::task::TaskState;
 
 // The word passes directly.
+#[tactic(auto, unfolding(rules::specs::Receive::receive_passes))]
 fn receive_passes(x: Site, c: ChannelId, w: u8) -> Outcome
     requires { x.receiver.pc < 255 }
     ensures { result ≡ receive_passes x c w }
 {
-    let sender = x.sender;
-    let word = sender.word;
+    let word = x.sender.word;
     let received = task_rules::change::advanced(x.receiver);
-    let ready = task_rules::change::taking(received, word);
-    let resumed = task_rules::change::readied(sender);
     let passed = cell_rules::change::passing(x.cell, w);
-    let none = cell_rules::order::no_offer();
-    let dropped = cell_rules::fields::with_carried(passed, none);
     Outcome {
-        sender: resumed,
-        receiver: ready,
-        cell: dropped,
+        sender: task_rules::change::readied(x.sender),
+        receiver: task_rules::change::taking(received, word),
+        cell: cell_rules::fields::with_carried(passed, cell_rules::order::no_offer()),
         posting: Posting::Nothing,
-        received: Received::Word(c, word),
+        received: Some((c, word)),
     }
 }
 
 // The receiver waits, with this cell and this posting.
+#[tactic(auto, unfolding(rules::specs::Receive::receive_waits))]
 fn receive_waits(x: Site, cell: Cell, posting: Posting) -> Outcome
     requires { x.receiver.pc < 255 }
     ensures { result ≡ receive_waits x cell posting }
 {
-    let sender = x.sender;
     let received = task_rules::change::advanced(x.receiver);
-    let receiving = received.with_state(TaskState::Receiving);
     Outcome {
-        sender: sender,
-        receiver: receiving,
-        cell: cell,
-        posting: posting,
-        received: Received::Nothing,
+        receiver: received.with_state(TaskState::Receiving),
+        ..outcomes::kept(x, cell, posting)
     }
 }
 
@@ -53,7 +46,7 @@ fn receive_answers(x: Site, cell: Cell, from: ProcessorId, c: ChannelId) -> Outc
     requires { (x.receiver.pc < 255) × (cell.channel.granted < 255) }
     ensures { result ≡ receive_waits x (granting cell) (call_to from c x.receiver) }
 {
-    let call = crate::outcomes::call_to(from, c, x.receiver);
+    let call = outcomes::call_to(from, c, x.receiver);
     let granted = cell_rules::change::granting(cell);
     receive_waits(x, granted, call)
 }
@@ -62,20 +55,18 @@ fn receive_answers(x: Site, cell: Cell, from: ProcessorId, c: ChannelId) -> Outc
 fn sends_here(x: Site) -> bool
     ensures { result ≡ sends_here x }
 {
-    let here = task_rules::state::is_at(x.sender, x.receiver.processor);
-    base::both(x.sending, here)
+    x.sending && task_rules::state::is_at(x.sender, x.receiver.processor)
 }
 
 // An advert is noted, and no word was called for.
 fn advert_stands(x: Site) -> bool
     ensures { result ≡ advert_stands x }
 {
-    let noted = !task_rules::state::is_none(x.cell.entry.noted);
-    let first = cell_rules::test::none_called(x.cell);
-    base::both(first, noted)
+    cell_rules::test::none_called(x.cell) && !task_rules::state::is_none(x.cell.entry.noted)
 }
 
 // A receive on c; w is the number of the sender's last executed send on c.
+#[tactic(auto, unfolding(rules::specs::Receive::receive_rule))]
 pub fn receive_rule(x: Site, c: ChannelId, w: u8) -> Outcome
     requires { (x.receiver.pc < 255) × (x.cell.channel.granted < 255) }
     ensures { result ≡ receive_rule x c w }
@@ -86,8 +77,7 @@ pub fn receive_rule(x: Site, c: ChannelId, w: u8) -> Outcome
         return receive_passes(x, c, w);
     }
     if cell_rules::test::counts(x.cell, o) {
-        let none = cell_rules::order::no_offer();
-        let removed = cell_rules::fields::with_carried(x.cell, none);
+        let removed = cell_rules::fields::with_carried(x.cell, cell_rules::order::no_offer());
         return receive_answers(x, removed, o.processor, c);
     }
     if advert_stands(x) {

@@ -3,45 +3,39 @@ ghost use Rattle.std.specs.Prelude.{◌≡◌, ◌<◌};
 ghost use Rattle.channel_rules.specs.Tests.{receives_here};
 ghost use Rattle.rules.specs.Send.{send_passes, send_waits, send_rule};
 
+use crate::outcomes;
 use plan::ChannelId;
 use rules::channel::{Cell, Offer};
 use rules::message::Message;
-use rules::rule::{Outcome, Posting, Received, Site};
+use rules::rule::{Outcome, Posting, Site};
 use rules::task::TaskState;
 
 // The word passes directly.
+#[tactic(auto, unfolding(rules::specs::Send::send_passes))]
 fn send_passes(x: Site, c: ChannelId, w: u8) -> Outcome
     requires { x.sender.pc < 255 }
     ensures { result ≡ send_passes x c w }
 {
-    let receiver = x.receiver;
     let word = x.sender.word;
-    let sent = task_rules::change::advanced(x.sender);
-    let ready = task_rules::change::taking(receiver, word);
-    let passed = cell_rules::change::passing(x.cell, w);
     Outcome {
-        sender: sent,
-        receiver: ready,
-        cell: passed,
+        sender: task_rules::change::advanced(x.sender),
+        receiver: task_rules::change::taking(x.receiver, word),
+        cell: cell_rules::change::passing(x.cell, w),
         posting: Posting::Nothing,
-        received: Received::Word(c, word),
+        received: Some((c, word)),
     }
 }
 
 // The sender waits, with this cell and this posting.
+#[tactic(auto, unfolding(rules::specs::Send::send_waits))]
 fn send_waits(x: Site, cell: Cell, posting: Posting) -> Outcome
     requires { x.sender.pc < 255 }
     ensures { result ≡ send_waits x cell posting }
 {
-    let receiver = x.receiver;
     let sent = task_rules::change::advanced(x.sender);
-    let sending = sent.with_state(TaskState::Sending);
     Outcome {
-        sender: sending,
-        receiver: receiver,
-        cell: cell,
-        posting: posting,
-        received: Received::Nothing,
+        sender: sent.with_state(TaskState::Sending),
+        ..outcomes::kept(x, cell, posting)
     }
 }
 
@@ -49,12 +43,12 @@ fn send_waits(x: Site, cell: Cell, posting: Posting) -> Outcome
 fn receives_here(x: Site) -> bool
     ensures { result ≡ receives_here x }
 {
-    let uncalled = base::both(x.receiving, !x.cell.channel.awaiting);
     let here = task_rules::state::is_at(x.receiver, x.sender.processor);
-    base::both(here, uncalled)
+    here && x.receiving && !x.cell.channel.awaiting
 }
 
 // The sender's w-th send on c: the word passes, or the offer is carried, advertised, held or sent in a letter.
+#[tactic(auto, unfolding(rules::specs::Send::send_rule))]
 pub fn send_rule(x: Site, c: ChannelId, w: u8) -> Outcome
     requires { x.sender.pc < 255 }
     ensures { result ≡ send_rule x c w }
@@ -75,7 +69,7 @@ pub fn send_rule(x: Site, c: ChannelId, w: u8) -> Outcome
     if task_rules::state::is_none(h.processor) {
         return send_waits(x, x.cell, Posting::Adverts(c, d));
     }
-    if task_rules::state::same_processor(h.processor, d) {
+    if h.processor == d {
         let held = cell_rules::change::holding(x.cell, o);
         return send_waits(x, held, Posting::Nothing);
     }

@@ -12,32 +12,24 @@ use rules::message::{Message, Slot};
 use rules::rule::Posting;
 use rules::step::Step;
 
-// The position of the letter that a step delivers, of so many letters; 0 if it delivers none.
+// The position of the letter that a step delivers, of so many letters; 0 if it delivers none. The 0 is the contract's.
+#[tactic(auto, unfolding(crate::specs::Positions::position_of))]
 pub fn position(used: usize, s: Step) -> usize
     ensures { (result ≡ position_of used s) × (result ≤ used) }
 {
-    if s.kind != 2 {
-        return 0;
+    let p = s.number as usize;
+    if s.kind == 2 && s.task == 0 && 1 <= p && p <= used {
+        p
+    } else {
+        0
     }
-    if s.task != 0 {
-        return 0;
-    }
-    let p = base::wide16(s.number);
-    if base::is_within(1, used, p) {
-        return p;
-    }
-    0
 }
 
 // Whether a letter is posted, and nothing but that.
 pub fn posts(x: Posting) -> bool
     ensures { result ≡ is_message x }
 {
-    match x {
-        Posting::Nothing => false,
-        Posting::Single(_) => true,
-        Posting::Adverts(_, _) => false,
-    }
+    matches!(x, Posting::Single(_))
 }
 
 // How many desks a posting goes by, in a rig of so many.
@@ -68,15 +60,12 @@ pub fn message(x: Posting, j: u8) -> Slot
     requires { j < 255 }
     ensures { result.message ≡ message_of x j }
 {
-    match x {
-        Posting::Nothing => Slot {
-            message: Message::Empty,
-        },
-        Posting::Single(m) => Slot { message: m },
-        Posting::Adverts(c, d) => Slot {
-            message: Message::Advert(c, ProcessorId(j + 1), d),
-        },
-    }
+    let message = match x {
+        Posting::Nothing => Message::Empty,
+        Posting::Single(m) => m,
+        Posting::Adverts(c, d) => Message::Advert(c, ProcessorId(j + 1), d),
+    };
+    Slot { message }
 }
 
 // How many letters a rule posts in a rig of so many desks.
@@ -94,10 +83,10 @@ pub fn messages_needed(processors: u8, p: Posting) -> usize
 fn other_processors(processors: u8, d: ProcessorId) -> usize
     ensures { result ≡ other_processors processors d }
 {
-    let all = base::wide8(processors);
-    let own = base::wide8(d.0);
-    if base::is_within(1, all, own) {
-        return all - 1;
+    let all = processors as usize;
+    if 1 <= d.0 && d.0 <= processors {
+        all - 1
+    } else {
+        all
     }
-    all
 }

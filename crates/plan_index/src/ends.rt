@@ -3,7 +3,6 @@
 pub mod numbers;
 
 ghost use Rattle.std.specs.Prelude.{◌≡◌};
-ghost use Rattle.plan.specs.declared.PlanAnswer.TheVariants.{Accepted};
 ghost use Rattle.plan.specs.Programs.{programs};
 ghost use Rattle.plan.specs.Refusals.{plan_answer};
 ghost use Rattle.plan_index.specs.ends.Derived.{ends_of};
@@ -24,7 +23,7 @@ pub struct Ends {
 
 // The ends of an accepted plan: the pass over its instructions fills the first three tables.
 pub fn derive(p: Plan) -> Ends
-    requires { plan_answer (programs p) ≡ Accepted }
+    requires { plan_answer (programs p) ≡ Ok tt }
     ensures { result ≡ ends_of p }
 {
     let tasks = p.tasks;
@@ -41,9 +40,9 @@ pub fn derive(p: Plan) -> Ends
     );
     let numbers = numbers::send_numbers(tasks, &p.lengths, &p.codes);
     Ends {
-        senders: senders,
-        receivers: receivers,
-        parents: parents,
-        numbers: numbers,
+        senders,
+        receivers,
+        parents,
+        numbers,
     }
 }

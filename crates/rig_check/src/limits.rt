@@ -10,14 +10,14 @@ use plan::ProcessorId;
 pub fn processor_ok(n: u8, d: ProcessorId) -> bool
     ensures { result ≡ processor_ok n d }
 {
-    base::is_within(1, n as usize, d.0 as usize)
+    1 <= d.0 && d.0 <= n
 }
 
 // Such a desk with a number from 1 to the limit.
 pub fn pair_ok(n: u8, limit: usize, d: ProcessorId, k: usize) -> bool
     ensures { result ≡ pair_ok n limit d k }
 {
-    base::both(processor_ok(n, d), base::is_within(1, limit, k))
+    processor_ok(n, d) && 1 <= k && k <= limit
 }
 
 // Such a desk and number, or neither.
@@ -25,7 +25,8 @@ pub fn entry_ok(n: u8, limit: usize, d: ProcessorId, k: usize) -> bool
     ensures { result ≡ entry_ok n limit d k }
 {
     if d.0 == 0 {
-        return k == 0;
+        k == 0
+    } else {
+        pair_ok(n, limit, d, k)
     }
-    pair_ok(n, limit, d, k)
 }

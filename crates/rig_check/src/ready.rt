@@ -25,13 +25,9 @@ fn ready_set(m: u8, ts: TaskTable, d: ProcessorId) -> u64
     ensures { result ≡ set_of m (λ t. is_ready_at d (task_in ts (task_id t))) }
 {
     let mut s: u64 = 0;
-    let mut t: u8 = 0;
-    while t < m {
-        let k = base::wide8(t);
-        let x = ts.records[k];
-        let more = insert_where(is_ready_at(x, d), s, t + 1);
-        s = more;
-        t = t + 1;
+    for t in 0..m {
+        let x = ts.records[t as usize];
+        s = insert_where(is_ready_at(x, d), s, t + 1);
     }
     s
 }
@@ -41,14 +37,10 @@ pub fn ready_ok(m: u8, ts: TaskTable) -> bool
     requires { m ≤ 64 }
     ensures { result ≡ ready_ok m ts }
 {
-    let mut d: u8 = 0;
-    while d < 6 {
-        let k = base::wide8(d);
-        let stored = ts.ready[k];
-        if stored != ready_set(m, ts, ProcessorId(d + 1)) {
+    for d in 0..6 {
+        if ts.ready[d as usize] != ready_set(m, ts, ProcessorId(d + 1)) {
             return false;
         }
-        d = d + 1;
     }
     true
 }

@@ -9,42 +9,34 @@ ghost use Rattle.rules.specs.Systems.{meaning};
 ghost use Rattle.rig_check.specs.system.Tasks.{last_kind, tasks_ok, origins_ok};
 
 use crate::tasks::{origin_ok, task_ok};
-use plan::{Instruction, Plan, PlanAnswer};
+use crate::{network, ready, tables};
+use plan::{Instruction, Plan};
 use rules::system::System;
 
 // A plan that 2 to 6 would not refuse.
 fn plan_ok(p: Plan) -> bool
     ensures { result ≡ is_accepted (plan_answer (programs p)) }
 {
-    match plan_value::check(p) {
-        PlanAnswer::Accepted => true,
-        PlanAnswer::Refused(_) => false,
-    }
+    plan_value::check(p).is_ok()
 }
 
 // A number of desks.
 pub fn processors_ok(n: u8) -> bool
     ensures { result ≡ within 1 6 n }
 {
-    base::is_within(1, 6, n as usize)
+    1 <= n && n <= 6
 }
 
-// The kind of the last executed instruction of task k + 1, which is at place pc; 0 where there is none.
+// The kind of the last executed instruction of task k + 1, which is at place pc; 0 where there is none. The 0 is the contract's.
 pub fn last_kind<'a>(lengths: &'a [u8; 64], codes: &'a [u32; 4096], k: usize, pc: u8) -> u8
     requires { (k < 64) × (get_or lengths.now k 0 ≤ 64) }
     ensures { result ≡ last_kind lengths.now codes.now k pc }
 {
-    let place = base::wide8(pc);
-    if place <= 1 {
+    let place = pc as usize;
+    if place <= 1 || lengths[k] as usize <= place - 2 {
         return 0;
     }
-    let i = place - 2;
-    if base::wide8(lengths[k]) <= i {
-        return 0;
-    }
-    let code = codes[64 * k + i];
-    let last = Instruction::of(code);
-    last.opcode
+    Instruction::of(codes[64 * k + (place - 2)]).opcode
 }
 
 // Tasks 1 to T, of a rig whose plan's sizes are in range.
@@ -56,15 +48,12 @@ fn tasks_ok(r: System) -> bool
     let n = r.processors;
     let p = r.plan;
     let m = p.tasks;
-    let end = base::wide8(m);
-    let mut k: usize = 0;
-    while k < end {
+    for k in 0..m as usize {
         let x = ts.records[k];
         let kind = last_kind(&p.lengths, &p.codes, k, x.pc);
         if !task_ok(n, m, p.lengths[k], kind, x) {
             return false;
         }
-        k += 1;
     }
     true
 }
@@ -77,48 +66,35 @@ fn origins_ok(r: System) -> bool
     let ts = r.tasks;
     let n = r.processors;
     let p = r.plan;
-    let end = base::wide8(p.tasks);
-    let mut k: usize = 0;
-    while k < end {
-        let x = ts.records[k];
-        if !origin_ok(n, k + 1, x) {
+    for k in 0..p.tasks as usize {
+        if !origin_ok(n, k + 1, ts.records[k]) {
             return false;
         }
-        k += 1;
     }
     true
 }
 
 // Refusal 9, of any rig: true where it is not refused. The number of desks and the plan come first,
 // since the rest is read by them.
+#[tactic(auto, unfolding(rules::specs::Sound::system_ok, rules::specs::Sound::chosen_ok))]
 pub fn system_ok(r: System) -> bool
     ensures { result ≡ system_ok r }
 {
     let n = r.processors;
+    let p = r.plan;
+    let m = p.tasks;
     if !processors_ok(n) {
         return false;
     }
-    let p = r.plan;
     if !plan_ok(p) {
         return false;
     }
-    if !tasks_ok(r) {
-        return false;
-    }
-    if !origins_ok(r) {
-        return false;
-    }
-    let t = r.tables;
-    let c = r.channels;
-    let parents = r.parents;
-    let network = r.network;
-    let kept = crate::tables::channel_entries_ok(n, c);
-    let family = crate::tables::parents_ok(n, p.tasks, parents);
-    let tasks = r.tasks;
-    let ready = crate::ready::ready_ok(p.tasks, tasks);
-    let chosen = crate::tables::all_at_most(p.tasks, &r.chosen);
-    let mail = base::both(chosen, crate::network::network_ok(n, p.tasks, network));
-    let last = base::both(family, base::both(ready, mail));
-    let rest = base::both(kept, last);
-    base::both(crate::tables::tables_ok(n, t), rest)
+    tasks_ok(r)
+        && origins_ok(r)
+        && tables::tables_ok(n, r.tables)
+        && tables::channel_entries_ok(n, r.channels)
+        && tables::parents_ok(n, m, r.parents)
+        && ready::ready_ok(m, r.tasks)
+        && tables::all_at_most(m, &r.chosen)
+        && network::network_ok(n, m, r.network)
 }

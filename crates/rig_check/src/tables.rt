@@ -14,14 +14,7 @@ use rules::system::{Channels, Parents, Tables};
 pub fn all_at_most(limit: u8, xs: &[u8]) -> bool
     ensures { result ≡ every (λ d. leb d limit) xs.now }
 {
-    let mut i: usize = 0;
-    while i < xs.len() {
-        if limit < xs[i] {
-            return false;
-        }
-        i += 1;
-    }
-    true
+    xs.iter().all(|d| *d <= limit)
 }
 
 // Every pointer of a table, which holds desks and counts apart.
@@ -29,14 +22,10 @@ pub fn hints_ok<'a>(n: u8, processors: &'a [u8], moves: &'a [u16]) -> bool
     requires { length processors.now ≡ length moves.now }
     ensures { result ≡ every_pair (λ d k. hint_ok n (hint (processor_id d) k)) processors.now moves.now }
 {
-    let mut i: usize = 0;
-    while i < processors.len() {
-        if !entry_ok(n, 9999, ProcessorId(processors[i]), base::wide16(moves[i])) {
-            return false;
-        }
-        i += 1;
-    }
-    true
+    processors
+        .iter()
+        .zip(moves)
+        .all(|(d, k)| entry_ok(n, 9999, ProcessorId(*d), *k as usize))
 }
 
 // Every offer of a table, which holds desks and numbers apart.
@@ -44,53 +33,43 @@ pub fn offers_ok<'a>(n: u8, processors: &'a [u8], numbers: &'a [u8]) -> bool
     requires { length processors.now ≡ length numbers.now }
     ensures { result ≡ every_pair (λ d w. offer_ok n (offer (processor_id d) w)) processors.now numbers.now }
 {
-    let mut i: usize = 0;
-    while i < processors.len() {
-        if !entry_ok(n, 64, ProcessorId(processors[i]), base::wide8(numbers[i])) {
-            return false;
-        }
-        i += 1;
-    }
-    true
+    processors
+        .iter()
+        .zip(numbers)
+        .all(|(d, w)| entry_ok(n, 64, ProcessorId(*d), *w as usize))
 }
 
 // What the desks keep.
+#[tactic(auto, unfolding(rules::specs::Sound::tables_ok))]
 pub fn tables_ok(n: u8, x: Tables) -> bool
     ensures { result ≡ tables_ok n x }
 {
-    let hints = hints_ok(n, &x.hintprocessors, &x.hintmoves);
-    let offers = offers_ok(n, &x.heldprocessors, &x.heldnumbers);
-    base::both(hints, base::both(offers, all_at_most(n, &x.notes)))
+    hints_ok(n, &x.hintprocessors, &x.hintmoves)
+        && offers_ok(n, &x.heldprocessors, &x.heldnumbers)
+        && all_at_most(n, &x.notes)
 }
 
 // What the channels keep.
+#[tactic(auto, unfolding(rules::specs::Sound::channel_entries_ok))]
 pub fn channel_entries_ok(n: u8, x: Channels) -> bool
     ensures { result ≡ channel_entries_ok n x }
 {
-    let granted = all_at_most(64, &x.granted);
-    let offers = offers_ok(n, &x.carriedprocessors, &x.carriednumbers);
-    let hints = hints_ok(n, &x.travellingprocessors, &x.travellingmoves);
-    base::both(granted, base::both(offers, hints))
+    all_at_most(64, &x.granted)
+        && offers_ok(n, &x.carriedprocessors, &x.carriednumbers)
+        && hints_ok(n, &x.travellingprocessors, &x.travellingmoves)
 }
 
 // Every child of every set is a task of a rig of m tasks.
 fn all_children(m: u8, xs: &[u64]) -> bool
     ensures { result ≡ every (λ s. ltb s (2 ^ m)) xs.now }
 {
-    let mut i: usize = 0;
-    while i < xs.len() {
-        if !children_ok(m, xs[i]) {
-            return false;
-        }
-        i += 1;
-    }
-    true
+    xs.iter().all(|s| children_ok(m, *s))
 }
 
 // What the desks keep for parents, in a rig of m tasks.
+#[tactic(auto, unfolding(rules::specs::Sound::parents_ok))]
 pub fn parents_ok(n: u8, m: u8, x: Parents) -> bool
     ensures { result ≡ parents_ok n m x }
 {
-    let hints = hints_ok(n, &x.hintprocessors, &x.hintmoves);
-    base::both(hints, all_children(m, &x.held))
+    hints_ok(n, &x.hintprocessors, &x.hintmoves) && all_children(m, &x.held)
 }

@@ -2,13 +2,13 @@
 use mathlib.Core.Path.{◌≡◌, refl, sym, ◌∙◌}
 use mathlib.Core.Logic.{by_cases}
 use Prim.Native.Nat.{ℕ, zero, suc, ◌+◌, ◌*◌, ◌-◌, ◌/◌, ◌%◌, ◌^◌, ◌<◌, ◌≤◌}
-use native.Mathlib.Nat.{mod-lt, mod-eq_of_lt, mul-one}
+use native.Mathlib.Nat.{mod-lt, mul-one}
 use native.Mathlib.Omega.{arith}
 use native.Mathlib.Decide.{dec_lt}
-use lib.Bits.{bit_and, and_high, shifted_half, shifted_even}
+use lib.Bits.{shifted_half, shifted_even}
 use lib.Count.{count_trailing_zeros, under}
 use lib.Dec.{eqb, ltb}
-use lib.Pow.{pow_pos, shr-shr, shr_lt}
+use lib.Pow.{shr-shr}
 use borrow.Author.Tests.{lt-ltb, le-ltb, ne_eqb}
 use Rattle.base.specs.Choice.{pick}
 use Rattle.base.specs.Sets.{member}
@@ -49,16 +49,6 @@ cleared zero k x = let e : 0 + k ≡ k = omega arith in rw (mul-one x, e) (omega
 cleared (suc a) k x =
     let e : suc a + k ≡ suc (a + k) = omega arith in
     rw (e, shifted_even x a, shifted_half x a, cleared a k x) (omega arith)
-
-module _ (s a : ℕ) (l : s < 18446744073709551616) (few : a < 64) where
-  -- the mask as the code makes it
-  pub masked : bit_and s (18446744073709551615 - (2 ^ a - 1)) ≡ s / 2 ^ a * 2 ^ a
-  masked =
-      let e : (64 - a) + a ≡ 64 = omega arith in
-      let m : 18446744073709551615 - (2 ^ a - 1) ≡ 18446744073709551616 - 2 ^ a = omega (arith, pow_pos a) in
-      let h : bit_and s (2 ^ ((64 - a) + a) - 2 ^ a) ≡ (s / 2 ^ a % 2 ^ (64 - a)) * 2 ^ a = and_high s (64 - a) a in
-      let q : s / 2 ^ a < 2 ^ (64 - a) = shr_lt (64 - a) a (rw e l) in
-      rw m ((rw e at h) ∙ rw (mod-eq_of_lt q) refl)
 
 -- the next of tasks 1 .. m, where the trailing zeros of the masked set and of the whole set are y and z
 module _ (m a s : ℕ) {y z : ℕ} (few : m ≤ 64) (last : a ≤ 64) (ye : y ≡ count_trailing_zeros 64 (s / 2 ^ a * 2 ^ a)) (ze : z ≡ count_trailing_zeros 64 s) where

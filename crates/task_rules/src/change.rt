@@ -6,24 +6,12 @@ use plan::Word;
 use rules::task::{Task, TaskState};
 
 // The place goes on by one.
-pub fn advanced(x: Task) -> Task
+pub fn advanced(mut x: Task) -> Task
     requires { x.pc < 255 }
     ensures { result ≡ advanced x }
 {
-    let state = x.state;
-    let processor = x.processor;
-    let origin = x.origin;
-    let word = x.word;
-    Task {
-        state: state,
-        processor: processor,
-        pc: x.pc + 1,
-        origin: origin,
-        word: word,
-        overflow: x.overflow,
-        moves: x.moves,
-        children: x.children,
-    }
+    x.pc += 1;
+    x
 }
 
 // The task is ready.

@@ -18,7 +18,7 @@ pub fn is_childless(x: Task) -> bool
 pub fn living(x: Task) -> u32
     ensures { (result ≡ size 64 x.children) × (eqb result 0 ≡ is_childless x) }
 {
-    u64::count_ones(x.children)
+    x.children.count_ones()
 }
 
 // t is a living child.
@@ -34,18 +34,16 @@ pub fn with_child(mut x: Task, t: TaskId) -> Task
     requires { (1 ≤ t.0) × (t.0 ≤ 64) }
     ensures { result ≡ with_child x t }
 {
-    let more = set::insert(x.children, t.0);
-    x.children = more;
+    x.children = set::insert(x.children, t.0);
     x
 }
 
 // A task that waits for no child is ready.
+#[tactic(auto, unfolding(rules::specs::Tasks::woken))]
 fn woken(x: Task) -> Task
     ensures { result ≡ woken x }
 {
-    let waiting = state::is_in(x, TaskState::Waiting);
-    let childless = is_childless(x);
-    if base::both(waiting, childless) {
+    if state::is_in(x, TaskState::Waiting) && is_childless(x) {
         change::readied(x)
     } else {
         x
@@ -57,8 +55,7 @@ pub fn without_child(mut x: Task, t: TaskId) -> Task
     requires { (1 ≤ t.0) × (t.0 ≤ 64) }
     ensures { result ≡ without_child x t }
 {
-    let fewer = set::remove(x.children, t.0);
-    x.children = fewer;
+    x.children = set::remove(x.children, t.0);
     woken(x)
 }
 
@@ -66,7 +63,6 @@ pub fn without_child(mut x: Task, t: TaskId) -> Task
 pub fn without_children(mut x: Task, held: u64) -> Task
     ensures { result ≡ without_children x held }
 {
-    let fewer = set::remove_all(held, x.children);
-    x.children = fewer;
+    x.children = set::remove_all(held, x.children);
     x
 }

@@ -16,11 +16,11 @@ pub fn create_rule(x: Task, u: TaskId) -> Task
     requires { (x.pc < 255) × (1 ≤ u.0) × (u.0 ≤ 64) }
     ensures { result ≡ create_rule x u }
 {
-    let next = change::advanced(x);
-    children::with_child(next, u)
+    children::with_child(change::advanced(x), u)
 }
 
 // Sync: the task waits where children live.
+#[tactic(auto, unfolding(rules::specs::Local::sync_rule))]
 pub fn sync_rule(x: Task) -> Task
     requires { x.pc < 255 }
     ensures { result ≡ sync_rule x }
@@ -35,46 +35,41 @@ pub fn sync_rule(x: Task) -> Task
 
 // Finish: task t with record x, its parent's record, and what its desk keeps for the parent. A parent elsewhere is told by a
 // letter along the newer pointer; where that names the task's desk, the task is held.
+#[tactic(auto, unfolding(rules::specs::Local::finish_rule))]
 pub fn finish_rule(t: TaskId, x: Task, parent: Task, e: ParentEntry) -> Finished
     requires { (x.pc < 255) × (1 ≤ t.0) × (t.0 ≤ 64) }
     ensures { result ≡ finish_rule t x parent e }
 {
     let at = x.processor;
     let along = cell_rules::order::newer(e.hint, x.origin);
-    let next = change::advanced(x);
-    let done = next.with_state(TaskState::Done);
+    let done = change::advanced(x).with_state(TaskState::Done);
+    let finished = Finished {
+        task: done,
+        parent,
+        entry: e,
+        posting: Posting::Nothing,
+    };
     if t.0 == 1 {
-        return Finished {
-            task: done,
-            parent: parent,
-            entry: e,
-            posting: Posting::Nothing,
-        };
+        return finished;
     }
     if state::is_at(parent, at) {
         let without = children::without_child(parent, t);
         return Finished {
-            task: done,
             parent: without,
-            entry: e,
-            posting: Posting::Nothing,
+            ..finished
         };
     }
-    if state::same_processor(along.processor, at) {
+    if along.processor == at {
         let held = parents::holding_child(e, t);
         return Finished {
-            task: done,
-            parent: parent,
             entry: held,
-            posting: Posting::Nothing,
+            ..finished
         };
     }
     let message = Message::Terminated(along, t);
     Finished {
-        task: done,
-        parent: parent,
-        entry: e,
         posting: Posting::Single(message),
+        ..finished
     }
 }
 
@@ -83,9 +78,7 @@ pub fn set_rule(mut x: Task, i: Instruction) -> Task
     requires { x.pc < 255 }
     ensures { result ≡ set_rule x i }
 {
-    let w = x.word;
-    let stored = w.set(i);
-    x.word = stored;
+    x.word = x.word.set(i);
     change::advanced(x)
 }
 
@@ -94,47 +87,43 @@ pub fn add_rule(mut x: Task, i: Instruction) -> Task
     requires { x.pc < 255 }
     ensures { result ≡ add_rule x i }
 {
-    let w = x.word;
-    let sum = w.add(i);
-    let wrapped = sum.word;
-    x.word = wrapped;
-    let next = change::marked(x, sum.overflow);
-    change::advanced(next)
+    let sum = x.word.add(i);
+    x.word = sum.word;
+    change::advanced(change::marked(x, sum.overflow))
 }
 
 // An ended letter for child t that came along h: the parent's record, and what the letter's desk keeps for it. Where the parent
 // is not, the letter is forwarded or the child is held.
+#[tactic(auto, unfolding(rules::specs::Arrivals::terminated_rule))]
 pub fn terminated_rule(parent: Task, e: ParentEntry, h: Hint, t: TaskId) -> Ended
     requires { (1 ≤ t.0) × (t.0 ≤ 64) }
     ensures { result ≡ terminated_rule parent e h t }
 {
+    let ended = Ended {
+        parent,
+        entry: e,
+        posting: Posting::Nothing,
+    };
     if !children::has_child(parent, t) {
-        return Ended {
-            parent: parent,
-            entry: e,
-            posting: Posting::Nothing,
-        };
+        return ended;
     }
     if state::is_at(parent, h.processor) {
         let without = children::without_child(parent, t);
         return Ended {
             parent: without,
-            entry: e,
-            posting: Posting::Nothing,
+            ..ended
         };
     }
     let own = e.hint;
     if cell_rules::order::points_on(own, h) {
         return Ended {
-            parent: parent,
-            entry: e,
             posting: Posting::Single(Message::Terminated(own, t)),
+            ..ended
         };
     }
     let held = parents::holding_child(e, t);
     Ended {
-        parent: parent,
         entry: held,
-        posting: Posting::Nothing,
+        ..ended
     }
 }

@@ -10,16 +10,12 @@ use rules::channel::Hint;
 use rules::system::ParentEntry;
 
 // Child t is held for the parent.
-pub fn holding_child(e: ParentEntry, t: TaskId) -> ParentEntry
+pub fn holding_child(mut e: ParentEntry, t: TaskId) -> ParentEntry
     requires { (1 ≤ t.0) × (t.0 ≤ 64) }
     ensures { result ≡ holding_child e t }
 {
-    let hint = e.hint;
-    let more = set::insert(e.held, t.0);
-    ParentEntry {
-        hint: hint,
-        held: more,
-    }
+    e.held = set::insert(e.held, t.0);
+    e
 }
 
 // Another pointer.
@@ -34,12 +30,11 @@ pub fn pointing(mut e: ParentEntry, h: Hint) -> ParentEntry
 pub fn arrival_parent(d: ProcessorId, moves: u16) -> ParentEntry
     ensures { result ≡ arrival_parent d moves }
 {
-    let hint = Hint {
-        processor: d,
-        moves: moves,
-    };
     ParentEntry {
-        hint: hint,
+        hint: Hint {
+            processor: d,
+            moves,
+        },
         held: 0,
     }
 }

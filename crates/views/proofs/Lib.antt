@@ -1,2 +1,2 @@
--- When a view is refused, and when it is shown.
+-- A task that a view may show.
 pub mod Viewed

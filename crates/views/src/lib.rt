@@ -3,25 +3,23 @@
 
 ghost use Rattle.std.specs.Prelude.{◌≡◌, ◌≤◌};
 ghost use Rattle.rules.specs.Numbers.{task_number_ok};
-ghost use Rattle.rules.specs.Systems.{task_in};
-ghost use Rattle.rules.specs.Views.{tablet_view, driver_view, tablet_of, driver_of};
+ghost use Rattle.rules.specs.Systems.{task_in, task_at};
+ghost use Rattle.rules.specs.Views.{tablet_view, driver_view, viewed, tablet_of, driver_of};
 
 use plan::TaskId;
-use rules::step::StepAnswer;
+use rules::step::StepRefusal;
 use rules::system::{System, TaskTable};
 use rules::task::Task;
-use rules::view::{DriverAnswer, DriverView, TabletAnswer, TabletView};
+use rules::view::{DriverView, TabletView};
 
 // A tablet's record of task t.
 pub fn tablet_view(t: TaskId, x: Task) -> TabletView
     ensures { result ≡ tablet_view t x }
 {
-    let state = x.state;
-    let at = x.processor;
     TabletView {
         task: t,
-        state: state,
-        processor: at,
+        state: x.state,
+        processor: x.processor,
         pc: x.pc,
     }
 }
@@ -30,14 +28,11 @@ pub fn tablet_view(t: TaskId, x: Task) -> TabletView
 pub fn driver_view(t: TaskId, x: Task) -> DriverView
     ensures { result ≡ driver_view t x }
 {
-    let tablet = tablet_view(t, x);
-    let word = x.word;
-    let living = task_rules::children::living(x);
     DriverView {
-        tablet: tablet,
-        word: word,
+        tablet: tablet_view(t, x),
+        word: x.word,
         children: x.children,
-        living: living,
+        living: task_rules::children::living(x),
     }
 }
 
@@ -45,7 +40,7 @@ pub fn driver_view(t: TaskId, x: Task) -> DriverView
 pub fn has_task(m: u8, t: TaskId) -> bool
     ensures { result ≡ task_number_ok m t }
 {
-    base::is_within(1, m as usize, t.0 as usize)
+    1 <= t.0 && t.0 <= m
 }
 
 // The record of task t.
@@ -53,38 +48,34 @@ fn record_of(tasks: TaskTable, t: TaskId) -> Task
     requires { (1 ≤ t.0) × (t.0 ≤ 64) }
     ensures { result ≡ task_in tasks t }
 {
-    let i = (t.0 - 1) as usize;
-    tasks.records[i]
+    tasks.records[t.0 as usize - 1]
+}
+
+// The record of task t, where neither 9 nor 10 refuses it.
+fn task_shown(r: System, t: TaskId) -> Result<Task, StepRefusal>
+    ensures { result ≡ viewed r t (task_at r t) }
+{
+    if !rig_check::system::system_ok(r) {
+        return Err(StepRefusal::BadSystem);
+    }
+    if !has_task(r.plan.tasks, t) {
+        return Err(StepRefusal::NoTask);
+    }
+    Ok(record_of(r.tasks, t))
 }
 
 // What a tablet shows of task t.
-pub fn tablet(r: System, t: TaskId) -> TabletAnswer
+#[tactic(auto, unfolding(rules::specs::Views::tablet_of))]
+pub fn tablet(r: System, t: TaskId) -> Result<TabletView, StepRefusal>
     ensures { result ≡ tablet_of r t }
 {
-    if !rig_check::system::system_ok(r) {
-        return TabletAnswer::Refused(StepAnswer::BadSystem);
-    }
-    let p = r.plan;
-    if !has_task(p.tasks, t) {
-        return TabletAnswer::Refused(StepAnswer::NoTask);
-    }
-    let tasks = r.tasks;
-    let x = record_of(tasks, t);
-    TabletAnswer::Shown(tablet_view(t, x))
+    Ok(tablet_view(t, task_shown(r, t)?))
 }
 
 // What the driver shows of task t.
-pub fn driver(r: System, t: TaskId) -> DriverAnswer
+#[tactic(auto, unfolding(rules::specs::Views::driver_of))]
+pub fn driver(r: System, t: TaskId) -> Result<DriverView, StepRefusal>
     ensures { result ≡ driver_of r t }
 {
-    if !rig_check::system::system_ok(r) {
-        return DriverAnswer::Refused(StepAnswer::BadSystem);
-    }
-    let p = r.plan;
-    if !has_task(p.tasks, t) {
-        return DriverAnswer::Refused(StepAnswer::NoTask);
-    }
-    let tasks = r.tasks;
-    let x = record_of(tasks, t);
-    DriverAnswer::Shown(driver_view(t, x))
+    Ok(driver_view(t, task_shown(r, t)?))
 }

@@ -8,12 +8,12 @@ use native.Mathlib.Decide.{dec_lt}
 use lib.ListN.{length, get_or, get_or-eq_default}
 use lib.Dec.{eqb}
 use borrow.Author.Tests.{eqb-true}
+use Rattle.std.specs.Prelude.{Ok}
 use Rattle.base.specs.Lists.{table}
 use Rattle.base.proofs.Slots.{row_of, place_of}
 use Rattle.base.proofs.Tables.{length_table, get_d_table}
 use Rattle.base.proofs.Tests.{and_left, and_right}
 use Rattle.plan.specs.declared.Plan.{Plan}
-use Rattle.plan.specs.declared.PlanAnswer.TheVariants.{Accepted}
 use Rattle.plan.specs.Numbers.{channel_id}
 use Rattle.plan.specs.Kinds.{op_create, op_send, op_receive, is_use}
 use Rattle.plan.specs.Programs.{program_at, instruction_at, programs}
@@ -62,7 +62,7 @@ module _ (p : Plan) where
   parent_in = user_in_lem op_create
 
   -- the number of a send: instruction i + 1 of task t sends on channel c
-  pub number_at : plan_answer (programs p) ≡ Accepted → (t i c : ℕ) → 1 ≤ t → t ≤ p.tasks → i < length (program_at (programs p) (t - 1))
+  pub number_at : plan_answer (programs p) ≡ Ok tt → (t i c : ℕ) → 1 ≤ t → t ≤ p.tasks → i < length (program_at (programs p) (t - 1))
       → is_use op_send c (instruction_at (program_at (programs p) (t - 1)) i) ≡ true
       → get_or (ends_of p).numbers (64 * (t - 1) + i) 0 ≡ send_number (program_at (programs p) (t - 1)) (channel_id c) (i + 1)
   unfolding ends_of number_in

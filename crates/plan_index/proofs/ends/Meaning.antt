@@ -9,6 +9,7 @@ use native.Mathlib.Decide.{dec_lt}
 use lib.ListN.{length, get_or, get_or-eq_default}
 use lib.Dec.{eqb}
 use borrow.Author.Tests.{lt-ltb, le-ltb, eq-eqb}
+use Rattle.std.specs.Prelude.{Ok}
 use Rattle.base.specs.Choice.{pick}
 use Rattle.base.specs.Lists.{table}
 use Rattle.base.proofs.Folds.{fold_same}
@@ -18,7 +19,6 @@ use Rattle.base.proofs.Tests.{and_both, and_false, within_high}
 use Rattle.plan.specs.declared.Instruction.{Instruction}
 use Rattle.plan.specs.declared.Plan.{Plan}
 use Rattle.plan.specs.declared.TaskId.{TaskId}
-use Rattle.plan.specs.declared.PlanAnswer.TheVariants.{Accepted}
 use Rattle.plan.specs.Numbers.{channel_id}
 use Rattle.plan.specs.Kinds.{op_send, is_use, no_instruction}
 use Rattle.plan.specs.Programs.{program_at, slot_of, in_slot, programs}
@@ -68,7 +68,7 @@ module _ (p : Plan) where
       (λ l. simp (le-ltb (s % 64) (get_or p.lengths (s / 64) 0) (omega arith), and_false) (no_number s (omega (arith, count_of_lem p (s / 64) h)))))
       (λ h. simp (le-ltb (s / 64) p.tasks (omega arith)) (no_number s (rw (no_program_of p (s / 64) (omega arith)) (omega arith)))))
 
-module _ (p : Plan) (a : plan_answer (programs p) ≡ Accepted) where
+module _ (p : Plan) (a : plan_answer (programs p) ≡ Ok tt) where
   pub sizes : sizes_in p.tasks p.lengths ≡ true
   sizes = sym (sizes_of p) ∙ (plan_passed (programs p) a).sizes
 

@@ -1,7 +1,6 @@
 // The number of each send: how many sends on its channel the task has
 // up to it.
 ghost use Rattle.std.specs.Prelude.{◌≡◌, ◌<◌, ◌≤◌, length, replicate};
-ghost use Rattle.plan.specs.declared.PlanAnswer.TheVariants.{Accepted};
 ghost use Rattle.plan.specs.Programs.{programs};
 ghost use Rattle.plan.specs.Refusals.{plan_answer};
 ghost use Rattle.plan_value.specs.Slots.{plan_in};
@@ -24,18 +23,15 @@ fn number_task<'a>(
     ensures { (numbers.new ≡ numbered_task codes.now numbers.old k count)
         × (sent.new ≡ counted_task codes.now sent.old k count) }
 {
-    let mut i: usize = 0;
-    while i < count {
+    for i in 0..count {
         let s = 64 * k + i;
         let x = Instruction::of(codes[s]);
         if x.opcode == SEND {
-            let c = base::wide16(x.operand);
-            let before = sent[c];
-            let n = before + 1;
+            let c = x.operand as usize;
+            let n = sent[c] + 1;
             sent[c] = n;
             numbers[s] = n;
         }
-        i += 1;
     }
 }
 
@@ -46,22 +42,18 @@ pub fn put_numbers<'a>(
     codes: &'a [u32; 4096],
     numbers: &'a mut [u8; 4096],
 )
-    requires { (plan_answer (programs (plan_in tasks lengths.now codes.now)) ≡ Accepted) × (numbers.old ≡ replicate 4096 0) }
+    requires { (plan_answer (programs (plan_in tasks lengths.now codes.now)) ≡ Ok tt) × (numbers.old ≡ replicate 4096 0) }
     ensures { numbers.new ≡ (ends_of (plan_in tasks lengths.now codes.now)).numbers }
 {
-    let n = base::wide8(tasks);
     let mut sent = [0u8; 129];
-    let mut k: usize = 0;
-    while k < n {
-        let count = base::wide8(lengths[k]);
-        number_task(k, count, codes, &mut sent, numbers);
-        k += 1;
+    for k in 0..tasks as usize {
+        number_task(k, lengths[k] as usize, codes, &mut sent, numbers);
     }
 }
 
 // The same, by value.
 pub fn send_numbers<'a>(tasks: u8, lengths: &'a [u8; 64], codes: &'a [u32; 4096]) -> [u8; 4096]
-    requires { plan_answer (programs (plan_in tasks lengths.now codes.now)) ≡ Accepted }
+    requires { plan_answer (programs (plan_in tasks lengths.now codes.now)) ≡ Ok tt }
     ensures { result ≡ (ends_of (plan_in tasks lengths.now codes.now)).numbers }
 {
     let mut numbers = [0u8; 4096];

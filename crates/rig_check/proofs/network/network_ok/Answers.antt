@@ -1,50 +1,26 @@
-use Prim.Native.Nat.{◌-◌}
-use mathlib.Core.Path.{◌≡◌, sym, ◌∙◌}
-use native.Mathlib.Omega.{arith}
-use lib.ListN.{length}
+-- `network_ok` tests each letter in the mail.
+use mathlib.Core.Path.{◌∙◌, refl}
+use lib.ListN.{take}
 use borrow.Author.Rules.{rules}
-use borrow.Author.Tests.{not-true, not-false}
-use Rattle.base.proofs.Tests.{below_none, below_more}
-use Rattle.rig_check.proofs.network.Network.{network_over, network_stops, network_ends}
+use borrow.Author.Tests.{tests, le-leb, lt-leb}
+use Rattle.std.proofs.lemmas.Iterator.{YieldsList-from_slice}
+use Rattle.std.proofs.lemmas.Iterator.Search.{all_from_yields_List}
+use Rattle.rules.specs.declared.message.Message.{Message}
+use Rattle.rules.specs.declared.message.Slot.{Slot}
+use Rattle.rules.specs.Networks.{messages}
+use Rattle.rules.specs.Sound.{message_ok, network_ok}
+use Rattle.rig_check.proofs.tables.Items.{every_mapped}
 use Rattle.rig_check.proofs.network.network_ok.Goals as goal
 
-pub returns-then-used-gt256 : goal.returns-then-used-gt256
-returns-then-used-gt256 c = let a = c.args in network_over a.n a.m a.x c.if-used-gt256.true
-
-pub loop-i-init : goal.loop-i-init
-loop-i-init c = (omega arith, below_none _)
-
-pub offset_bounds-x-i : goal.offset_bounds-x-i
-offset_bounds-x-i c = omega arith
-
-pub bounds-x-i : goal.bounds-x-i
-bounds-x-i c = omega arith
-
-pub message_ok-requires : goal.message_ok-requires
-message_ok-requires c = search rules
-
-pub returns-then-not-message_ok : goal.returns-then-not-message_ok
-returns-then-not-message_ok c =
+pub returns-then-x-le256 : goal.returns-then-x-le256
+unfolding network_ok messages
+returns-then-x-le256 c =
     let a = c.args in
-    let h : length a.x.slots ≡ 256 = omega arith in
-    network_stops a.n a.m a.x c.if-used-gt256.false h c.loop-i.i c.loop-i-test.true
-    (sym c.message_ok.ensures ∙ not-true c.message_ok.result c.if-not-message_ok.true-raw)
+    let in_slot : Slot → Message = λ s. s.message in
+    rw (le-leb a.x.used 256 c.if-x-le256.true)
+    (all_from_yields_List (λ (s : Slot). message_ok a.n a.m s.message) _ _ _ c.all.ensures.ran (YieldsList-from_slice (take a.x.used a.x.slots) c.iter.ensures.rest) (λ x b q k. search (rules, tests))
+    ∙ every_mapped in_slot (message_ok a.n a.m) (take a.x.used a.x.slots))
 
-pub overflow_add-i : goal.overflow_add-i
-overflow_add-i c = omega arith
-
-pub loop-i-smaller : goal.loop-i-smaller
-loop-i-smaller c = omega arith
-
-pub loop-i-preserved : goal.loop-i-preserved
-loop-i-preserved c = (
-  omega arith,
-  below_more _ c.loop-i.i c.loop-i.invariant.1 (sym c.message_ok.ensures ∙ not-false c.message_ok.result c.if-not-message_ok.false-raw),
-)
-
-pub returns : goal.returns
-returns c =
-    let a = c.args in
-    let h : length a.x.slots ≡ 256 = omega arith in
-    let e : c.loop-i.i ≡ a.x.used = omega arith in
-    network_ends a.n a.m a.x c.if-used-gt256.false h (rw e at c.loop-i.invariant.1)
+pub returns-else-x-le256 : goal.returns-else-x-le256
+unfolding network_ok
+returns-else-x-le256 c = rw (lt-leb c.args.x.used 256 c.if-x-le256.false) refl

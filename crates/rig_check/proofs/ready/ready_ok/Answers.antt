@@ -1,4 +1,4 @@
-use Prim.Native.Nat.{ℕ, ◌+◌, ◌-◌}
+use Prim.Native.Nat.{ℕ, ◌+◌}
 use mathlib.Core.Path.{◌≡◌, refl, sym, ◌∙◌}
 use native.Mathlib.Omega.{arith}
 use native.Mathlib.Numerals.{add-one}
@@ -11,52 +11,30 @@ use Rattle.rules.specs.declared.system.TaskTable.{TaskTable}
 use Rattle.rules.specs.Numbers.{task_id, processor_id}
 use Rattle.rules.specs.Systems.{task_in, is_ready_at}
 use Rattle.rules.specs.Sound.{ready_ok}
-use borrow.Author.Rules.{rules}
 use Rattle.rig_check.proofs.ready.ready_ok.Invariants.{set_ok}
 use Rattle.rig_check.proofs.ready.ready_ok.Goals as goal
 
 pub loop-d-init : goal.loop-d-init
-loop-d-init c = (omega arith, below_none _)
-
-pub wide8-k-requires : goal.wide8-k-requires
-wide8-k-requires c = search rules
-
-pub offset_bounds-ts-k : goal.offset_bounds-ts-k
-offset_bounds-ts-k c = omega arith
-
-pub bounds-ts-k : goal.bounds-ts-k
-bounds-ts-k c = omega arith
-
-pub overflow_add-d : goal.overflow_add-d
-overflow_add-d c = omega arith
-
-pub ready_set-requires : goal.ready_set-requires
-ready_set-requires c = search rules
+loop-d-init c = below_none _
 
 -- what was compared is desk d + 1's
-compared : (m : ℕ) (ts : TaskTable) (d : ℕ) {k s : ℕ} → k ≡ d → s ≡ set_of m (λ t. is_ready_at (processor_id (d + 1)) (task_in ts (task_id t)))
-    → eqb (get_or ts.ready k 0) s ≡ set_ok m ts d
-compared m ts d e f = rw (e, f, add-one d) refl
+compared : (m : ℕ) (ts : TaskTable) (d : ℕ) {s : ℕ} → s ≡ set_of m (λ t. is_ready_at (processor_id (d + 1)) (task_in ts (task_id t)))
+    → eqb (get_or ts.ready d 0) s ≡ set_ok m ts d
+compared m ts d f = rw (f, add-one d) refl
 
-pub returns-then-stored-ready_set : goal.returns-then-stored-ready_set
+pub returns-then-ts-d : goal.returns-then-ts-d
 unfolding ready_ok
-returns-then-stored-ready_set c =
+returns-then-ts-d c =
     let a = c.args in
-    let e = compared a.m a.ts c.loop-d.d c.wide8-k.ensures c.ready_set.ensures in
-    sym (below_fails (set_ok a.m a.ts) 6 c.loop-d.d (omega arith) (sym e ∙ ne_eqb _ _ c.if-stored-ready_set.true))
-
-pub overflow_add-d-in-loop-d : goal.overflow_add-d-in-loop-d
-overflow_add-d-in-loop-d c = omega arith
-
-pub loop-d-smaller : goal.loop-d-smaller
-loop-d-smaller c = omega arith
+    let e = compared a.m a.ts c.loop-d.d c.ready_set.ensures in
+    sym (below_fails (set_ok a.m a.ts) 6 c.loop-d.d (omega arith) (sym e ∙ ne_eqb _ _ c.if-ts-d.true))
 
 pub loop-d-preserved : goal.loop-d-preserved
 loop-d-preserved c =
     let a = c.args in
-    let e = compared a.m a.ts c.loop-d.d c.wide8-k.ensures c.ready_set.ensures in
-    (omega arith, below_more _ _ c.loop-d.invariant.1 (sym e ∙ eq-eqb _ _ c.if-stored-ready_set.false))
+    let e = compared a.m a.ts c.loop-d.d c.ready_set.ensures in
+    below_more _ _ c.loop-d.invariant (sym e ∙ eq-eqb _ _ c.if-ts-d.false)
 
 pub returns : goal.returns
 unfolding ready_ok
-returns c = let l = c.loop-d in let e : l.d ≡ 6 = omega arith in sym (rw e at l.invariant.1)
+returns c = let l = c.loop-d in let e : l.d ≡ 6 = omega arith in sym (rw e at l.invariant)

@@ -1,5 +1,5 @@
 -- `ready_ok` goes through the six desks. The loop's invariant: the sets of the first d are those of the tasks.
-use Prim.Native.Nat.{ℕ, ◌-◌, ◌≤◌}
+use Prim.Native.Nat.{ℕ}
 use mathlib.Core.Bool.{Bool, true}
 use mathlib.Core.Path.{◌≡◌}
 use lib.Dec.{eqb}
@@ -15,7 +15,4 @@ abbrev pub set_ok : ℕ → TaskTable → ℕ → Bool
 set_ok m ts k = eqb (get_or ts.ready k 0) (set_of m (is_ready_in ts k))
 
 abbrev pub invariant-loop-d : goal.invariant-loop-d
-invariant-loop-d l = (l.d ≤ 6) × (below l.d (set_ok l.m l.ts) ≡ true)
-
-abbrev pub decreases-loop-d : goal.decreases-loop-d
-decreases-loop-d l = 6 - l.d
+invariant-loop-d l = below l.d (set_ok l.m l.ts) ≡ true

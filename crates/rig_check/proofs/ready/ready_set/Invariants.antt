@@ -1,5 +1,5 @@
 -- `ready_set` goes through the tasks. The loop's invariant: s has those of 1 .. t.
-use Prim.Native.Nat.{ℕ, ◌-◌, ◌≤◌}
+use Prim.Native.Nat.{ℕ}
 use mathlib.Core.Bool.{Bool}
 use mathlib.Core.Path.{◌≡◌}
 use Rattle.base.specs.Sets.{set_of}
@@ -13,7 +13,4 @@ abbrev pub ready_in : TaskTable → ProcessorId → ℕ → Bool
 ready_in ts d t = is_ready_at d (task_in ts (task_id t))
 
 abbrev pub invariant-loop-t : goal.invariant-loop-t
-invariant-loop-t l = (l.t ≤ l.m) × (l.s ≡ set_of l.t (ready_in l.ts l.d))
-
-abbrev pub decreases-loop-t : goal.decreases-loop-t
-decreases-loop-t l = l.m - l.t
+invariant-loop-t l = l.s ≡ set_of l.t (ready_in l.ts l.d)

@@ -1,5 +1,4 @@
 -- `tasks_ok` tests tasks 1 to T. The loop's invariant: the first k pass.
-use Prim.Native.Nat.{◌≤◌, ◌-◌}
 use mathlib.Core.Path.{◌≡◌}
 use mathlib.Core.Bool.{true}
 use Rattle.base.specs.Range.{below}
@@ -7,7 +6,4 @@ use Rattle.rig_check.proofs.system.EachTask.{record_ok}
 use Rattle.rig_check.proofs.system.tasks_ok.Given as goal
 
 abbrev pub invariant-loop-k : goal.invariant-loop-k
-invariant-loop-k l = (l.k ≤ l.p.tasks) × (below l.k (record_ok l.n l.p l.ts) ≡ true)
-
-abbrev pub decreases-loop-k : goal.decreases-loop-k
-decreases-loop-k l = l.p.tasks - l.k
+invariant-loop-k l = below l.k (record_ok l.n l.p l.ts) ≡ true

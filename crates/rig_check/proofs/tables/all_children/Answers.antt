@@ -1,46 +1,16 @@
-use Prim.Native.Nat.{◌-◌}
-use mathlib.Core.Path.{◌≡◌, sym, ◌∙◌}
-use native.Mathlib.Omega.{arith}
-use lib.ListN.{length}
-use borrow.Author.Tests.{not-true, not-false}
+-- `all_children` tests each set of a table.
+use mathlib.Core.Path.{◌∙◌}
+use lib.Dec.{ltb}
+use Prim.Native.Nat.{◌^◌}
 use borrow.Author.Rules.{rules}
-use Rattle.base.proofs.Tests.{below_none, below_more}
-use Rattle.base.proofs.Scans.{every_stops, every_ends}
-use Rattle.rig_check.proofs.tables.all_children.Invariants.{passes}
+use borrow.Author.Tests.{tests}
+use Rattle.std.proofs.lemmas.Iterator.{YieldsList-from_slice}
+use Rattle.std.proofs.lemmas.Iterator.Search.{all_from_yields_List}
+use Rattle.rig_check.proofs.tables.Items.{every_item}
 use Rattle.rig_check.proofs.tables.all_children.Goals as goal
-
-pub loop-i-init : goal.loop-i-init
-loop-i-init c = (omega arith, below_none _)
-
-pub offset_bounds-xs-i : goal.offset_bounds-xs-i
-offset_bounds-xs-i c = omega arith
-
-pub bounds-xs-i : goal.bounds-xs-i
-bounds-xs-i c = omega arith
-
-pub children_ok-requires : goal.children_ok-requires
-children_ok-requires c = search rules
-
-pub returns-then-not-children_ok : goal.returns-then-not-children_ok
-returns-then-not-children_ok c =
-    let l = c.before.before.before.before in
-    let a = l.args in
-    every_stops (passes a.m) a.xs.now 0 l.loop-i.i (omega arith) (sym c.children_ok.ensures ∙ not-true c.children_ok.result c.if-not-children_ok.true-raw)
-
-pub overflow_add-i : goal.overflow_add-i
-overflow_add-i c = omega arith
-
-pub loop-i-smaller : goal.loop-i-smaller
-loop-i-smaller c = omega arith
-
-pub loop-i-preserved : goal.loop-i-preserved
-loop-i-preserved c =
-    let l = c.before.before.before.before in
-    (omega arith, below_more _ l.loop-i.i l.loop-i.invariant.1 (sym c.children_ok.ensures ∙ not-false c.children_ok.result c.if-not-children_ok.false-raw))
 
 pub returns : goal.returns
 returns c =
-    let l = c.before in
-    let a = l.args in
-    let e : l.loop-i.i ≡ length a.xs.now = omega arith in
-    every_ends (passes a.m) a.xs.now 0 (rw e at l.loop-i.invariant.1)
+    let a = c.args in
+    all_from_yields_List (λ s. ltb s (2 ^ a.m)) _ _ _ c.all.ensures.ran (YieldsList-from_slice a.xs.now cc) (λ x b q k. search (rules, tests))
+    ∙ every_item (λ s. ltb s (2 ^ a.m)) a.xs.now

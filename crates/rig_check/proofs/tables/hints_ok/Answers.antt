@@ -1,56 +1,21 @@
-use Prim.Native.Nat.{◌-◌}
-use mathlib.Core.Path.{◌≡◌, sym, ◌∙◌}
-use native.Mathlib.Omega.{arith}
-use lib.ListN.{length}
+-- `hints_ok` tests each pointer of a table.
+use mathlib.Core.Bool.{Bool}
+use mathlib.Core.Path.{◌∙◌}
+use Prim.Native.Nat.{ℕ}
 use borrow.Author.Rules.{rules}
-use borrow.Author.Tests.{not-true, not-false}
-use Rattle.base.proofs.Tests.{below_none, below_more}
-use Rattle.base.proofs.Scans.{pairs_stop, pairs_end}
-use Rattle.rig_check.proofs.tables.hints_ok.Invariants.{passes}
+use borrow.Author.Tests.{tests}
+use Rattle.std.proofs.lemmas.Iterator.{YieldsList-from_slice, YieldsList-from_zip}
+use Rattle.std.proofs.lemmas.Iterator.Search.{all_from_yields_List}
+use Rattle.rules.specs.Numbers.{processor_id}
+use Rattle.rules.specs.Cells.{hint}
+use Rattle.rules.specs.Sound.{hint_ok}
+use Rattle.rig_check.proofs.tables.Items.{every_zipped}
 use Rattle.rig_check.proofs.tables.hints_ok.Goals as goal
-
-pub loop-i-init : goal.loop-i-init
-loop-i-init c = (omega arith, c.requires, below_none _)
-
-pub bounds-processors-i : goal.bounds-processors-i
-bounds-processors-i c = omega arith
-
-pub offset_bounds-moves-i : goal.offset_bounds-moves-i
-offset_bounds-moves-i c = search rules
-
-pub bounds-moves-i : goal.bounds-moves-i
-bounds-moves-i c = omega arith
-
-pub wide16-requires : goal.wide16-requires
-wide16-requires c = search rules
-
-pub entry_ok-requires : goal.entry_ok-requires
-entry_ok-requires c = search rules
-
-pub returns-then-not-entry_ok : goal.returns-then-not-entry_ok
-returns-then-not-entry_ok c =
-    let l = c.before.before.before.before.before.before in
-    let a = l.args in
-    pairs_stop (passes a.n) a.processors.now a.moves.now 0 0 l.loop-i.invariant.1 l.loop-i.i (omega arith)
-    (sym (rw c.wide16.ensures at c.entry_ok.ensures) ∙ not-true c.entry_ok.result c.if-not-entry_ok.true-raw)
-
-pub overflow_add-i : goal.overflow_add-i
-overflow_add-i c = omega arith
-
-pub loop-i-smaller : goal.loop-i-smaller
-loop-i-smaller c = omega arith
-
-pub loop-i-preserved : goal.loop-i-preserved
-loop-i-preserved c =
-    let l = c.before.before.before.before.before.before in (
-      omega arith,
-      l.loop-i.invariant.1,
-      below_more _ l.loop-i.i l.loop-i.invariant.2 (sym (rw c.wide16.ensures at c.entry_ok.ensures) ∙ not-false c.entry_ok.result c.if-not-entry_ok.false-raw),
-    )
 
 pub returns : goal.returns
 returns c =
-    let l = c.before in
-    let a = l.args in
-    let e : l.loop-i.i ≡ length a.processors.now = omega arith in
-    pairs_end (passes a.n) a.processors.now a.moves.now 0 0 l.loop-i.invariant.1 (rw e at l.loop-i.invariant.2)
+    let a = c.args in
+    let passes : ℕ → ℕ → Bool = λ d k. hint_ok a.n (hint (processor_id d) k) in
+    all_from_yields_List (λ q. passes q.0 q.1) c.all.new.self _ _ c.all.ensures.ran
+    (YieldsList-from_zip (YieldsList-from_slice a.processors.now cc) (YieldsList-from_slice a.moves.now cc)) (λ x b q k. search (rules, tests))
+    ∙ every_zipped passes a.processors.now a.moves.now

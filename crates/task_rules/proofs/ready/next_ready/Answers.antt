@@ -3,28 +3,12 @@ use native.Mathlib.Omega.{arith}
 use mathlib.Core.Path.{refl, sym, ap}
 use lib.Count.{count_trailing_zeros}
 use Rattle.task_rules.proofs.Finding.{next_later, next_round, next_none}
-use borrow.Author.Rules.{rules}
 use Rattle.task_rules.proofs.ready.next_ready.Goals as goal
-
-pub above-later-requires : goal.above-later-requires
-above-later-requires c = search rules
-
-pub overflow_cast-result : goal.overflow_cast-result
-overflow_cast-result c = search rules
-
-pub overflow_add-result : goal.overflow_add-result
-overflow_add-result c = search rules
 
 pub returns-then-below-m : goal.returns-then-below-m
 returns-then-below-m c =
     let a = c.args in
     sym (next_later a.m a.last a.s (omega arith) (omega arith) (ap (count_trailing_zeros 64) c.above-later.ensures) refl (omega arith))
-
-pub overflow_cast-result-then-first-last : goal.overflow_cast-result-then-first-last
-overflow_cast-result-then-first-last c = search rules
-
-pub overflow_add-result-then-first-last : goal.overflow_add-result-then-first-last
-overflow_add-result-then-first-last c = search rules
 
 pub returns-then-first-last : goal.returns-then-first-last
 returns-then-first-last c =

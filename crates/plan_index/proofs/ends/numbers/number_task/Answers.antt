@@ -1,10 +1,9 @@
 use mathlib.Core.List.{List}
 use Prim.Native.Nat.{ℕ, ◌+◌, ◌*◌, ◌≤◌, ◌<◌}
-use mathlib.Core.Path.{◌≡◌, sym, ◌∙◌, ap}
+use mathlib.Core.Path.{◌≡◌, refl, sym, ◌∙◌, ap}
 use mathlib.Core.Logic.{◌≢◌}
 use native.Mathlib.Omega.{arith}
 use lib.ListN.{get_or}
-use borrow.Author.Rules.{rules}
 use Rattle.plan.specs.declared.Instruction.{Instruction}
 use Rattle.plan.specs.Kinds.{op_send}
 use Rattle.plan_value.specs.Slots.{slot_in}
@@ -16,19 +15,7 @@ use Rattle.plan_index.proofs.ends.numbers.number_task.Goals.{then-x-eq-SEND, els
 pub loop-i-init : goal.loop-i-init
 loop-i-init c =
     let a = c.args in
-    (search rules, sent_none a.codes.now a.k a.sent.now c.requires.4, numbers_none a.codes.now a.k a.numbers.now c.requires.2)
-
-pub overflow_mul-s : goal.overflow_mul-s
-overflow_mul-s c = omega arith
-
-pub overflow_add-s : goal.overflow_add-s
-overflow_add-s c = omega arith
-
-pub offset_bounds-codes-s : goal.offset_bounds-codes-s
-offset_bounds-codes-s c = omega arith
-
-pub bounds-codes-s : goal.bounds-codes-s
-bounds-codes-s c = omega arith
+    (sent_none a.codes.now a.k a.sent.now c.requires.4, numbers_none a.codes.now a.k a.numbers.now c.requires.2)
 
 -- what is read: a send, or another instruction, with its argument
 module _ {r x : Instruction} (e : r ≡ x) where
@@ -45,7 +32,7 @@ channel_fits codes k count fit i l e send h = omega (arith, fit i l (sym (kind e
 
 pub bounds-sent-c : goal.bounds-sent-c
 bounds-sent-c c =
-    let few = channel_fits c.args.codes.now c.args.k c.args.count c.requires.3 c.loop-i.i (omega arith) c.of-x.ensures c.if-x-eq-SEND.true c.wide16-c.ensures in
+    let few = channel_fits c.args.codes.now c.args.k c.args.count c.requires.3 c.loop-i.i (omega arith) c.of-x.ensures c.if-x-eq-SEND.true refl in
     omega arith
 
 pub overflow_add-n : goal.overflow_add-n
@@ -53,25 +40,16 @@ overflow_add-n c =
     let a = c.args in
     let i = c.loop-i.i in
     let send = sym (kind c.of-x.ensures) ∙ c.if-x-eq-SEND.true in
-    let channel = on c.of-x.ensures c.wide16-c.ensures in
-    let fits = channel_fits c.args.codes.now c.args.k c.args.count c.requires.3 c.loop-i.i (omega arith) c.of-x.ensures c.if-x-eq-SEND.true c.wide16-c.ensures in
-    let unsent : get_or a.sent.now c.wide16-c.result 0 ≡ 0 = rw channel (c.requires.5 i (omega arith) send) in
-    let few = number_few a.codes.now a.k i send c.wide16-c.result channel fits a.sent.now unsent c.loop-i.sent c.loop-i.invariant.1 in
+    let channel = on c.of-x.ensures refl in
+    let fits = channel_fits c.args.codes.now c.args.k c.args.count c.requires.3 c.loop-i.i (omega arith) c.of-x.ensures c.if-x-eq-SEND.true refl in
+    let unsent : get_or a.sent.now c.of-x.result.operand 0 ≡ 0 = rw channel (c.requires.5 i (omega arith) send) in
+    let few = number_few a.codes.now a.k i send c.of-x.result.operand channel fits a.sent.now unsent c.loop-i.sent c.loop-i.invariant.0 in
     omega arith
 
 pub bounds-sent-c-then-x-eq-SEND : goal.bounds-sent-c-then-x-eq-SEND
 bounds-sent-c-then-x-eq-SEND c =
-    let few = channel_fits c.args.codes.now c.args.k c.args.count c.requires.3 c.loop-i.i (omega arith) c.of-x.ensures c.if-x-eq-SEND.true c.wide16-c.ensures in
+    let few = channel_fits c.args.codes.now c.args.k c.args.count c.requires.3 c.loop-i.i (omega arith) c.of-x.ensures c.if-x-eq-SEND.true refl in
     omega arith
-
-pub bounds-numbers-s : goal.bounds-numbers-s
-bounds-numbers-s c = omega arith
-
-pub overflow_add-i : goal.overflow_add-i
-overflow_add-i c = omega arith
-
-pub loop-i-smaller : goal.loop-i-smaller
-loop-i-smaller c = omega arith
 
 pub loop-i-preserved : goal.loop-i-preserved
 loop-i-preserved c =
@@ -82,20 +60,19 @@ loop-i-preserved c =
     elim c.if-x-eq-SEND.branch [
       | then-x-eq-SEND w ↦
           let send = sym (kind c.of-x.ensures) ∙ w.if-x-eq-SEND.true in
-          let n = w.wide16-c.result in
-          let channel = on c.of-x.ensures w.wide16-c.ensures in
+          let n = c.of-x.result.operand in
+          let channel = on c.of-x.ensures refl in
           let fits = c.requires.3 i (omega arith) send in
           let unsent : get_or a.sent.now n 0 ≡ 0 = rw channel (c.requires.5 i (omega arith) send) in
-          let sent = sent_more o a.k i send n channel (omega arith) a.sent.now unsent c.loop-i.sent inv.1 in
-          let numbers = numbers_more o a.k i send n channel (omega arith) a.sent.now unsent c.loop-i.sent inv.1 (omega arith) (omega arith) a.numbers.now c.loop-i.numbers inv.2 in
-          (omega arith, w.sent-is ∙ sent, w.numbers-is ∙ numbers)
+          let sent = sent_more o a.k i send n channel (omega arith) a.sent.now unsent c.loop-i.sent inv.0 in
+          let numbers = numbers_more o a.k i send n channel (omega arith) a.sent.now unsent c.loop-i.sent inv.0 (omega arith) (omega arith) a.numbers.now c.loop-i.numbers inv.1 in
+          (w.sent-is ∙ sent, w.numbers-is ∙ numbers)
       | else-x-eq-SEND w ↦
           let other : (slot_in o (64 * a.k + i)).opcode ≢ op_send = λ e. w.if-x-eq-SEND.false (kind c.of-x.ensures ∙ e) in
-          (omega arith, w.sent-is ∙ inv.1 ∙ sent_same o a.k i other a.sent.now, w.numbers-is ∙ inv.2 ∙ numbers_same o a.k i other a.numbers.now)
+          (w.sent-is ∙ inv.0 ∙ sent_same o a.k i other a.sent.now, w.numbers-is ∙ inv.1 ∙ numbers_same o a.k i other a.numbers.now)
     ]
 
 pub returns : goal.returns
 returns c =
-    let l = c.before in
-    let e : l.loop-i.i ≡ l.args.count = omega arith in
-    (rw (← e) l.loop-i.invariant.2, rw (← e) l.loop-i.invariant.1)
+    let e : c.loop-i.i ≡ c.args.count = omega arith in
+    (rw (← e) c.loop-i.invariant.1, rw (← e) c.loop-i.invariant.0)

@@ -1,5 +1,4 @@
 -- `numbers::put_numbers` is the numbers of all sends, as the plan's meaning says. The loop's invariant: those of the first k tasks stand there, and 0 elsewhere.
-use Prim.Native.Nat.{◌-◌, ◌≤◌}
 use mathlib.Core.Path.{◌≡◌}
 use Rattle.base.specs.Lists.{table}
 use Rattle.plan_index.specs.ends.Numbers.{sent_before, send_numbers}
@@ -7,7 +6,4 @@ use Rattle.plan_index.proofs.ends.numbers.put_numbers.Given as goal
 
 abbrev pub invariant-loop-k : goal.invariant-loop-k
 invariant-loop-k l =
-    (l.k ≤ l.n) × (l.n ≡ l.tasks) × (l.numbers ≡ send_numbers l.k l.lengths l.codes) × (l.sent ≡ table 129 (sent_before l.lengths l.codes l.k))
-
-abbrev pub decreases-loop-k : goal.decreases-loop-k
-decreases-loop-k l = l.n - l.k
+    (l.numbers ≡ send_numbers l.k l.lengths l.codes) × (l.sent ≡ table 129 (sent_before l.lengths l.codes l.k))

@@ -1,2 +1,0 @@
--- The ways of an offer letter.
-mod Cases

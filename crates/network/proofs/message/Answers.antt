@@ -1,7 +1,0 @@
--- `message`.
-use native.Mathlib.Numerals.{add-one}
-use mathlib.Core.Path.{refl}
-use Rattle.network.proofs.message.Goals as goal
-
-pub returns-in-Adverts : goal.returns-in-Adverts
-returns-in-Adverts c = rw (c.in-Adverts.is, add-one c.args.j) refl

@@ -1,2 +1,0 @@
--- What the loop over the mail computes is what the definition asks.
-mod Network

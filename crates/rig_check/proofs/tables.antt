@@ -1,0 +1,2 @@
+-- What `all` computes over a table.
+pub mod Items

@@ -1,9 +1,0 @@
--- `with_child` puts the child into the set.
-use borrow.Author.Rules.{rules}
-use Rattle.task_rules.proofs.children.with_child.Goals as goal
-
-pub insert-more-requires : goal.insert-more-requires
-insert-more-requires c = search rules
-
-pub returns : goal.returns
-returns c = simp c.insert-more.ensures
