@@ -8,16 +8,15 @@ use native.Mathlib.Decide.{dec_lt}
 use native.Mathlib.Omega.{arith}
 use lib.Dec.{leb}
 use lib.ListN.{length, get_or, drop, length-map, get_or-eq_default}
+use Rattle.std.specs.Prelude.{Err}
 use Rattle.base.specs.Range.{below}
 use Rattle.base.specs.Lists.{every}
 use Rattle.base.proofs.Folds.{fold_same}
 use Rattle.base.proofs.Tables.{get_d_table}
 use Rattle.base.proofs.Tests.{every_at}
-use Rattle.plan.specs.declared.PlanAnswer.TheVariants.{Refused}
 use Rattle.plan.specs.declared.Refusal.{Refusal}
 use Rattle.plan.specs.declared.Refusal.TheVariants.{BadLayout, BadInstruction, BadFinish, BadRepeat, RepeatedCreate, TooLong}
-use Rattle.plan.specs.declared.WriteAnswer.{WriteAnswer}
-use Rattle.plan.specs.declared.WriteAnswer.TheVariants.{Unwritten}
+use Rattle.plan.specs.Answers.{WriteAnswer}
 use Rattle.plan.specs.Kinds.{no_instruction}
 use Rattle.plan.specs.Programs.{Programs, program_at, instruction_at, programs, canonical}
 use Rattle.plan.specs.Layout.{count_of}
@@ -43,28 +42,28 @@ use Rattle.convert.specs.Tasks.{AllFine}
 use Rattle.convert.proofs.Slots.{task_fine, written_at}
 
 -- a refusal leaves the output as it was
-pub code_refused : (m : Programs) (out : List ℕ) (r : Refusal) → code_answer m ≡ Refused r → CodeConverted m out (Unwritten r) out
+pub code_refused : (m : Programs) (out : List ℕ) (r : Refusal) → code_answer m ≡ Err r → CodeConverted m out (Err r) out
 unfolding code_written
 code_refused m out r e = record { answer = rw e refl; bytes = rw e refl }
 
 -- the stages
 module _ (m : Programs) where
-  pub bad_instruction : new_instructions_ok m ≡ false → code_answer m ≡ Refused BadInstruction
+  pub bad_instruction : new_instructions_ok m ≡ false → code_answer m ≡ Err BadInstruction
   unfolding code_answer
   bad_instruction e = rw e refl
 
   module _ (a : new_instructions_ok m ≡ true) where
-    pub bad_repeat : paired_ok m ≡ false → code_answer m ≡ Refused BadRepeat
+    pub bad_repeat : paired_ok m ≡ false → code_answer m ≡ Err BadRepeat
     unfolding code_answer
     bad_repeat e = rw (a, e) refl
 
     module _ (b : paired_ok m ≡ true) where
-      pub repeated_create : repeated_ok m ≡ false → code_answer m ≡ Refused RepeatedCreate
+      pub repeated_create : repeated_ok m ≡ false → code_answer m ≡ Err RepeatedCreate
       unfolding code_answer
       repeated_create e = rw (a, b, e) refl
 
       module _ (c : repeated_ok m ≡ true) where
-        pub too_long : lengths_ok m ≡ false → code_answer m ≡ Refused TooLong
+        pub too_long : lengths_ok m ≡ false → code_answer m ≡ Err TooLong
         unfolding code_answer
         too_long e = rw (a, b, c, e) refl
 
@@ -125,7 +124,7 @@ module _ (m : Programs) (tasks : size_ok (length m) ≡ true) (few : length m �
         ∙ ap (λ (j : ℕ). below j (λ k. leb 1 (length (program_at (written_out_plan m) k)))) (sym (length-map m written_out))
         ∙ sym (every_below (λ g. leb 1 (length g)) (written_out_plan m) []))
 
-    pub left_empty : (out : List ℕ) → below n (λ k. leb 1 (get_or x k 0)) ≡ false → CodeConverted m out (Unwritten BadFinish) out
+    pub left_empty : (out : List ℕ) → below n (λ k. leb 1 (get_or x k 0)) ≡ false → CodeConverted m out (Err BadFinish) out
     left_empty out e = code_refused m out BadFinish (whole_answer ∙ empty_answer (written_out_plan m) (sym some_left ∙ e))
 
     pub all_converted : {out after : List ℕ} {r : WriteAnswer} → below n (λ k. leb 1 (get_or x k 0)) ≡ true
@@ -139,7 +138,7 @@ module _ (m : Programs) (tasks : size_ok (length m) ≡ true) (few : length m �
 
 -- the whole file: its header is not in order, or what stands behind it
 module _ (b out : List ℕ) where
-  pub bad_file : layout_ok b ≡ false → Converted b out (Unwritten BadLayout) out
+  pub bad_file : layout_ok b ≡ false → Converted b out (Err BadLayout) out
   unfolding repeats_answer convert_answer convert_output
   bad_file e =
       record { answer = rw e refl; bytes = rw e refl; accepted = λ n h. let z : ◌≡◌ {A = ℕ} 0 1 = cc in absurd (omega arith) }

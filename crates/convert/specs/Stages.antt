@@ -1,10 +1,9 @@
 -- What converting the instructions behind a header gives.
-use Rattle.std.specs.Prelude.{◌≡◌, List, ℕ, length}
+use Rattle.std.specs.Prelude.{◌≡◌, List, ℕ, length, Err}
 use Rattle.base.specs.Choice.{unless}
-use Rattle.plan.specs.declared.PlanAnswer.{PlanAnswer}
-use Rattle.plan.specs.declared.PlanAnswer.TheVariants.{Refused}
+use Rattle.plan.specs.Answers.{PlanAnswer}
 use Rattle.plan.specs.declared.Refusal.TheVariants.{BadInstruction, BadRepeat, RepeatedCreate, TooLong}
-use Rattle.plan.specs.declared.WriteAnswer.{WriteAnswer}
+use Rattle.plan.specs.Answers.{WriteAnswer}
 use Rattle.plan.specs.Programs.{Programs, canonical}
 use Rattle.plan.specs.Layout.{layout}
 use Rattle.plan.specs.Refusals.{structure_answer}
@@ -15,10 +14,10 @@ use Rattle.plan.specs.RepeatRefusals.{new_instructions_ok, paired_ok, repeated_o
 -- 3, 21 to 23 and 4 to 6 of some programs
 unfoldable pub code_answer : Programs → PlanAnswer
 code_answer m =
-    unless (new_instructions_ok m) (Refused BadInstruction)
-    (unless (paired_ok m) (Refused BadRepeat)
-    (unless (repeated_ok m) (Refused RepeatedCreate)
-    (unless (lengths_ok m) (Refused TooLong)
+    unless (new_instructions_ok m) (Err BadInstruction)
+    (unless (paired_ok m) (Err BadRepeat)
+    (unless (repeated_ok m) (Err RepeatedCreate)
+    (unless (lengths_ok m) (Err TooLong)
     (structure_answer (written_out_plan m)))))
 
 -- they were answered so and written, into an output

@@ -22,11 +22,8 @@ fn find_task(file: &[u8], at: usize, count: usize) -> Marks
     ensures { MarksOf (task_in file.now at count) result }
 {
     let mut m = Marks::new();
-    let mut i: usize = 0;
-    while i < count {
-        let x = fetch(file, at + 4 * i);
-        m = next(m, x);
-        i += 1;
+    for i in 0..count {
+        m = next(m, fetch(file, at + 4 * i));
     }
     m
 }
@@ -36,24 +33,19 @@ pub fn find<'a>(file: &'a [u8], tasks: u8, lengths: &'a [u8; 64]) -> Found
     requires { Whole file.now tasks lengths.now }
     ensures { FoundIn (programs_in file.now tasks lengths.now) result }
 {
-    let n = base::wide8(tasks);
-    let mut paired = true;
-    let mut creates = true;
-    let mut short = true;
+    let mut found = Found {
+        paired: true,
+        creates: true,
+        short: true,
+    };
     let mut at: usize = 0;
-    let mut k: usize = 0;
-    while k < n {
-        let count = base::wide8(lengths[k]);
+    for k in 0..tasks as usize {
+        let count = lengths[k] as usize;
         let m = find_task(file, at, count);
-        paired = base::both(paired, base::both(m.paired, !m.inside));
-        creates = base::both(creates, m.creates);
-        short = base::both(short, m.length <= 64);
+        found.paired &= m.paired & !m.inside;
+        found.creates &= m.creates;
+        found.short &= m.length <= 64;
         at += 4 * count;
-        k += 1;
     }
-    Found {
-        paired: paired,
-        creates: creates,
-        short: short,
-    }
+    found
 }

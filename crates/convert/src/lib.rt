@@ -20,7 +20,7 @@ ghost use Rattle.plan_file.specs.scan.Code.{Whole};
 
 use find::find;
 use out::{none_empty, write_out};
-use plan::{Plan, Refusal, WriteAnswer};
+use plan::{Plan, Refusal};
 use plan_file::fields::rest_at;
 use plan_file::header::header_at;
 use plan_file::scan::walk::walk;
@@ -55,46 +55,49 @@ fn convert_code<'a>(
     tasks: u8,
     lengths: &'a [u8; 64],
     out: &'a mut [u8],
-) -> WriteAnswer
+) -> Result<usize, Refusal>
     requires { Whole file.now tasks lengths.now }
     ensures { CodeConverted (programs_in file.now tasks lengths.now) out.old result out.new }
 {
     if !all_allowed(file, tasks, lengths) {
-        return WriteAnswer::Unwritten(Refusal::BadInstruction);
+        return Err(Refusal::BadInstruction);
     }
     let found = find(file, tasks, lengths);
     if !found.paired {
-        return WriteAnswer::Unwritten(Refusal::BadRepeat);
+        return Err(Refusal::BadRepeat);
     }
     if !found.creates {
-        return WriteAnswer::Unwritten(Refusal::RepeatedCreate);
+        return Err(Refusal::RepeatedCreate);
     }
     if !found.short {
-        return WriteAnswer::Unwritten(Refusal::TooLong);
+        return Err(Refusal::TooLong);
     }
     let mut counts = [0u8; 64];
     let mut codes = [0u32; 4096];
     write_out(file, tasks, lengths, &mut counts, &mut codes);
     if !none_empty(tasks, &counts) {
-        return WriteAnswer::Unwritten(Refusal::BadFinish);
+        return Err(Refusal::BadFinish);
     }
     let plan = Plan {
-        tasks: tasks,
+        tasks,
         lengths: counts,
-        codes: codes,
+        codes,
     };
     write_plan(plan, out)
 }
 
 // A file of the new edition converted: 2, then the instructions behind the header.
-pub fn convert<'a>(file: &'a [u8], out: &'a mut [u8]) -> WriteAnswer
+pub fn convert<'a>(file: &'a [u8], out: &'a mut [u8]) -> Result<usize, Refusal>
     ensures { Converted file.now out.old result out.new }
 {
     let header = header_at(file, 0, file.len());
     if !header.ok {
-        return WriteAnswer::Unwritten(Refusal::BadLayout);
+        return Err(Refusal::BadLayout);
     }
-    let tasks = header.tasks;
-    let lengths = header.lengths;
-    convert_code(rest_at(file, header.size), tasks, &lengths, out)
+    convert_code(
+        rest_at(file, header.size),
+        header.tasks,
+        &header.lengths,
+        out,
+    )
 }

@@ -35,31 +35,26 @@ pub fn next(m: Marks, x: Instruction) -> Marks
     requires { (m.rounds ≤ 65535) × (m.length ≤ 65535 * 64) }
     ensures { result ≡ next_marks m x }
 {
-    let opcode = x.opcode;
-    if opcode == REPEAT {
+    if x.opcode == REPEAT {
         return Marks {
             inside: true,
-            paired: base::both(m.paired, !m.inside),
-            creates: m.creates,
-            rounds: base::wide16(x.operand),
-            length: m.length,
+            paired: m.paired & !m.inside,
+            rounds: x.operand as usize,
+            ..m
         };
     }
-    if opcode == REPEAT_END {
+    if x.opcode == REPEAT_END {
         return Marks {
             inside: false,
-            paired: base::both(m.paired, m.inside),
-            creates: m.creates,
+            paired: m.paired & m.inside,
             rounds: 1,
-            length: m.length,
+            ..m
         };
     }
-    let repeated = base::both(m.inside, opcode == CREATE);
+    let repeated = m.inside & (x.opcode == CREATE);
     Marks {
-        inside: m.inside,
-        paired: m.paired,
-        creates: base::both(m.creates, !repeated),
-        rounds: m.rounds,
+        creates: m.creates & !repeated,
         length: m.length + m.rounds,
+        ..m
     }
 }

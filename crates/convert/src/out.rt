@@ -9,6 +9,7 @@ ghost use Rattle.plan_file.specs.scan.Code.{Whole};
 
 use crate::spot::{Spot, is_mark, next};
 use plan_file::code::fetch;
+use plan_value::pass::are_some;
 
 // The instructions of one task, which stand from a place on, put into the slots from `first` on. How many
 // they are.
@@ -26,15 +27,12 @@ fn write_task<'a>(
     let mut s = Spot::new();
     let mut w: usize = 0;
     while s.at < count {
-        let i = s.at;
-        let x = fetch(file, at + 4 * i);
-        if is_mark(x) {
-            s = next(s, x);
-        } else {
+        let x = fetch(file, at + 4 * s.at);
+        if !is_mark(x) {
             codes[first + w] = x.code();
             w += 1;
-            s = next(s, x);
         }
+        s = next(s, x);
     }
     w
 }
@@ -51,15 +49,12 @@ pub fn write_out<'a>(
         × (counts.old ≡ replicate 64 0) × (codes.old ≡ replicate 4096 0) }
     ensures { Filled (written_out_plan (programs_in file.now tasks lengths.now)) counts.new codes.new }
 {
-    let n = base::wide8(tasks);
     let mut at: usize = 0;
-    let mut k: usize = 0;
-    while k < n {
-        let count = base::wide8(lengths[k]);
+    for k in 0..tasks as usize {
+        let count = lengths[k] as usize;
         let w = write_task(file, at, count, 64 * k, codes);
         counts[k] = w as u8;
         at += 4 * count;
-        k += 1;
     }
 }
 
@@ -68,13 +63,5 @@ pub fn none_empty(tasks: u8, counts: &[u8; 64]) -> bool
     requires { tasks ≤ 64 }
     ensures { result ≡ below tasks (λ k. leb 1 (get_or counts.now k 0)) }
 {
-    let n = base::wide8(tasks);
-    let mut k: usize = 0;
-    while k < n {
-        if counts[k] == 0 {
-            return false;
-        }
-        k += 1;
-    }
-    true
+    are_some(&counts[..tasks as usize])
 }

@@ -33,32 +33,27 @@ pub fn next(s: Spot, x: Instruction) -> Spot
     requires { s.at ≤ 64 }
     ensures { result ≡ next_spot s x }
 {
-    let opcode = x.opcode;
-    if opcode == REPEAT {
+    if x.opcode == REPEAT {
         return Spot {
             at: s.at + 1,
-            rounds: base::wide16(x.operand),
+            rounds: x.operand as usize,
             back: s.at + 1,
         };
     }
-    if opcode != REPEAT_END {
-        return Spot {
-            at: s.at + 1,
-            rounds: s.rounds,
-            back: s.back,
-        };
+    if x.opcode != REPEAT_END {
+        return Spot { at: s.at + 1, ..s };
     }
     if 1 < s.rounds {
         return Spot {
             at: s.back,
             rounds: s.rounds - 1,
-            back: s.back,
+            ..s
         };
     }
     Spot {
         at: s.at + 1,
         rounds: 0,
-        back: s.back,
+        ..s
     }
 }
 
@@ -66,9 +61,5 @@ pub fn next(s: Spot, x: Instruction) -> Spot
 pub fn is_mark(x: Instruction) -> bool
     ensures { result ≡ is_mark x }
 {
-    let opcode = x.opcode;
-    if opcode == REPEAT {
-        return true;
-    }
-    opcode == REPEAT_END
+    x.opcode == REPEAT || x.opcode == REPEAT_END
 }

@@ -10,27 +10,20 @@ use plan::ChannelId;
 use rules::log::LogsAnswer;
 
 // Whether the word of record k of the received log is the one at a place of the sent log; at no place there is none.
+#[tactic(auto, unfolding(crate::specs::Following::matches_at))]
 fn matches<'a>(received: &'a [u8], k: usize, sent: &'a [u8], place: usize) -> bool
     requires { (k < 4096) × (place ≤ 4096) }
     ensures { result ≡ matches_at received.now k sent.now place }
 {
-    if place == 0 {
-        return false;
-    }
-    same_word(received, k, sent, place - 1)
+    place != 0 && same_word(received, k, sent, place - 1)
 }
 
 // The lower of two channels, of which the first may be 0, none.
+#[tactic(auto, unfolding(crate::specs::Following::lower_of))]
 fn lower(lowest: usize, c: usize) -> usize
     ensures { result ≡ lower_of lowest c }
 {
-    if lowest == 0 {
-        return c;
-    }
-    if c < lowest {
-        return c;
-    }
-    lowest
+    if lowest == 0 { c } else { lowest.min(c) }
 }
 
 // Yes where no channel is the lowest, else no.
@@ -46,26 +39,23 @@ fn verdict(lowest: usize) -> LogsAnswer
 
 // One pass, from the first record to the last. The place of a channel is that of its next word in the sent log.
 pub fn follow<'a>(sent: &'a [u8], received: &'a [u8], links: Links) -> LogsAnswer
-    requires { (log_length_ok sent.now ≡ true) × (log_length_ok received.now ≡ true) × Linked sent.now links × (links.ok ≡ true) }
+    requires { (log_length_ok sent.now ≡ true) × (log_length_ok received.now ≡ true) × Linked sent.now links }
     ensures { result ≡ followed_answer sent.now received.now }
 {
     let next = links.next;
     let mut places = links.first;
     let mut lowest: usize = 0;
-    let records = received.len() / 10;
-    let mut k: usize = 0;
-    while k < records {
+    for k in 0..received.len() / 10 {
         let c = channel(received, k);
-        if !base::is_within(1, 128, c) {
+        if !(1..=128).contains(&c) {
             return LogsAnswer::BadRecord;
         }
-        let place = base::wide16(places[c]);
+        let place = places[c] as usize;
         if matches(received, k, sent, place) {
             places[c] = next[place - 1];
         } else {
             lowest = lower(lowest, c);
         }
-        k += 1;
     }
     verdict(lowest)
 }

@@ -21,12 +21,11 @@ use rules::log::LogsAnswer;
 pub fn check_logs<'a>(sent: &'a [u8], received: &'a [u8]) -> LogsAnswer
     ensures { result ≡ logs_answer sent.now received.now }
 {
-    if !base::both(length_ok(sent), length_ok(received)) {
+    if !length_ok(sent) || !length_ok(received) {
         return LogsAnswer::BadLength;
     }
-    let links = link(sent);
-    if !links.ok {
+    let Some(links) = link(sent) else {
         return LogsAnswer::BadRecord;
-    }
+    };
     follow(sent, received, links)
 }

@@ -6,11 +6,11 @@ ghost use Rattle.rules.specs.LogFiles.{record_channel, record_word, same_word, l
 use plan_file::fields::word_at;
 
 // Whether 24 does not refuse the length.
+#[tactic(auto, unfolding(rules::specs::LogFiles::log_length_ok))]
 pub fn length_ok(log: &[u8]) -> bool
     ensures { result ≡ log_length_ok log.now }
 {
-    let n = log.len();
-    base::both(n % 10 == 0, n / 10 <= 4096)
+    log.len() % 10 == 0 && log.len() / 10 <= 4096
 }
 
 // The channel of the record after the first k.
@@ -18,7 +18,7 @@ pub fn channel(log: &[u8], k: usize) -> usize
     requires { k < 4096 }
     ensures { result ≡ record_channel log.now k }
 {
-    base::wide16(word_at(log, 10 * k))
+    word_at(log, 10 * k) as usize
 }
 
 // Whether two fields are the same.
@@ -35,12 +35,8 @@ pub fn same_word<'a>(a: &'a [u8], i: usize, b: &'a [u8], k: usize) -> bool
 {
     let x = 10 * i;
     let y = 10 * k;
-    let last = base::both(
-        same_field(a, x + 6, b, y + 6),
-        same_field(a, x + 8, b, y + 8),
-    );
-    base::both(
-        same_field(a, x + 2, b, y + 2),
-        base::both(same_field(a, x + 4, b, y + 4), last),
-    )
+    same_field(a, x + 2, b, y + 2)
+        && same_field(a, x + 4, b, y + 4)
+        && same_field(a, x + 6, b, y + 6)
+        && same_field(a, x + 8, b, y + 8)
 }

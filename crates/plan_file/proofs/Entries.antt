@@ -6,13 +6,14 @@ use Prim.Native.Nat.{ℕ, ◌+◌, ◌*◌, ◌<◌}
 use native.Mathlib.Omega.{arith}
 use lib.ListN.{set, replicate}
 use borrow.Author.Tests.{eq-eqb, ne_eqb}
+use Rattle.std.specs.Prelude.{Some, None}
 use Rattle.base.specs.Range.{below}
 use Rattle.base.proofs.Tests.{below_fails}
 use Rattle.base.proofs.Folds.{fold_none, fold_more}
 use Rattle.plan.specs.Layout.{offset_due}
 use Rattle.plan.specs.Refusals.{size_ok}
 use Rattle.plan.specs.Files.{file_count, file_offset}
-use Rattle.plan_file.specs.Header.{no_entries, counts_to, entry_fits, entries_of}
+use Rattle.plan_file.specs.Header.{counts_to, entry_fits, entries_of}
 use Rattle.plan_file.proofs.Filling.{fill_none, fill_more}
 
 module _ (b : List ℕ) (n : ℕ) where
@@ -42,9 +43,9 @@ module _ (b : List ℕ) (n : ℕ) where
     bad_offset end offset e o s q =
         rw (← here, s) (ne_eqb (file_offset b k) (offset_due n (file_count b) k) (λ z. q (o ∙ z ∙ sym e)))
 
-  pub bad_entry : (k : ℕ) → k < n → entry_fits b n k ≡ false → no_entries ≡ entries_of b n
+  pub bad_entry : (k : ℕ) → k < n → entry_fits b n k ≡ false → None ≡ entries_of b n
   bad_entry k l e = rw (below_fails (entry_fits b n) n k l e) refl
 
   pub good_entries : (end : ℕ) (lengths : List ℕ) → below n (entry_fits b n) ≡ true → end ≡ offset_due n (file_count b) n → lengths ≡ counts_to b n
-      → record { ok = true; end = end; lengths = lengths } ≡ entries_of b n
+      → Some (record { end = end; lengths = lengths }) ≡ entries_of b n
   good_entries end lengths h e q = rw (h, e, q) refl

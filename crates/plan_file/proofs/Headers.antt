@@ -1,11 +1,12 @@
 -- What each test of the header says of the file's layout.
 use mathlib.Core.Path.{◌≡◌, refl, sym, ◌∙◌, ap}
-use mathlib.Core.Bool.{Bool, true, false}
+use mathlib.Core.Bool.{Bool, true, false, true≢false}
 use mathlib.Core.List.{List}
 use Prim.Native.Nat.{ℕ, ◌+◌, ◌*◌, ◌<◌, ◌≤◌}
 use native.Mathlib.Omega.{arith}
 use lib.ListN.{length}
 use borrow.Author.Tests.{eq-eqb, eqb-true}
+use Rattle.std.specs.Prelude.{Option, Some, None}
 use Rattle.base.specs.Choice.{pick}
 use Rattle.base.specs.Range.{below}
 use Rattle.base.proofs.Tests.{and_both, and_left, and_right, below_at, below_all}
@@ -14,7 +15,7 @@ use Rattle.plan.specs.Refusals.{size_ok}
 use Rattle.plan.specs.Files.{file_tasks, file_total, file_count, layout_ok}
 use Rattle.plan_laws.proofs.Answers.{Laid, laid, laid_ok, in_range, in_range_ok}
 use Rattle.plan_file.specs.declared.header.Entries.{Entries}
-use Rattle.plan_file.specs.Header.{no_header, no_entries, counts_to, entry_fits, entries_of, good_header, header_of}
+use Rattle.plan_file.specs.Header.{no_header, counts_to, entry_fits, entries_of, good_header, header_of}
 
 module _ (b : List ℕ) where
   -- a layout that cannot be right is refused
@@ -39,17 +40,13 @@ module _ (b : List ℕ) where
   pub tasks_out : (n : ℕ) → n ≡ file_tasks b → size_ok n ≡ false → no_header ≡ header_of b
   tasks_out n t h = refused (λ l. let q = in_range_ok (file_tasks b) l.tasks in let r = rw t at h in let z : ◌≡◌ {A = ℕ} 0 1 = cc in omega arith)
 
-  -- the entries that were read say whether they are in order, and then what follows
-  module _ (n : ℕ) (t : n ≡ file_tasks b) (e : Entries) (read : e ≡ entries_of b n) where
+  -- the entries of n tasks
+  module _ (n : ℕ) (t : n ≡ file_tasks b) where
     abbrev fits : ℕ → Bool
     fits = entry_fits b (file_tasks b)
 
-    entries_ok : e.ok ≡ below (file_tasks b) fits
-    entries_ok = ap (λ (x : Entries). x.ok) read ∙ go (below n (entry_fits b n)) ∙ ap (λ (k : ℕ). below k (entry_fits b k)) t
-      where
-        go : (x : Bool) → (pick x (record { ok = true; end = offset_due n (file_count b) n; lengths = counts_to b n }) no_entries).ok ≡ x
-        go true = refl
-        go false = refl
+    abbrev entries : Bool → Option Entries
+    entries x = pick x (Some (record { end = offset_due n (file_count b) n; lengths = counts_to b n })) None
 
     entries_fit : Laid b → below (file_tasks b) fits ≡ true
     entries_fit l =
@@ -57,18 +54,30 @@ module _ (b : List ℕ) where
         (λ k q. and_both (size_ok (file_count b k)) _ (in_range_ok (file_count b k) (l.counts k q)) (eq-eqb _ _ (l.offsets k q)))
 
     -- a wrong entry
-    pub entries_out : e.ok ≡ false → no_header ≡ header_of b
-    entries_out h = refused (λ l. let q = entries_fit l in let r = entries_ok in let z : ◌≡◌ {A = ℕ} 0 1 = cc in omega arith)
+    pub entries_out : None ≡ entries_of b n → no_header ≡ header_of b
+    entries_out h = refused (λ l. go (below n (entry_fits b n)) h (ap (λ (k : ℕ). below k (entry_fits b k)) t ∙ entries_fit l))
+      where
+        go : (x : Bool) → None ≡ entries x → x ≡ true → ⊥
+        go true q e = cc
+        go false q e = absurd (true≢false (sym e))
 
-    module _ (ok : e.ok ≡ true) (total : ℕ) (s : total ≡ file_total b) where
-      all_read : e ≡ record { ok = true; end = offset_due (file_tasks b) (file_count b) (file_tasks b); lengths = counts_to b (file_tasks b) }
-      all_read = read ∙ rw (t, sym entries_ok ∙ ok) refl
+    -- they are in order
+    module _ (e : Entries) (read : Some e ≡ entries_of b n) (total : ℕ) (s : total ≡ file_total b) where
+      all_fit : below n (entry_fits b n) ≡ true
+      all_fit = go (below n (entry_fits b n)) read
+        where
+          go : (x : Bool) → Some e ≡ entries x → x ≡ true
+          go true q = refl
+          go false q = cc
+
+      all_read : e ≡ record { end = offset_due n (file_count b) n; lengths = counts_to b n }
+      all_read = let z = rw all_fit at read in cc
 
       end_read : e.end ≡ offset_due (file_tasks b) (file_count b) (file_tasks b)
-      end_read = ap (λ (x : Entries). x.end) all_read
+      end_read = ap (λ (x : Entries). x.end) all_read ∙ ap (λ (k : ℕ). offset_due k (file_count b) k) t
 
       fits_at : (k : ℕ) → k < file_tasks b → fits k ≡ true
-      fits_at k q = below_at fits (file_tasks b) k q (sym entries_ok ∙ ok)
+      fits_at k q = below_at fits (file_tasks b) k q (ap (λ (k : ℕ). below k (entry_fits b k)) (sym t) ∙ all_fit)
 
       -- N is not the counts' sum
       pub total_wrong : (e.end ≡ 4 + 4 * n + 4 * total → ⊥) → no_header ≡ header_of b
@@ -92,4 +101,4 @@ module _ (b : List ℕ) where
             size = omega arith;
           })
           t
-          (ap (λ (x : Entries). x.lengths) all_read)
+          (ap (λ (x : Entries). x.lengths) all_read ∙ ap (counts_to b) t)

@@ -9,12 +9,12 @@ use native.Mathlib.Decide.{dec_lt}
 use lib.ListN.{get_or, drop, length-drop}
 use lib.Dec.{ltb}
 use borrow.Author.Tests.{lt-ltb, le-ltb}
+use Rattle.std.specs.Prelude.{Ok, Err}
 use Rattle.base.specs.Choice.{pick, unless}
 use Rattle.base.specs.Range.{sum_below}
 use Rattle.base.proofs.Folds.{fold_same}
 use Rattle.base.proofs.Tables.{get_d_table, table_same}
-use Rattle.plan.specs.declared.PlanAnswer.{PlanAnswer}
-use Rattle.plan.specs.declared.PlanAnswer.TheVariants.{Accepted, Refused}
+use Rattle.plan.specs.Answers.{PlanAnswer}
 use Rattle.plan.specs.declared.Refusal.{Refusal}
 use Rattle.plan.specs.declared.Refusal.TheVariants.{BadLayout}
 use Rattle.plan.specs.Programs.{Programs, canonical}
@@ -92,7 +92,7 @@ module _ (b : List ℕ) (h : layout_ok b ≡ true) where
   file_answer_lem = rw (h, sizes) refl
 
 -- what reading gives
-read_answer : (b : List ℕ) (r : Refusal) → file_answer b ≡ Refused r → read_refused r ≡ plan_read b
+read_answer : (b : List ℕ) (r : Refusal) → file_answer b ≡ Err r → read_refused r ≡ plan_read b
 unfolding plan_read
 read_answer b r e = rw e refl
 
@@ -105,8 +105,8 @@ unfolding plan_read
 code_read b h = rw (programs_read b h) (go (plan_answer (file_programs b)) refl)
   where
     go : (a : PlanAnswer) → plan_answer (file_programs b) ≡ a → answered (file_programs b) a ≡ plan_read b
-    go Accepted e = rw (file_answer_lem b h ∙ e) refl
-    go (Refused r) e = read_answer b r (file_answer_lem b h ∙ e)
+    go (Ok tt) e = rw (file_answer_lem b h ∙ e) refl
+    go (Err r) e = read_answer b r (file_answer_lem b h ∙ e)
 
 -- the stages together: the header, and then what stands behind it
 pub stages_read : (b : List ℕ) → plan_of (header_of b) (drop (header_of b).size b) ≡ plan_read b

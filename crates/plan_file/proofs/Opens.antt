@@ -5,11 +5,11 @@ use mathlib.Core.List.{List}
 use Prim.Native.Nat.{ℕ}
 use native.Mathlib.Omega.{arith}
 use lib.ListN.{drop}
+use Rattle.std.specs.Prelude.{Ok, Err}
 use Rattle.base.specs.Choice.{unless}
 use Rattle.plan.specs.declared.Plan.{Plan}
 use Rattle.plan.specs.declared.PlanRead.{PlanRead}
-use Rattle.plan.specs.declared.PlanAnswer.{PlanAnswer}
-use Rattle.plan.specs.declared.PlanAnswer.TheVariants.{Accepted, Refused}
+use Rattle.plan.specs.Answers.{PlanAnswer}
 use Rattle.plan.specs.declared.Refusal.{Refusal}
 use Rattle.plan.specs.declared.Refusal.TheVariants.{BadLayout}
 use Rattle.plan.specs.Programs.{Programs, programs, canonical}
@@ -30,7 +30,7 @@ use Rattle.plan_file.proofs.Instructions.{code_tasks}
 use Rattle.plan_file.proofs.Meaning.{stages_read, header_ok, header_fits, header_programs}
 
 -- a refused file
-pub refused_opened : (p : List ℕ) (o : Opened) {a : Refusal} {codes parents senders receivers : List ℕ} → o.answer ≡ Refused a → file_answer p ≡ Refused a
+pub refused_opened : (p : List ℕ) (o : Opened) {a : Refusal} {codes parents senders receivers : List ℕ} → o.answer ≡ Err a → file_answer p ≡ Err a
     → PlanOpened p o codes parents senders receivers
 refused_opened p o e f =
     record {
@@ -40,15 +40,15 @@ refused_opened p o e f =
     }
 
 answer_of : (m : Programs) (a : PlanAnswer) → (answered m a).answer ≡ a
-answer_of m Accepted = refl
-answer_of m (Refused r) = refl
+answer_of m (Ok tt) = refl
+answer_of m (Err r) = refl
 
 -- file p with header h
 module _ (p : List ℕ) (h : Header) (is : h ≡ header_of p) where
   abbrev behind : List ℕ
   behind = drop h.size p
 
-  pub header_refused : h.ok ≡ false → file_answer p ≡ Refused BadLayout
+  pub header_refused : h.ok ≡ false → file_answer p ≡ Err BadLayout
   unfolding file_answer
   header_refused e = rw (sym (header_ok p) ∙ ap (λ (x : Header). x.ok) (sym is) ∙ e) refl
 
@@ -71,7 +71,7 @@ module _ (p : List ℕ) (h : Header) (is : h ≡ header_of p) where
     answered_as = sym (answer_of m (plan_answer m)) ∙ ap (λ (x : PlanRead). x.answer) read_as ∙ read_answer p
 
     pub plan_opened : {o : Opened} {a : PlanAnswer} {codes parents senders receivers : List ℕ} → CodeChecked behind h.tasks h.lengths a parents senders receivers
-        → a ≡ Accepted → o.answer ≡ Accepted → o.tasks ≡ h.tasks → o.lengths ≡ h.lengths → codes ≡ (canonical m).codes
+        → a ≡ Ok tt → o.answer ≡ Ok tt → o.tasks ≡ h.tasks → o.lengths ≡ h.lengths → codes ≡ (canonical m).codes
         → PlanOpened p o codes parents senders receivers
     unfolding canonical
     plan_opened {parents = parents} {senders = senders} {receivers = receivers} q e a t l c =

@@ -1,5 +1,5 @@
 -- What the header of a file is read as.
-use Rattle.std.specs.Prelude.{Bool, true, false, ◌&&◌, List, ℕ, ◌+◌, ◌*◌, replicate, ltb, eqb}
+use Rattle.std.specs.Prelude.{Bool, true, false, Option, Some, None, ◌&&◌, List, ℕ, ◌+◌, ◌*◌, replicate, ltb, eqb}
 use Rattle.base.specs.Choice.{pick}
 use Rattle.base.specs.Range.{below}
 use Rattle.base.specs.Lists.{table}
@@ -12,9 +12,6 @@ use Rattle.plan_file.specs.declared.header.Entries.{Entries}
 abbrev pub no_header : Header
 no_header = record { ok = false; size = 0; tasks = 0; lengths = replicate 64 0 }
 
-abbrev pub no_entries : Entries
-no_entries = record { ok = false; end = 0; lengths = replicate 64 0 }
-
 -- the counts of the first n tasks, and nothing behind them
 abbrev pub counts_to : List ℕ → ℕ → List ℕ
 counts_to b n = table 64 (λ k. pick (ltb k n) (file_count b k) 0)
@@ -23,12 +20,12 @@ counts_to b n = table 64 (λ k. pick (ltb k n) (file_count b k) 0)
 abbrev pub entry_fits : List ℕ → ℕ → ℕ → Bool
 entry_fits b n k = size_ok (file_count b k) && eqb (file_offset b k) (offset_due n (file_count b) k)
 
--- the entries of n tasks: where the last one ends, and their counts
-abbrev pub entries_of : List ℕ → ℕ → Entries
+-- the entries of n tasks, where they are in order: where the last one ends, and their counts
+abbrev pub entries_of : List ℕ → ℕ → Option Entries
 entries_of b n =
     pick (below n (entry_fits b n))
-    (record { ok = true; end = offset_due n (file_count b) n; lengths = counts_to b n })
-    no_entries
+    (Some (record { end = offset_due n (file_count b) n; lengths = counts_to b n }))
+    None
 
 -- what a header that is in order says
 abbrev pub good_header : List ℕ → Header

@@ -1,10 +1,9 @@
 -- What a header and the bytes behind it are read as.
-use Rattle.std.specs.Prelude.{◌≡◌, true, List, [], ℕ}
+use Rattle.std.specs.Prelude.{◌≡◌, true, List, [], ℕ, Ok, Err}
 use Rattle.base.specs.Choice.{unless}
 use Rattle.plan.specs.declared.Refusal.{Refusal}
 use Rattle.plan.specs.declared.Refusal.TheVariants.{BadLayout}
-use Rattle.plan.specs.declared.PlanAnswer.{PlanAnswer}
-use Rattle.plan.specs.declared.PlanAnswer.TheVariants.{Accepted, Refused}
+use Rattle.plan.specs.Answers.{PlanAnswer}
 use Rattle.plan.specs.declared.PlanRead.{PlanRead}
 use Rattle.plan.specs.Programs.{Programs, programs, canonical}
 use Rattle.plan.specs.Refusals.{plan_answer}
@@ -16,12 +15,12 @@ use Rattle.plan_file.specs.declared.Loaded.{Loaded}
 
 -- what a refused file gives
 abbrev pub read_refused : Refusal → PlanRead
-read_refused r = record { answer = Refused r; plan = canonical [] }
+read_refused r = record { answer = Err r; plan = canonical [] }
 
 -- what programs give that are answered so
 abbrev pub answered : Programs → PlanAnswer → PlanRead
-answered m Accepted = record { answer = Accepted; plan = canonical m }
-answered m (Refused r) = read_refused r
+answered m (Ok tt) = record { answer = Ok tt; plan = canonical m }
+answered m (Err r) = read_refused r
 
 abbrev pub of_programs : Programs → PlanRead
 of_programs m = answered m (plan_answer m)
@@ -36,4 +35,4 @@ Fits h b = h.ok ≡ true → Whole b h.tasks h.lengths
 -- what is loaded is what is read, and, where it is accepted, who uses what
 pub record Loads (r : PlanRead) (l : Loaded) : Type 0 where
   pub read : record { answer = l.answer; plan = l.plan } ≡ r
-  pub firsts : l.answer ≡ Accepted → Firsts (programs l.plan) l.parents l.senders l.receivers
+  pub firsts : l.answer ≡ Ok tt → Firsts (programs l.plan) l.parents l.senders l.receivers

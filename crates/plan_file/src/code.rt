@@ -7,23 +7,15 @@ ghost use Rattle.plan_file.specs.scan.Code.{Whole};
 
 use plan::Instruction;
 
-// The 16-bit field of two bytes.
-fn word(low: u8, high: u8) -> u16
-    ensures { result ≡ low + 256 * high }
-{
-    low as u16 + 256 * (high as u16)
-}
-
 // The instruction at a place.
 pub fn fetch(file: &[u8], at: usize) -> Instruction
     requires { at + 3 < length file.now }
     ensures { result ≡ file_instruction file.now at }
 {
-    let level = file[at + 1];
     Instruction {
         opcode: file[at],
-        level: level,
-        operand: word(file[at + 2], file[at + 3]),
+        level: file[at + 1],
+        operand: u16::from_le_bytes([file[at + 2], file[at + 3]]),
     }
 }
 
@@ -33,19 +25,11 @@ pub fn read_code<'a>(file: &'a [u8], tasks: u8, lengths: &'a [u8; 64], codes: &'
     requires { Whole file.now tasks lengths.now × (codes.old ≡ replicate 4096 0) }
     ensures { codes.new ≡ (canonical (programs_in file.now tasks lengths.now)).codes }
 {
-    let n = base::wide8(tasks);
     let mut at: usize = 0;
-    let mut k: usize = 0;
-    while k < n {
-        let count = base::wide8(lengths[k]);
-        let mut i: usize = 0;
-        while i < count {
-            let s = 64 * k + i;
-            let x = fetch(file, at);
-            codes[s] = x.code();
+    for k in 0..tasks as usize {
+        for i in 0..lengths[k] as usize {
+            codes[64 * k + i] = fetch(file, at).code();
             at += 4;
-            i += 1;
         }
-        k += 1;
     }
 }

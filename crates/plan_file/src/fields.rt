@@ -6,10 +6,7 @@ ghost use Rattle.plan.specs.Files.{byte_at, word16};
 pub fn byte_at(file: &[u8], at: usize) -> u8
     ensures { result ≡ byte_at file.now at }
 {
-    if at < file.len() {
-        return file[at];
-    }
-    0
+    file.get(at).copied().unwrap_or(0)
 }
 
 // The little-endian field of 16 bits at a place.
@@ -19,26 +16,19 @@ pub fn word_at(file: &[u8], at: usize) -> u16
     if file.len() <= at {
         return 0;
     }
-    let low = byte_at(file, at);
-    let high = byte_at(file, at + 1);
-    low as u16 + 256 * (high as u16)
+    u16::from_le_bytes([byte_at(file, at), byte_at(file, at + 1)])
 }
 
 // What is left of a file from a place on: nothing from its end on.
 pub fn rest_at(file: &[u8], at: usize) -> &[u8]
     ensures { result.now ≡ drop at file.now }
 {
-    let end = file.len();
-    if end < at {
-        return &file[end..];
-    }
-    &file[at..]
+    &file[at.min(file.len())..]
 }
 
 // How many bytes are left from a place on: none from the end on.
 pub fn left_at(file: &[u8], at: usize) -> usize
     ensures { result ≡ length (drop at file.now) }
 {
-    let rest = rest_at(file, at);
-    rest.len()
+    rest_at(file, at).len()
 }

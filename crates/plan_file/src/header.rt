@@ -1,6 +1,6 @@
 // The header of a plan file: T, N, and each task's offset and count.
 ghost use Rattle.std.specs.Prelude.{◌≡◌, ◌≤◌, length, drop};
-ghost use Rattle.plan_file.specs.Header.{no_header, no_entries, header_of, entries_of};
+ghost use Rattle.plan_file.specs.Header.{no_header, header_of, entries_of};
 
 use crate::fields::{rest_at, word_at};
 
@@ -14,10 +14,9 @@ pub struct Header {
     pub lengths: [u8; 64],
 }
 
-// The entries of the tasks: whether they are in order, and then where the last task ends.
+// The entries of the tasks: where the last task ends, and how many instructions each has.
 #[derive(Clone, Copy)]
 pub struct Entries {
-    pub ok: bool,
     pub end: usize,
     pub lengths: [u8; 64],
 }
@@ -35,44 +34,23 @@ impl Header {
     }
 }
 
-impl Entries {
-    fn none() -> Entries
-        ensures { result ≡ no_entries }
-    {
-        Entries {
-            ok: false,
-            end: 0,
-            lengths: [0; 64],
-        }
-    }
-}
-
 // The entries of n tasks, each with a count in range and with the offset where the one before ends.
-fn read_entries(file: &[u8], n: usize) -> Entries
+fn read_entries(file: &[u8], n: usize) -> Option<Entries>
     requires { n ≤ 64 }
     ensures { result ≡ entries_of file.now n }
 {
     let mut lengths = [0u8; 64];
     let mut end = 4 + 4 * n;
-    let mut k: usize = 0;
-    while k < n {
-        let offset = base::wide16(word_at(file, 4 + 4 * k));
-        let count = base::wide16(word_at(file, 6 + 4 * k));
-        if !base::is_within(1, 64, count) {
-            return Entries::none();
-        }
-        if offset != end {
-            return Entries::none();
+    for k in 0..n {
+        let offset = word_at(file, 4 + 4 * k) as usize;
+        let count = word_at(file, 6 + 4 * k) as usize;
+        if !(1..=64).contains(&count) || offset != end {
+            return None;
         }
         lengths[k] = count as u8;
         end += 4 * count;
-        k += 1;
     }
-    Entries {
-        ok: true,
-        end: end,
-        lengths: lengths,
-    }
+    Some(Entries { end, lengths })
 }
 
 // The header of a file with so many bytes.
@@ -83,30 +61,24 @@ fn read_header(file: &[u8], left: usize) -> Header
     if left < 4 {
         return Header::none();
     }
-    let n = base::wide16(word_at(file, 0));
-    if !base::is_within(1, 64, n) {
+    let n = word_at(file, 0) as usize;
+    if !(1..=64).contains(&n) {
         return Header::none();
     }
-    let entries = read_entries(file, n);
-    if !entries.ok {
+    let Some(entries) = read_entries(file, n) else {
         return Header::none();
-    }
-    let total = base::wide16(word_at(file, 2));
+    };
+    let total = word_at(file, 2) as usize;
     let size = 4 + 4 * n;
-    let end = entries.end;
-    if end != size + 4 * total {
+    if entries.end != size + 4 * total || left != entries.end {
         return Header::none();
     }
-    if left != end {
-        return Header::none();
-    }
-    let tasks = n as u8;
     let lengths = entries.lengths;
     Header {
         ok: true,
-        size: size,
-        tasks: tasks,
-        lengths: lengths,
+        size,
+        tasks: n as u8,
+        lengths,
     }
 }
 

@@ -24,13 +24,13 @@ ghost use Rattle.plan_file.specs.Header.{header_of};
 ghost use Rattle.plan_file.specs.Stages.{Loads};
 
 use crate::header::Header;
-use plan::{Plan, PlanAnswer, PlanRead};
+use plan::{Plan, PlanRead, Refusal};
 
 // What loading a file gives: what reading it gives, and, by argument, each task's parent and each channel's
 // sender and receiver, if it is accepted.
 #[derive(Clone, Copy)]
 pub struct Loaded {
-    pub answer: PlanAnswer,
+    pub answer: Result<(), Refusal>,
     pub plan: Plan,
     pub parents: [u8; 129],
     pub senders: [u8; 129],
@@ -47,7 +47,7 @@ pub fn header_of(file: &[u8]) -> Header
 }
 
 // A plan file checked: the plan's acceptance or the refusal.
-pub fn check_plan(file: &[u8]) -> PlanAnswer
+pub fn check_plan(file: &[u8]) -> Result<(), Refusal>
     ensures { result ≡ file_answer file.now }
 {
     let start = reader::new(file);
@@ -72,11 +72,6 @@ pub fn load(file: &[u8]) -> Loaded
 pub fn read_plan(file: &[u8]) -> PlanRead
     ensures { result ≡ plan_read file.now }
 {
-    let l = load(file);
-    let answer = l.answer;
-    let plan = l.plan;
-    PlanRead {
-        answer: answer,
-        plan: plan,
-    }
+    let Loaded { answer, plan, .. } = load(file);
+    PlanRead { answer, plan }
 }

@@ -1,28 +1,27 @@
 // A plan file checked, and read into what is lent, so that its instructions are copied once: for whoever needs no plan value.
 ghost use Rattle.std.specs.Prelude.{◌≡◌, replicate};
-ghost use Rattle.plan.specs.declared.PlanAnswer.TheVariants.{Refused};
 ghost use Rattle.plan_file.specs.Opens.{PlanOpened};
 
 use crate::code::read_code;
 use crate::fields::rest_at;
 use crate::header_of;
 use crate::scan::check_code;
-use plan::{PlanAnswer, Refusal};
+use plan::Refusal;
 
 // The answer about a plan file; if it is accepted, how many tasks there are and how many instructions each has.
 #[derive(Clone, Copy)]
 pub struct Opened {
-    pub answer: PlanAnswer,
+    pub answer: Result<(), Refusal>,
     pub tasks: u8,
     pub lengths: [u8; 64],
 }
 
 // A refused file.
 fn refused(r: Refusal) -> Opened
-    ensures { result.answer ≡ Refused r }
+    ensures { result.answer ≡ Err r }
 {
     Opened {
-        answer: PlanAnswer::Refused(r),
+        answer: Err(r),
         tasks: 0,
         lengths: [0; 64],
     }
@@ -45,18 +44,13 @@ pub fn open<'a>(
         return refused(Refusal::BadLayout);
     }
     let rest = rest_at(file, h.size);
-    let tasks = h.tasks;
-    let lengths = h.lengths;
-    let answer = check_code(rest, tasks, &lengths, parents, senders, receivers);
-    match answer {
-        PlanAnswer::Refused(r) => refused(r),
-        PlanAnswer::Accepted => {
-            read_code(rest, tasks, &lengths, codes);
-            Opened {
-                answer: PlanAnswer::Accepted,
-                tasks: tasks,
-                lengths: lengths,
-            }
-        }
+    if let Err(r) = check_code(rest, h.tasks, &h.lengths, parents, senders, receivers) {
+        return refused(r);
+    }
+    read_code(rest, h.tasks, &h.lengths, codes);
+    Opened {
+        answer: Ok(()),
+        tasks: h.tasks,
+        lengths: h.lengths,
     }
 }

@@ -9,7 +9,7 @@ use super::Loaded;
 use super::stages::{answer_at, load_at};
 use crate::fields::left_at;
 use crate::header::{Header, header_at};
-use plan::PlanAnswer;
+use plan::Refusal;
 
 #[derive(Clone, Copy)]
 pub struct PlanReader<'a> {
@@ -51,7 +51,7 @@ pub fn header<'a>(r: PlanReader<'a>, n: usize) -> Header
 }
 
 // The answer about the plan whose instructions stand here, behind its header.
-pub fn answer<'a>(r: PlanReader<'a>, h: Header) -> PlanAnswer
+pub fn answer<'a>(r: PlanReader<'a>, h: Header) -> Result<(), Refusal>
     requires { Fits h (left r) }
     ensures { result ≡ (plan_of h (left r.entry)).answer }
 {

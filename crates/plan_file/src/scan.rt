@@ -5,7 +5,7 @@ pub mod walk;
 ghost use Rattle.plan_value.specs.Firsts.{NoFirsts};
 ghost use Rattle.plan_file.specs.scan.Code.{Whole, CodeChecked};
 
-use plan::PlanAnswer;
+use plan::Refusal;
 use plan_value::instruction::present;
 use plan_value::pass::answer;
 
@@ -19,7 +19,7 @@ pub fn check_code<'a>(
     parents: &'a mut [u8; 129],
     senders: &'a mut [u8; 129],
     receivers: &'a mut [u8; 129],
-) -> PlanAnswer
+) -> Result<(), Refusal>
     requires { Whole file.now tasks lengths.now × NoFirsts parents.old senders.old receivers.old }
     ensures { CodeChecked file.now tasks lengths.now result parents.new senders.new receivers.new }
 {

@@ -7,20 +7,19 @@ use crate::code::read_code;
 use crate::fields::rest_at;
 use crate::header::Header;
 use crate::scan::check_code;
-use plan::{Plan, PlanAnswer, Refusal};
+use plan::{Plan, Refusal};
 
 // A refused file gives the plan of no task.
 fn refused(r: Refusal) -> Loaded
     ensures { Loads (read_refused r) result }
 {
-    let plan = Plan {
-        tasks: 0,
-        lengths: [0; 64],
-        codes: [0; 4096],
-    };
     Loaded {
-        answer: PlanAnswer::Refused(r),
-        plan: plan,
+        answer: Err(r),
+        plan: Plan {
+            tasks: 0,
+            lengths: [0; 64],
+            codes: [0; 4096],
+        },
         parents: [0; 129],
         senders: [0; 129],
         receivers: [0; 129],
@@ -29,22 +28,20 @@ fn refused(r: Refusal) -> Loaded
 
 // The answer about the plan whose instructions begin at a place, behind this header: the header's
 // refusal, and then the instructions'.
-pub fn answer_at(file: &[u8], at: usize, h: Header) -> PlanAnswer
+pub fn answer_at(file: &[u8], at: usize, h: Header) -> Result<(), Refusal>
     requires { Fits h (drop at file.now) }
     ensures { result ≡ (plan_of h (drop at file.now)).answer }
 {
     if !h.ok {
-        return PlanAnswer::Refused(Refusal::BadLayout);
+        return Err(Refusal::BadLayout);
     }
-    let tasks = h.tasks;
-    let lengths = h.lengths;
     let mut parents = [0u8; 129];
     let mut senders = [0u8; 129];
     let mut receivers = [0u8; 129];
     check_code(
         rest_at(file, at),
-        tasks,
-        &lengths,
+        h.tasks,
+        &h.lengths,
         &mut parents,
         &mut senders,
         &mut receivers,
@@ -61,36 +58,30 @@ pub fn load_at(file: &[u8], at: usize, h: Header) -> Loaded
         return refused(Refusal::BadLayout);
     }
     let rest = rest_at(file, at);
-    let tasks = h.tasks;
-    let lengths = h.lengths;
     let mut parents = [0u8; 129];
     let mut senders = [0u8; 129];
     let mut receivers = [0u8; 129];
-    let answer = check_code(
+    if let Err(r) = check_code(
         rest,
-        tasks,
-        &lengths,
+        h.tasks,
+        &h.lengths,
         &mut parents,
         &mut senders,
         &mut receivers,
-    );
-    match answer {
-        PlanAnswer::Accepted => {
-            let mut codes = [0u32; 4096];
-            read_code(rest, tasks, &lengths, &mut codes);
-            let plan = Plan {
-                tasks: tasks,
-                lengths: lengths,
-                codes: codes,
-            };
-            Loaded {
-                answer: PlanAnswer::Accepted,
-                plan: plan,
-                parents: parents,
-                senders: senders,
-                receivers: receivers,
-            }
-        }
-        PlanAnswer::Refused(r) => refused(r),
+    ) {
+        return refused(r);
+    }
+    let mut codes = [0u32; 4096];
+    read_code(rest, h.tasks, &h.lengths, &mut codes);
+    Loaded {
+        answer: Ok(()),
+        plan: Plan {
+            tasks: h.tasks,
+            lengths: h.lengths,
+            codes,
+        },
+        parents,
+        senders,
+        receivers,
     }
 }

@@ -105,3 +105,9 @@ module _ (n : ℕ) (x : Instruction) where
       (ℕ_discrete x.opcode 9)
       (λ (e : x.opcode ≡ 9). rw (new_end e, ne_eqb x.level 0 ne) refl)
       (λ nor. new_unknown (omega arith)))
+
+  pub new_none : ((k : ℕ) → 1 ≤ k → k ≤ 9 → x.opcode ≡ k → ⊥) → new_instruction_ok n x ≡ false
+  unfolding new_instruction_ok
+  new_none h =
+      rw (ne_eqb x.opcode 8 (h 8 (omega arith) (omega arith)), ne_eqb x.opcode 9 (h 9 (omega arith) (omega arith)))
+      (ok_unknown (λ k p q e. h k p (omega arith) e))

@@ -8,6 +8,7 @@ use native.Mathlib.Omega.{arith}
 use lib.ListN.{length, get_or}
 use lib.Dec.{eqb, leb}
 use borrow.Author.Tests.{ne_eqb, eq-eqb}
+use Rattle.std.specs.Prelude.{Err}
 use Rattle.base.specs.Choice.{unless}
 use Rattle.base.specs.Range.{below}
 use Rattle.base.specs.Lists.{every, table}
@@ -16,7 +17,6 @@ use Rattle.base.proofs.Folds.{fold_same, fold_more}
 use Rattle.base.proofs.Sums.{sum_none}
 use Rattle.base.proofs.Tables.{as_table, table_more, table_same, get_d_table, every_table}
 use Rattle.plan.specs.declared.Instruction.{Instruction}
-use Rattle.plan.specs.declared.PlanAnswer.TheVariants.{Refused}
 use Rattle.plan.specs.declared.Refusal.TheVariants.{BadLayout, BadInstruction}
 use Rattle.plan.specs.Kinds.{op_create, op_send, op_receive, is_finish, no_instruction}
 use Rattle.plan.specs.Programs.{Program, Programs, program_at, instruction_at}
@@ -163,12 +163,12 @@ module _ (m : Programs) where
 
     -- 3 to 6
     answer_is : {p : Pass} {x y z : List ℕ} → PassOf present_edition m p x y z
-        → pass_answer p x ≡ unless (instructions_ok m) (Refused BadInstruction) (structure_answer m)
+        → pass_answer p x ≡ unless (instructions_ok m) (Err BadInstruction) (structure_answer m)
     unfolding structure_answer
     answer_is {p} {x} {y} {z} q = go p.instructions refl
       where
         go : (b : Bool) → p.instructions ≡ b
-            → pass_answer p x ≡ unless (instructions_ok m) (Refused BadInstruction) (structure_answer m)
+            → pass_answer p x ≡ unless (instructions_ok m) (Err BadInstruction) (structure_answer m)
         go false e = rw (← instructions_are, ← q.instructions, e) refl
         go true e =
             let so = q.passed e in
@@ -178,4 +178,4 @@ module _ (m : Programs) where
     pub answer_sized : {p : Pass} {x y z : List ℕ} → PassOf present_edition m p x y z → pass_answer p x ≡ plan_answer m
     unfolding plan_answer
     answer_sized q =
-        answer_is q ∙ sym (ap (λ (b : Bool). unless b (Refused BadLayout) (unless (instructions_ok m) (Refused BadInstruction) (structure_answer m))) sizes)
+        answer_is q ∙ sym (ap (λ (b : Bool). unless b (Err BadLayout) (unless (instructions_ok m) (Err BadInstruction) (structure_answer m))) sizes)

@@ -3,8 +3,8 @@ use mathlib.Core.Path.{◌≡◌, refl, ◌∙◌}
 use mathlib.Core.Bool.{true, false}
 use mathlib.Core.List.{List}
 use Prim.Native.Nat.{ℕ}
+use Rattle.std.specs.Prelude.{Err}
 use Rattle.plan.specs.declared.Plan.{Plan}
-use Rattle.plan.specs.declared.PlanAnswer.TheVariants.{Refused}
 use Rattle.plan.specs.declared.Refusal.TheVariants.{BadLayout}
 use Rattle.plan.specs.Programs.{programs}
 use Rattle.plan.specs.Refusals.{instructions_ok, plan_answer}
@@ -17,7 +17,7 @@ use Rattle.plan_value.proofs.Sized.{sizes_of}
 use Rattle.plan_value.proofs.Meaning.{instructions_are, answer_sized, firsts_are}
 
 module _ (p : Plan) where
-  pub answer_unsized : sizes_in p.tasks p.lengths ≡ false → plan_answer (programs p) ≡ Refused BadLayout
+  pub answer_unsized : sizes_in p.tasks p.lengths ≡ false → plan_answer (programs p) ≡ Err BadLayout
   unfolding plan_answer
   answer_unsized h = rw (sizes_of p, h) refl
 

@@ -1,10 +1,9 @@
 -- The pass over a list of instructions, each where it stands: what one more changes, what is kept of those before, and 3 to 6 by this.
-use Rattle.std.specs.Prelude.{◌≡◌, Bool, true, false, not, ◌&&◌, ◌||◌, List, [], ◌∷◌, ◌++◌, ℕ, suc, ◌-◌, length, get_or, set, eqb, ltb, leb}
+use Rattle.std.specs.Prelude.{◌≡◌, Bool, true, false, not, ◌&&◌, ◌||◌, List, [], ◌∷◌, ◌++◌, ℕ, suc, ◌-◌, length, get_or, set, eqb, ltb, leb, Ok, Err}
 use Rattle.base.specs.Choice.{pick, unless}
 use Rattle.base.specs.Range.{joined, up_to}
 use Rattle.base.specs.Lists.{every, table}
-use Rattle.plan.specs.declared.PlanAnswer.{PlanAnswer}
-use Rattle.plan.specs.declared.PlanAnswer.TheVariants.{Accepted, Refused}
+use Rattle.plan.specs.Answers.{PlanAnswer}
 use Rattle.plan.specs.declared.Refusal.TheVariants.{BadInstruction, BadFinish, BadCreate, BadChannel}
 use Rattle.plan.specs.Kinds.{op_create, op_send, op_receive, is_finish, is_use}
 use Rattle.plan.specs.Programs.{Programs, program_at, instruction_at}
@@ -132,7 +131,7 @@ pub record PassOf (e : Edition) (m : Programs) (p : Pass) (x y z : List ℕ) : T
 -- 3 to 6 by the pass over a plan
 abbrev pub pass_answer : Pass → List ℕ → PlanAnswer
 pass_answer p parents =
-    unless p.instructions (Refused BadInstruction)
-    (unless p.finishes (Refused BadFinish)
-    (unless (p.creates && all_created p.tasks parents) (Refused BadCreate)
-    (unless (p.channels && eqb p.unpaired 0) (Refused BadChannel) Accepted)))
+    unless p.instructions (Err BadInstruction)
+    (unless p.finishes (Err BadFinish)
+    (unless (p.creates && all_created p.tasks parents) (Err BadCreate)
+    (unless (p.channels && eqb p.unpaired 0) (Err BadChannel) (Ok tt))))

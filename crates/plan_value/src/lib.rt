@@ -17,14 +17,18 @@ ghost use Rattle.plan.specs.Programs.{programs};
 ghost use Rattle.plan.specs.Refusals.{plan_answer};
 ghost use Rattle.plan_value.specs.Slots.{plan_in};
 
-use plan::{Plan, PlanAnswer, Refusal};
+use plan::{Plan, Refusal};
 
 // The answer about the plan with these slots: each number is tested over the whole plan before the next.
-pub fn check_slots<'a>(tasks: u8, lengths: &'a [u8; 64], codes: &'a [u32; 4096]) -> PlanAnswer
+pub fn check_slots<'a>(
+    tasks: u8,
+    lengths: &'a [u8; 64],
+    codes: &'a [u32; 4096],
+) -> Result<(), Refusal>
     ensures { result ≡ plan_answer (programs (plan_in tasks lengths.now codes.now)) }
 {
     if !sizes::sizes_ok(tasks, lengths) {
-        return PlanAnswer::Refused(Refusal::BadLayout);
+        return Err(Refusal::BadLayout);
     }
     let mut parents = [0u8; 129];
     let mut senders = [0u8; 129];
@@ -41,7 +45,7 @@ pub fn check_slots<'a>(tasks: u8, lengths: &'a [u8; 64], codes: &'a [u32; 4096])
 }
 
 // The answer about a plan value.
-pub fn check(p: Plan) -> PlanAnswer
+pub fn check(p: Plan) -> Result<(), Refusal>
     ensures { result ≡ plan_answer (programs p) }
 {
     check_slots(p.tasks, &p.lengths, &p.codes)

@@ -1,13 +1,14 @@
 // The pass over the instructions of a plan, one after the other: 3 to 6, and who uses what.
-ghost use Rattle.std.specs.Prelude.{◌≡◌, ◌≤◌, ◌<◌, get_or};
+ghost use Rattle.std.specs.Prelude.{◌≡◌, ◌≤◌, ◌<◌, ◌==◌, not, get_or};
+ghost use Rattle.std.specs.List.{list_all};
 ghost use Rattle.plan_value.specs.Firsts.{all_created};
 ghost use Rattle.plan_value.specs.Marks.{create_mark, Entered};
 ghost use Rattle.plan_value.specs.Ends.{Counted, EndEntered};
 ghost use Rattle.plan_value.specs.Pass.{seen, start_pass, next_seen, pass_answer};
 
 use crate::instruction::{Edition, is_allowed, is_channel_allowed};
-use crate::marks::{create_fits, end_fits, kept, same, unpaired_then};
-use plan::{CREATE, FINISH, Instruction, PlanAnswer, RECEIVE, Refusal, SEND, SET};
+use crate::marks::{create_fits, end_fits, kept, unpaired_then};
+use plan::{CREATE, FINISH, Instruction, RECEIVE, Refusal, SEND};
 
 // An instruction where it stands: its task, and whether it is the last one there.
 #[derive(Clone, Copy)]
@@ -44,8 +45,8 @@ impl Pass {
         ensures { result ≡ start_pass tasks instructions }
     {
         Pass {
-            instructions: instructions,
-            tasks: tasks,
+            instructions,
+            tasks,
             finishes: instructions,
             creates: instructions,
             channels: instructions,
@@ -72,21 +73,19 @@ fn enter_end<'a>(t: u8, a: usize, n: usize, ends: &'a mut [u8; 129], others: &'a
 {
     let old = ends[a];
     let other = others[a];
+    let fits = end_fits(old, other, t);
     if old != 0 {
-        return End {
-            fits: end_fits(old, other, t),
-            unpaired: n,
-        };
+        return End { fits, unpaired: n };
     }
     ends[a] = t;
     End {
-        fits: end_fits(old, other, t),
+        fits,
         unpaired: unpaired_then(n, other),
     }
 }
 
-// One instruction more. The tables take, by argument, the first task that creates, sends and receives. Sends and receives are told by the
-// kind and the second byte at once, and before the others.
+// One instruction more. The tables take, by argument, the first task that creates, sends and receives. Sends and receives, which are the
+// most, are told before the others.
 pub fn next<'a>(
     p: Pass,
     e: Edition,
@@ -100,79 +99,54 @@ pub fn next<'a>(
         ≡ next_seen e x (seen p parents.old senders.old receivers.old) }
 {
     let i = x.instruction;
-    let opcode = i.opcode;
-    let level = i.level;
-    let a = base::wide16(i.operand);
-    let t = x.task;
-    let head = base::wide8(opcode) + 256 * base::wide8(level);
-    let going = base::both(p.finishes, !x.last);
-    if head == 4 {
+    let a = i.operand as usize;
+    let going = p.finishes & !x.last;
+    if i.opcode == SEND && i.level == 0 {
         if !is_channel_allowed(e, SEND, a) {
             return Pass::new(p.tasks, false);
         }
-        let sent = enter_end(t, a, p.unpaired, senders, receivers);
-        let channels = base::both(p.channels, sent.fits);
+        let sent = enter_end(x.task, a, p.unpaired, senders, receivers);
         return Pass {
-            instructions: p.instructions,
-            tasks: p.tasks,
             finishes: going,
-            creates: p.creates,
-            channels: channels,
+            channels: p.channels & sent.fits,
             unpaired: sent.unpaired,
+            ..p
         };
     }
-    if head == 5 {
+    if i.opcode == RECEIVE && i.level == 0 {
         if !is_channel_allowed(e, RECEIVE, a) {
             return Pass::new(p.tasks, false);
         }
-        let received = enter_end(t, a, p.unpaired, receivers, senders);
-        let channels = base::both(p.channels, received.fits);
+        let received = enter_end(x.task, a, p.unpaired, receivers, senders);
         return Pass {
-            instructions: p.instructions,
-            tasks: p.tasks,
             finishes: going,
-            creates: p.creates,
-            channels: channels,
+            channels: p.channels & received.fits,
             unpaired: received.unpaired,
-        };
-    }
-    if opcode >= SET {
-        if !is_allowed(e, p.tasks, i) {
-            return Pass::new(p.tasks, false);
-        }
-        return Pass {
-            instructions: p.instructions,
-            tasks: p.tasks,
-            finishes: going,
-            creates: p.creates,
-            channels: p.channels,
-            unpaired: p.unpaired,
+            ..p
         };
     }
     if !is_allowed(e, p.tasks, i) {
         return Pass::new(p.tasks, false);
     }
-    if opcode == CREATE {
-        let creates = base::both(p.creates, enter_create(t, a, parents));
+    if i.opcode == CREATE {
+        let fits = enter_create(x.task, a, parents);
         return Pass {
-            instructions: p.instructions,
-            tasks: p.tasks,
             finishes: going,
-            creates: creates,
-            channels: p.channels,
-            unpaired: p.unpaired,
+            creates: p.creates & fits,
+            ..p
         };
     }
-    let finish = opcode == FINISH;
-    let finishes = base::both(p.finishes, same(finish, x.last));
     Pass {
-        instructions: p.instructions,
-        tasks: p.tasks,
-        finishes: finishes,
-        creates: p.creates,
-        channels: p.channels,
-        unpaired: p.unpaired,
+        finishes: p.finishes & ((i.opcode == FINISH) == x.last),
+        ..p
     }
+}
+
+// None of them is 0.
+pub fn are_some(numbers: &[u8]) -> bool
+    ensures { result ≡ list_all (λ n. not (n == 0)) numbers.now }
+{
+    numbers.iter().all(|n| *n != 0)
 }
 
 // Each task but the first has a parent.
@@ -180,37 +154,26 @@ fn all_created(tasks: u8, parents: &[u8; 129]) -> bool
     requires { (1 ≤ tasks) × (tasks ≤ 64) }
     ensures { result ≡ all_created tasks parents.now }
 {
-    let n = base::wide8(tasks);
-    let mut k: usize = 1;
-    while k < n {
-        if parents[k + 1] == 0 {
-            return false;
-        }
-        k += 1;
-    }
-    true
+    are_some(&parents[2..tasks as usize + 1])
 }
 
 // What the pass over all instructions of a plan and the tables that it has filled say: 3 to 6, in the
 // paper's order.
-pub fn answer(p: Pass, parents: &[u8; 129]) -> PlanAnswer
+pub fn answer(p: Pass, parents: &[u8; 129]) -> Result<(), Refusal>
     requires { (1 ≤ p.tasks) × (p.tasks ≤ 64) }
     ensures { result ≡ pass_answer p parents.now }
 {
     if !p.instructions {
-        return PlanAnswer::Refused(Refusal::BadInstruction);
+        return Err(Refusal::BadInstruction);
     }
     if !p.finishes {
-        return PlanAnswer::Refused(Refusal::BadFinish);
+        return Err(Refusal::BadFinish);
     }
-    if !p.creates {
-        return PlanAnswer::Refused(Refusal::BadCreate);
+    if !(p.creates && all_created(p.tasks, parents)) {
+        return Err(Refusal::BadCreate);
     }
-    if !all_created(p.tasks, parents) {
-        return PlanAnswer::Refused(Refusal::BadCreate);
+    if !(p.channels && p.unpaired == 0) {
+        return Err(Refusal::BadChannel);
     }
-    if !base::both(p.channels, p.unpaired == 0) {
-        return PlanAnswer::Refused(Refusal::BadChannel);
-    }
-    PlanAnswer::Accepted
+    Ok(())
 }

@@ -1,21 +1,24 @@
 // 2 of a plan value.
 ghost use Rattle.std.specs.Prelude.{◌≡◌};
+ghost use Rattle.std.specs.List.{list_all};
+ghost use Rattle.plan.specs.Refusals.{size_ok};
 ghost use Rattle.plan_value.specs.Sizes.{sizes_in};
+
+// T, or a count, is in range.
+fn is_size(n: u8) -> bool
+    ensures { result ≡ size_ok n }
+{
+    (1..=64).contains(&n)
+}
+
+fn are_sizes(counts: &[u8]) -> bool
+    ensures { result ≡ list_all size_ok counts.now }
+{
+    counts.iter().all(|count| is_size(*count))
+}
 
 pub fn sizes_ok(tasks: u8, lengths: &[u8; 64]) -> bool
     ensures { result ≡ sizes_in tasks lengths.now }
 {
-    let n = base::wide8(tasks);
-    if !base::is_within(1, 64, n) {
-        return false;
-    }
-    let mut k: usize = 0;
-    while k < n {
-        let count = base::wide8(lengths[k]);
-        if !base::is_within(1, 64, count) {
-            return false;
-        }
-        k += 1;
-    }
-    true
+    is_size(tasks) && are_sizes(&lengths[..tasks as usize])
 }

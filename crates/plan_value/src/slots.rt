@@ -25,29 +25,21 @@ pub fn pass_slots<'a>(
     ensures { PassOf present_edition (programs (plan_in tasks lengths.now codes.now)) result
         parents.new senders.new receivers.new }
 {
-    let n = base::wide8(tasks);
     let edition = present();
     let mut p = Pass::new(tasks, true);
-    let mut k: usize = 0;
-    while k < n {
-        let count = base::wide8(lengths[k]);
-        let t = k as u8 + 1;
-        let mut i: usize = 0;
-        while i < count {
-            let s = 64 * k + i;
-            let x = Instruction::of(codes[s]);
+    for k in 0..tasks as usize {
+        let count = lengths[k] as usize;
+        for i in 0..count {
             let entry = Entry {
-                task: t,
+                task: k as u8 + 1,
                 last: i == count - 1,
-                instruction: x,
+                instruction: Instruction::of(codes[64 * k + i]),
             };
             p = next(p, edition, entry, parents, senders, receivers);
             if !p.instructions {
                 return p;
             }
-            i += 1;
         }
-        k += 1;
     }
     p
 }

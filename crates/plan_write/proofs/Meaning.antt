@@ -5,6 +5,7 @@ use Prim.Native.Nat.{ℕ, ◌+◌, ◌*◌, ◌≤◌, ◌<◌}
 use native.Mathlib.Omega.{arith}
 use lib.ListN.{length, get_or, length-append}
 use borrow.Author.Tests.{le-leb, lt-leb}
+use Rattle.std.specs.Prelude.{Ok, Err}
 use Rattle.base.specs.Range.{joined, sum_below}
 use Rattle.base.specs.Lists.{table}
 use Rattle.base.proofs.Folds.{fold_same}
@@ -15,8 +16,6 @@ use Rattle.plan.specs.declared.Instruction.{Instruction}
 use Rattle.plan.specs.declared.Plan.{Plan}
 use Rattle.plan.specs.declared.Refusal.{Refusal}
 use Rattle.plan.specs.declared.Refusal.TheVariants.{OutputShort}
-use Rattle.plan.specs.declared.PlanAnswer.TheVariants.{Accepted, Refused}
-use Rattle.plan.specs.declared.WriteAnswer.TheVariants.{Written, Unwritten}
 use Rattle.plan.specs.Kinds.{no_instruction}
 use Rattle.plan.specs.Programs.{Programs, program_at, instruction_at, slot_of, programs}
 use Rattle.plan.specs.Layout.{bytes16, count_of, total_of, head_bytes, instruction_bytes, code_bytes, layout}
@@ -74,7 +73,7 @@ module _ (p : Plan) where
         ∙ fold_same ◌+◌ 0 p.tasks (λ k. length (row k)) (λ k. 4 * count k) (λ k l. each k)
         ∙ sum_scaled 4 p.tasks count
 
-few_of : (p : Plan) → plan_answer (programs p) ≡ Accepted → (k : ℕ) → k < p.tasks → get_or p.lengths k 0 ≤ 64
+few_of : (p : Plan) → plan_answer (programs p) ≡ Ok tt → (k : ℕ) → k < p.tasks → get_or p.lengths k 0 ≤ 64
 few_of p h k l =
     let s = sized (programs p) (plan_passed (programs p) h).sizes in
     rw (← count_of_lem p k l) (s.counts k (rw (tasks_of_lem p) l)).few
@@ -85,7 +84,7 @@ pub record Sizes (p : Plan) (n : ℕ) : Type 0 where
   pub total : total_in p.lengths n ≤ 4096
   pub code : length (slots_bytes p.lengths p.codes (64 * p.tasks)) ≡ 4 * total_in p.lengths n
 
-pub sizes_of : (p : Plan) (n : ℕ) → plan_answer (programs p) ≡ Accepted → n ≡ p.tasks → Sizes p n
+pub sizes_of : (p : Plan) (n : ℕ) → plan_answer (programs p) ≡ Ok tt → n ≡ p.tasks → Sizes p n
 sizes_of p n h e =
     let s = sized (programs p) (plan_passed (programs p) h).sizes in
     let t : p.tasks ≤ 64 = rw (← tasks_of_lem p) s.tasks.few in
@@ -97,12 +96,12 @@ sizes_of p n h e =
     }
 
 -- a refused plan leaves the output as it was
-pub unwritten : (m : Programs) (out : List ℕ) (r : Refusal) → plan_answer m ≡ Refused r → WritePlan m out (Unwritten r) out
+pub unwritten : (m : Programs) (out : List ℕ) (r : Refusal) → plan_answer m ≡ Err r → WritePlan m out (Err r) out
 unfolding write_answer write_output
 unwritten m out r h = record { answer = rw h refl; bytes = rw h refl }
 
 -- an accepted plan of n tasks with `total` instructions
-module _ (p : Plan) (n total : ℕ) (h : plan_answer (programs p) ≡ Accepted) (en : n ≡ p.tasks) (et : total ≡ total_in p.lengths n) where
+module _ (p : Plan) (n total : ℕ) (h : plan_answer (programs p) ≡ Ok tt) (en : n ≡ p.tasks) (et : total ≡ total_in p.lengths n) where
   layout_of : layout (programs p)
       ≡ (bytes16 n ++ bytes16 total) ++ (entries_bytes p.lengths n ++ slots_bytes p.lengths p.codes (64 * p.tasks))
   unfolding layout
@@ -115,7 +114,7 @@ module _ (p : Plan) (n total : ℕ) (h : plan_answer (programs p) ≡ Accepted) 
       rw layout_of (omega (arith, et, length-append heads codes, length_entries p.lengths n n, (sizes_of p n h en).code))
 
   -- a short output stays as it was
-  pub short : (out : List ℕ) → length out < 4 + 4 * n + 4 * total → WritePlan (programs p) out (Unwritten OutputShort) out
+  pub short : (out : List ℕ) → length out < 4 + 4 * n + 4 * total → WritePlan (programs p) out (Err OutputShort) out
   unfolding write_answer write_output
   short out l =
       let e = lt-leb (length (layout (programs p))) (length out) (rw layout_length l) in
@@ -127,7 +126,7 @@ module _ (p : Plan) (n total : ℕ) (h : plan_answer (programs p) ≡ Accepted) 
       → b ≡ overlay a 2 (bytes16 total)
       → c ≡ overlay b 4 (entries_bytes p.lengths n)
       → d ≡ overlay c (4 + 4 * n) (slots_bytes p.lengths p.codes (64 * p.tasks))
-      → WritePlan (programs p) out (Written (4 + 4 * n + 4 * total)) d
+      → WritePlan (programs p) out (Ok (4 + 4 * n + 4 * total)) d
   unfolding write_answer write_output
   written out a b c d r ea eb ec ed =
       let heads = entries_bytes p.lengths n in

@@ -11,10 +11,8 @@ pub fn total_of(n: usize, lengths: &[u8; 64]) -> usize
     ensures { result ≡ total_in lengths.now n }
 {
     let mut total: usize = 0;
-    let mut k: usize = 0;
-    while k < n {
-        total += base::wide8(lengths[k]);
-        k += 1;
+    for k in 0..n {
+        total += lengths[k] as usize;
     }
     total
 }
@@ -25,12 +23,9 @@ pub fn write_entries(out: &mut [u8], n: usize, lengths: &[u8; 64])
     ensures { out.new ≡ overlay out.old 4 (entries_bytes lengths.now n) }
 {
     let mut end = 4 + 4 * n;
-    let mut k: usize = 0;
-    while k < n {
-        let count = base::wide8(lengths[k]);
+    for k in 0..n {
         put_word(out, 4 + 4 * k, end as u16);
-        put_word(out, 6 + 4 * k, count as u16);
-        end += 4 * count;
-        k += 1;
+        put_word(out, 6 + 4 * k, lengths[k] as u16);
+        end += 4 * lengths[k] as usize;
     }
 }

@@ -10,7 +10,6 @@ pub mod round_trip;
 
 // A plan value written as a file.
 ghost use Rattle.std.specs.Prelude.{◌≡◌};
-ghost use Rattle.plan.specs.declared.PlanAnswer.TheVariants.{Accepted};
 ghost use Rattle.plan.specs.Programs.{programs};
 ghost use Rattle.plan.specs.Refusals.{plan_answer};
 ghost use Rattle.plan.specs.Outcomes.{WritePlan};
@@ -18,34 +17,30 @@ ghost use Rattle.plan.specs.Outcomes.{WritePlan};
 use crate::output::bytes::put_word;
 use crate::output::code::write_code;
 use header::{total_of, write_entries};
-use plan::{Plan, PlanAnswer, Refusal, WriteAnswer};
+use plan::{Plan, Refusal};
 
 // An accepted plan, if the output has room for it.
-fn write_accepted(p: Plan, out: &mut [u8]) -> WriteAnswer
-    requires { plan_answer (programs p) ≡ Accepted }
+fn write_accepted(p: Plan, out: &mut [u8]) -> Result<usize, Refusal>
+    requires { plan_answer (programs p) ≡ Ok tt }
     ensures { WritePlan (programs p) out.old result out.new }
 {
-    let tasks = p.tasks;
-    let n = base::wide8(tasks);
+    let n = p.tasks as usize;
     let total = total_of(n, &p.lengths);
     let start = 4 + 4 * n;
     let size = start + 4 * total;
     if out.len() < size {
-        return WriteAnswer::Unwritten(Refusal::OutputShort);
+        return Err(Refusal::OutputShort);
     }
     put_word(out, 0, n as u16);
     put_word(out, 2, total as u16);
     write_entries(out, n, &p.lengths);
-    write_code(out, start, tasks, &p.lengths, &p.codes);
-    WriteAnswer::Written(size)
+    write_code(out, start, p.tasks, &p.lengths, &p.codes);
+    Ok(size)
 }
 
-pub fn write_plan(p: Plan, out: &mut [u8]) -> WriteAnswer
+pub fn write_plan(p: Plan, out: &mut [u8]) -> Result<usize, Refusal>
     ensures { WritePlan (programs p) out.old result out.new }
 {
-    let answer = plan_value::check(p);
-    match answer {
-        PlanAnswer::Accepted => write_accepted(p, out),
-        PlanAnswer::Refused(r) => WriteAnswer::Unwritten(r),
-    }
+    plan_value::check(p)?;
+    write_accepted(p, out)
 }

@@ -1,34 +1,41 @@
 -- `check_logs`.
-use mathlib.Core.Path.{refl, sym, ap₂, ◌∙◌}
-use mathlib.Core.Bool.{◌&&◌}
-use borrow.Author.Tests.{not-true, not-false}
-use Rattle.base.proofs.Tests.{and_left, and_right}
+use mathlib.Core.Path.{◌≡◌, refl, sym, ◌∙◌}
+use mathlib.Core.Bool.{true, false, ◌&&◌}
+use Rattle.base.proofs.Tests.{and_false}
 use Rattle.rules.specs.LogFiles.{log_length_ok, logs_answer}
 use Rattle.logs.specs.Following.{followed_answer}
 use Rattle.logs.proofs.check_logs.Goals as goal
+use Rattle.logs.proofs.check_logs.Goals.{then-not-length_ok-via-then-not-length_ok, then-not-length_ok-via-else-not-length_ok+then-not-length_ok-2}
 
-pub returns-then-not-both : goal.returns-then-not-both
+pub returns-then-not-length_ok : goal.returns-then-not-length_ok
 unfolding logs_answer
-returns-then-not-both c = let e = sym (c.if-not-both.ensures ∙ ap₂ ◌&&◌ c.length_ok.ensures c.length_ok-2.ensures) in rw e refl
+returns-then-not-length_ok c =
+    let s = log_length_ok c.args.sent.now in
+    let e : s && log_length_ok c.args.received.now ≡ false =
+    elim c.then-not-length_ok.branch [
+      | then-not-length_ok-via-then-not-length_ok w ↦ let f : s ≡ false = sym w.if-not-length_ok.ensures in rw f refl
+      | then-not-length_ok-via-else-not-length_ok+then-not-length_ok-2 w ↦
+          let f : log_length_ok c.args.received.now ≡ false = sym w.if-not-length_ok-2.ensures in
+          rw f (and_false s)
+    ] in
+    rw e refl
 
-pub link-links-requires : goal.link-links-requires
-link-links-requires c = and_left _ _ (sym (c.if-not-both.ensures ∙ ap₂ ◌&&◌ c.length_ok.ensures c.length_ok-2.ensures))
+pub link-requires : goal.link-requires
+link-requires c = sym c.if-not-length_ok.ensures
 
-pub returns-then-not-links : goal.returns-then-not-links
+pub returns-in_default : goal.returns-in_default
 unfolding logs_answer
-returns-then-not-links c =
-    let fine = sym (c.if-not-both.ensures ∙ ap₂ ◌&&◌ c.length_ok.ensures c.length_ok-2.ensures) in
-    let e = sym c.link-links.ensures.ok ∙ not-true c.link-links.result.ok c.if-not-links.true in
-    rw (fine, e) refl
+returns-in_default c =
+    let s : log_length_ok c.args.sent.now ≡ true = sym c.if-not-length_ok.ensures in
+    let r : log_length_ok c.args.received.now ≡ true = sym c.if-not-length_ok-2.ensures in
+    rw (s, r, c.in_default.ensures) refl
 
 pub follow-requires : goal.follow-requires
-follow-requires c =
-    let fine = sym (c.if-not-both.ensures ∙ ap₂ ◌&&◌ c.length_ok.ensures c.length_ok-2.ensures) in
-    (and_left _ _ fine, and_right (log_length_ok c.args.sent.now) _ fine, c.link-links.ensures, not-false c.link-links.result.ok c.if-not-links.false)
+follow-requires c = (sym c.if-not-length_ok.ensures, sym c.if-not-length_ok-2.ensures, c.in-Some.ensures)
 
 pub returns : goal.returns
 unfolding logs_answer followed_answer
 returns c =
-    let fine = sym (c.if-not-both.ensures ∙ ap₂ ◌&&◌ c.length_ok.ensures c.length_ok-2.ensures) in
-    let e = sym c.link-links.ensures.ok ∙ not-false c.link-links.result.ok c.if-not-links.false in
-    c.follow.ensures ∙ rw (fine, e) refl
+    let s : log_length_ok c.args.sent.now ≡ true = sym c.if-not-length_ok.ensures in
+    let r : log_length_ok c.args.received.now ≡ true = sym c.if-not-length_ok-2.ensures in
+    c.follow.ensures ∙ rw (s, r, c.in-Some.ensures.ok) refl

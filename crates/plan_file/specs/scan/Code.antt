@@ -1,7 +1,6 @@
 -- The instructions of a file behind a header that is in order: what is answered about them, and who uses what.
-use Rattle.std.specs.Prelude.{◌≡◌, true, List, ℕ, ◌≤◌, length}
-use Rattle.plan.specs.declared.PlanAnswer.{PlanAnswer}
-use Rattle.plan.specs.declared.PlanAnswer.TheVariants.{Accepted}
+use Rattle.std.specs.Prelude.{◌≡◌, true, List, ℕ, ◌≤◌, length, Ok}
+use Rattle.plan.specs.Answers.{PlanAnswer}
 use Rattle.plan.specs.Programs.{canonical}
 use Rattle.plan.specs.Refusals.{plan_answer}
 use Rattle.plan_value.specs.Firsts.{Firsts}
@@ -17,4 +16,4 @@ pub record Whole (b : List ℕ) (n : ℕ) (lengths : List ℕ) : Type 0 where
 -- the answer about them, and who uses what, where it is accepted; else the tables are of no use
 pub record CodeChecked (b : List ℕ) (n : ℕ) (lengths : List ℕ) (a : PlanAnswer) (x y z : List ℕ) : Type 0 where
   pub answer : a ≡ plan_answer (programs_in b n lengths)
-  pub firsts : a ≡ Accepted → Firsts (programs_in b n lengths) x y z
+  pub firsts : a ≡ Ok tt → Firsts (programs_in b n lengths) x y z

@@ -23,6 +23,7 @@ pub fn walk<'a>(
     ensures { PassOf edition (programs_in file.now tasks lengths.now) result
         parents.new senders.new receivers.new }
 {
+    // Counted by hand: plan check was slower with `for` loops.
     let n = base::wide8(tasks);
     let mut p = Pass::new(tasks, true);
     let mut at: usize = 0;

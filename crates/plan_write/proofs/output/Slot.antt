@@ -1,14 +1,16 @@
 -- An instruction put, and the bytes of the slots: none, one used slot more, and the rest of a row skipped.
 use mathlib.Core.Path.{◌≡◌, refl, ◌∙◌}
 use mathlib.Core.List.{List, [], ◌∷◌, ◌++◌}
-use Prim.Native.Nat.{ℕ, ◌+◌, ◌/◌, ◌%◌, ◌≤◌, ◌<◌}
+use mathlib.Core.Logic.{by_cases}
+use Prim.Native.Nat.{ℕ, ◌+◌, ◌*◌, ◌/◌, ◌%◌, ◌≤◌, ◌<◌, min}
+use native.Mathlib.Decide.{dec_lt}
 use native.Mathlib.Omega.{arith}
 use lib.ListN.{length, get_or, set}
 use borrow.Author.Tests.{lt-ltb}
 use Rattle.base.specs.Range.{joined}
 use Rattle.base.proofs.Folds.{fold_none, fold_more}
 use Rattle.base.proofs.Joins.{part_of_sum, length_joined}
-use Rattle.base.proofs.Slots.{next_row, joined_skip}
+use Rattle.base.proofs.Slots.{row_of, place_of, next_row, joined_skip}
 use Rattle.plan.specs.declared.Instruction.{Instruction}
 use Rattle.plan.specs.Layout.{bytes16, instruction_bytes}
 use Rattle.plan_value.specs.Slots.{slot_in}
@@ -53,3 +55,21 @@ module _ (out : List ℕ) (start : ℕ) (lengths codes : List ℕ) where
       → Put out start (slots_bytes lengths codes (next_row s)) at now
   slots_skip s at now u p =
       rw (joined_skip s (λ k. get_or lengths k 0) (λ j count i. instruction_bytes (slot_in codes j)) u) at p
+
+  -- the rest of a task's slots
+  pub slots_row : (k at : ℕ) (now : List ℕ) → Put out start (slots_bytes lengths codes (64 * k + min (get_or lengths k 0) 64)) at now
+      → Put out start (slots_bytes lengths codes (64 * (k + 1))) at now
+  slots_row k at now p =
+      by_cases
+      (dec_lt (get_or lengths k 0) 64)
+      (λ (h : get_or lengths k 0 < 64).
+      let s = 64 * k + get_or lengths k 0 in
+      let few : min (get_or lengths k 0) 64 ≡ get_or lengths k 0 = omega arith in
+      let row = row_of k (get_or lengths k 0) h in
+      let place = place_of k (get_or lengths k 0) h in
+      let next : next_row s ≡ 64 * (k + 1) = omega (arith, row) in
+      let unused : get_or lengths (s / 64) 0 ≤ s % 64 = rw (row, place) (omega arith) in
+      rw (← next) (slots_skip s at now unused (rw few at p)))
+      (λ h.
+      let full : 64 * k + min (get_or lengths k 0) 64 ≡ 64 * (k + 1) = omega arith in
+      rw full at p)

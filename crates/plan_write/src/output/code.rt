@@ -32,19 +32,11 @@ pub fn write_code<'a>(
         start
         (slots_bytes lengths.now codes.now (64 * tasks)) }
 {
-    let end = 64 * base::wide8(tasks);
     let mut at = start;
-    let mut s: usize = 0;
-    while s < end {
-        let k = s / 64;
-        if base::wide8(lengths[k]) <= s % 64 {
-            // the rest of the task's slots is unused
-            s = 64 * (k + 1);
-        } else {
-            let x = Instruction::of(codes[s]);
-            put_instruction(out, at, x);
+    for k in 0..tasks as usize {
+        for i in 0..(lengths[k] as usize).min(64) {
+            put_instruction(out, at, Instruction::of(codes[64 * k + i]));
             at += 4;
-            s += 1;
         }
     }
 }

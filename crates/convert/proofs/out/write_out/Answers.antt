@@ -18,21 +18,13 @@ use Rattle.convert.proofs.out.write_out.Goals as goal
 pub loop-k-init : goal.loop-k-init
 loop-k-init c =
     let a = c.args in
-    let n = c.wide8-n.ensures in
     let m = written_out_plan (programs_in a.file.now a.tasks a.lengths.now) in (
-      omega arith,
-      n,
-      rw n (few_tasks a.tasks a.lengths.now c.requires.0.sizes),
+      refl,
+      few_tasks a.tasks a.lengths.now c.requires.0.sizes,
       place_first a.lengths.now,
       c.requires.2 ∙ counts_none m,
       c.requires.3 ∙ no_codes m ∙ ap (codes_to m) (omega arith),
     )
-
-pub bounds-lengths-k : goal.bounds-lengths-k
-bounds-lengths-k c = omega arith
-
-pub overflow_mul-k : goal.overflow_mul-k
-overflow_mul-k c = omega arith
 
 -- the written-out task that was written, and how short it is
 module _ (b : List ℕ) (n : ℕ) (lengths : List ℕ) (k : ℕ) (task : k < n) {at count : ℕ} (place : at ≡ code_place lengths k 0) (counted : count ≡ get_or lengths k 0) where
@@ -57,13 +49,12 @@ write_task-w-requires c =
     let a = c.args in
     let k = c.loop-k.k in
     let task : k < a.tasks = omega arith in
-    let size : length c.loop-k.codes ≡ 4096 = rw c.loop-k.invariant.5 (length_table 4096 _) in
-    let few : c.wide8-count.result ≤ 64 = rw c.wide8-count.ensures (count_few a.tasks a.lengths.now c.requires.0.sizes k task) in (
-      few,
-      omega (arith, c.wide8-count.ensures, c.loop-k.invariant.3, c.requires.0.bytes, place_below a.lengths.now a.tasks k task),
+    let size : length c.loop-k.codes ≡ 4096 = rw c.loop-k.invariant.4 (length_table 4096 _) in (
+      count_few a.tasks a.lengths.now c.requires.0.sizes k task,
+      omega (arith, c.loop-k.invariant.2, c.requires.0.bytes, place_below a.lengths.now a.tasks k task),
       omega arith,
       size,
-      fine a.file.now a.tasks a.lengths.now k task c.loop-k.invariant.3 c.wide8-count.ensures c.requires.1,
+      fine a.file.now a.tasks a.lengths.now k task c.loop-k.invariant.2 refl c.requires.1,
     )
 
 pub overflow_cast-counts : goal.overflow_cast-counts
@@ -71,32 +62,21 @@ overflow_cast-counts c =
     let a = c.args in
     let k = c.loop-k.k in
     let task : k < a.tasks = omega arith in
-    let q = written a.file.now a.tasks a.lengths.now k task c.loop-k.invariant.3 c.wide8-count.ensures c.write_task-w.ensures in
-    omega (arith, q.count, short a.file.now a.tasks a.lengths.now k task c.loop-k.invariant.3 c.wide8-count.ensures c.requires.1)
-
-pub bounds-counts-k : goal.bounds-counts-k
-bounds-counts-k c = omega arith
+    let q = written a.file.now a.tasks a.lengths.now k task c.loop-k.invariant.2 refl c.write_task-w.ensures in
+    omega (arith, q.count, short a.file.now a.tasks a.lengths.now k task c.loop-k.invariant.2 refl c.requires.1)
 
 pub overflow_mul-at : goal.overflow_mul-at
 overflow_mul-at c =
     let a = c.args in
-    let k = c.loop-k.k in
-    let task : k < a.tasks = omega arith in
-    let few : c.wide8-count.result ≤ 64 = rw c.wide8-count.ensures (count_few a.tasks a.lengths.now c.requires.0.sizes k task) in
-    omega (arith, few)
+    let task : c.loop-k.k < a.tasks = omega arith in
+    omega (arith, count_few a.tasks a.lengths.now c.requires.0.sizes c.loop-k.k task)
 
 pub overflow_add-at : goal.overflow_add-at
 overflow_add-at c =
     let a = c.args in
     let k = c.loop-k.k in
     let task : k < a.tasks = omega arith in
-    omega (arith, c.wide8-count.ensures, c.loop-k.invariant.3, c.requires.0.bytes, place_below a.lengths.now a.tasks k task)
-
-pub overflow_add-k : goal.overflow_add-k
-overflow_add-k c = omega arith
-
-pub loop-k-smaller : goal.loop-k-smaller
-loop-k-smaller c = omega arith
+    omega (arith, c.loop-k.invariant.2, c.requires.0.bytes, place_below a.lengths.now a.tasks k task)
 
 pub loop-k-preserved : goal.loop-k-preserved
 loop-k-preserved c =
@@ -105,15 +85,14 @@ loop-k-preserved c =
     let task : k < a.tasks = omega arith in
     let inv = c.loop-k.invariant in
     let all = written_out_plan (programs_in a.file.now a.tasks a.lengths.now) in
-    let q = written a.file.now a.tasks a.lengths.now k task inv.3 c.wide8-count.ensures c.write_task-w.ensures in
-    let few = short a.file.now a.tasks a.lengths.now k task inv.3 c.wide8-count.ensures c.requires.1 in (
-      omega arith,
+    let q = written a.file.now a.tasks a.lengths.now k task inv.2 refl c.write_task-w.ensures in
+    let few = short a.file.now a.tasks a.lengths.now k task inv.2 refl c.requires.1 in (
+      refl,
       inv.1,
-      inv.2,
-      omega (arith, inv.3, c.wide8-count.ensures, place_row a.lengths.now k),
-      counts_more all k (omega arith) inv.4 q.count,
+      omega (arith, inv.2, place_row a.lengths.now k),
+      counts_more all k (omega arith) inv.3 q.count,
       q.slots
-          ∙ ap (λ (d : List ℕ). paste d (64 * k) (map code_of (program_at all k)) (count_of all k)) inv.5
+          ∙ ap (λ (d : List ℕ). paste d (64 * k) (map code_of (program_at all k)) (count_of all k)) inv.4
           ∙ task_slots all k (omega arith) few,
     )
 
@@ -123,4 +102,4 @@ returns c =
     let x = programs_in a.file.now a.tasks a.lengths.now in
     let size = length-map x written_out ∙ code_tasks a.file.now a.tasks a.lengths.now in
     let e : c.loop-k.k ≡ length (written_out_plan x) = omega (arith, size) in
-    all_filled (written_out_plan x) (omega (arith, size)) (c.loop-k.invariant.4 ∙ rw e refl) (c.loop-k.invariant.5 ∙ rw e refl)
+    all_filled (written_out_plan x) (omega (arith, size)) (c.loop-k.invariant.3 ∙ rw e refl) (c.loop-k.invariant.4 ∙ rw e refl)

@@ -7,41 +7,12 @@ use Rattle.convert.specs.Tasks.{task_in}
 use Rattle.convert.proofs.Finding.{task_length, task_instruction}
 use Rattle.convert.proofs.Writing.{put_start, put_end, put_less, put_mark, put_room, put_plain}
 use Rattle.convert.proofs.out.write_task.Goals as goal
+use Rattle.convert.proofs.out.write_task.Goals.{then-not-is_mark, else-not-is_mark}
 
 pub loop-s-init : goal.loop-s-init
 loop-s-init c =
     let a = c.args in
     rw c.new-s.ensures (put_start (task_in a.file.now a.at a.count) c.requires.4 a.first a.codes.now c.requires.3 c.requires.2)
-
-pub overflow_mul-i : goal.overflow_mul-i
-overflow_mul-i c = omega arith
-
-pub overflow_add-at : goal.overflow_add-at
-overflow_add-at c = omega arith
-
-pub fetch-x-requires : goal.fetch-x-requires
-fetch-x-requires c = omega arith
-
-pub next-s-requires : goal.next-s-requires
-next-s-requires c = omega arith
-
-pub loop-s-smaller-then-is_mark : goal.loop-s-smaller-then-is_mark
-loop-s-smaller-then-is_mark c =
-    let a = c.args in
-    let g = task_in a.file.now a.at a.count in
-    let more : c.loop-s.s.at < length g = rw (task_length a.file.now a.at a.count) (omega arith) in
-    let here : c.fetch-x.result ≡ instruction_at g c.loop-s.s.at =
-    c.fetch-x.ensures ∙ sym (task_instruction a.file.now a.at a.count c.loop-s.s.at (omega arith)) in
-    rw c.next-s.ensures (put_less g c.requires.4 a.first a.codes.now c.requires.3 c.requires.2 c.loop-s.invariant c.fetch-x.result here more)
-
-pub loop-s-preserved-then-is_mark : goal.loop-s-preserved-then-is_mark
-loop-s-preserved-then-is_mark c =
-    let a = c.args in
-    let g = task_in a.file.now a.at a.count in
-    let more : c.loop-s.s.at < length g = rw (task_length a.file.now a.at a.count) (omega arith) in
-    let here : c.fetch-x.result ≡ instruction_at g c.loop-s.s.at =
-    c.fetch-x.ensures ∙ sym (task_instruction a.file.now a.at a.count c.loop-s.s.at (omega arith)) in
-    rw c.next-s.ensures (put_mark g c.requires.4 a.first a.codes.now c.requires.3 c.requires.2 c.loop-s.invariant c.fetch-x.result here more (sym c.if-is_mark.ensures))
 
 pub overflow_add-codes : goal.overflow_add-codes
 overflow_add-codes c =
@@ -50,17 +21,7 @@ overflow_add-codes c =
     let more : c.loop-s.s.at < length g = rw (task_length a.file.now a.at a.count) (omega arith) in
     let here : c.fetch-x.result ≡ instruction_at g c.loop-s.s.at =
     c.fetch-x.ensures ∙ sym (task_instruction a.file.now a.at a.count c.loop-s.s.at (omega arith)) in
-    let few : c.loop-s.w < 64 = put_room g c.requires.4 a.first a.codes.now c.requires.3 c.requires.2 c.loop-s.invariant c.fetch-x.result here more (sym c.if-is_mark.ensures) in
-    omega (arith, few)
-
-pub offset_bounds-codes-first : goal.offset_bounds-codes-first
-offset_bounds-codes-first c =
-    let a = c.args in
-    let g = task_in a.file.now a.at a.count in
-    let more : c.loop-s.s.at < length g = rw (task_length a.file.now a.at a.count) (omega arith) in
-    let here : c.fetch-x.result ≡ instruction_at g c.loop-s.s.at =
-    c.fetch-x.ensures ∙ sym (task_instruction a.file.now a.at a.count c.loop-s.s.at (omega arith)) in
-    let few : c.loop-s.w < 64 = put_room g c.requires.4 a.first a.codes.now c.requires.3 c.requires.2 c.loop-s.invariant c.fetch-x.result here more (sym c.if-is_mark.ensures) in
+    let few : c.loop-s.w < 64 = put_room g c.requires.4 a.first a.codes.now c.requires.3 c.requires.2 c.loop-s.invariant c.fetch-x.result here more (sym c.if-not-is_mark.ensures) in
     omega (arith, few)
 
 pub bounds-codes-first : goal.bounds-codes-first
@@ -70,7 +31,7 @@ bounds-codes-first c =
     let more : c.loop-s.s.at < length g = rw (task_length a.file.now a.at a.count) (omega arith) in
     let here : c.fetch-x.result ≡ instruction_at g c.loop-s.s.at =
     c.fetch-x.ensures ∙ sym (task_instruction a.file.now a.at a.count c.loop-s.s.at (omega arith)) in
-    let few : c.loop-s.w < 64 = put_room g c.requires.4 a.first a.codes.now c.requires.3 c.requires.2 c.loop-s.invariant c.fetch-x.result here more (sym c.if-is_mark.ensures) in
+    let few : c.loop-s.w < 64 = put_room g c.requires.4 a.first a.codes.now c.requires.3 c.requires.2 c.loop-s.invariant c.fetch-x.result here more (sym c.if-not-is_mark.ensures) in
     omega (arith, few)
 
 pub overflow_add-w : goal.overflow_add-w
@@ -80,11 +41,8 @@ overflow_add-w c =
     let more : c.loop-s.s.at < length g = rw (task_length a.file.now a.at a.count) (omega arith) in
     let here : c.fetch-x.result ≡ instruction_at g c.loop-s.s.at =
     c.fetch-x.ensures ∙ sym (task_instruction a.file.now a.at a.count c.loop-s.s.at (omega arith)) in
-    let few : c.loop-s.w < 64 = put_room g c.requires.4 a.first a.codes.now c.requires.3 c.requires.2 c.loop-s.invariant c.fetch-x.result here more (sym c.if-is_mark.ensures) in
+    let few : c.loop-s.w < 64 = put_room g c.requires.4 a.first a.codes.now c.requires.3 c.requires.2 c.loop-s.invariant c.fetch-x.result here more (sym c.if-not-is_mark.ensures) in
     omega (arith, few)
-
-pub next-s-requires-else-is_mark : goal.next-s-requires-else-is_mark
-next-s-requires-else-is_mark c = omega arith
 
 pub loop-s-smaller : goal.loop-s-smaller
 loop-s-smaller c =
@@ -93,7 +51,7 @@ loop-s-smaller c =
     let more : c.loop-s.s.at < length g = rw (task_length a.file.now a.at a.count) (omega arith) in
     let here : c.fetch-x.result ≡ instruction_at g c.loop-s.s.at =
     c.fetch-x.ensures ∙ sym (task_instruction a.file.now a.at a.count c.loop-s.s.at (omega arith)) in
-    rw c.next-s-else-is_mark.ensures (put_less g c.requires.4 a.first a.codes.now c.requires.3 c.requires.2 c.loop-s.invariant c.fetch-x.result here more)
+    rw c.next-s.ensures (put_less g c.requires.4 a.first a.codes.now c.requires.3 c.requires.2 c.loop-s.invariant c.fetch-x.result here more)
 
 pub loop-s-preserved : goal.loop-s-preserved
 loop-s-preserved c =
@@ -102,7 +60,14 @@ loop-s-preserved c =
     let more : c.loop-s.s.at < length g = rw (task_length a.file.now a.at a.count) (omega arith) in
     let here : c.fetch-x.result ≡ instruction_at g c.loop-s.s.at =
     c.fetch-x.ensures ∙ sym (task_instruction a.file.now a.at a.count c.loop-s.s.at (omega arith)) in
-    rw (c.next-s-else-is_mark.ensures, c.code.ensures) (put_plain g c.requires.4 a.first a.codes.now c.requires.3 c.requires.2 c.loop-s.invariant c.fetch-x.result here more (sym c.if-is_mark.ensures))
+    elim c.if-not-is_mark.branch [
+      | then-not-is_mark w ↦
+          rw (w.codes-is, w.w-is, c.next-s.ensures, w.code.ensures)
+          (put_plain g c.requires.4 a.first a.codes.now c.requires.3 c.requires.2 c.loop-s.invariant c.fetch-x.result here more (sym w.if-not-is_mark.ensures))
+      | else-not-is_mark w ↦
+          rw (w.codes-is, w.w-is, c.next-s.ensures)
+          (put_mark g c.requires.4 a.first a.codes.now c.requires.3 c.requires.2 c.loop-s.invariant c.fetch-x.result here more (sym w.if-not-is_mark.ensures))
+    ]
 
 pub returns : goal.returns
 returns c =

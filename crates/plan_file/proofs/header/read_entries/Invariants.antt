@@ -1,5 +1,5 @@
 -- `header::read_entries` is the entries of n tasks. The loop's invariant: the first k are in order, and their counts are stored.
-use Prim.Native.Nat.{◌≤◌, ◌+◌, ◌*◌, ◌-◌}
+use Prim.Native.Nat.{◌≤◌, ◌+◌, ◌*◌}
 use mathlib.Core.Path.{◌≡◌}
 use mathlib.Core.Bool.{true}
 use Rattle.base.specs.Range.{below}
@@ -10,11 +10,7 @@ use Rattle.plan_file.proofs.header.read_entries.Given as goal
 
 abbrev pub invariant-loop-k : goal.invariant-loop-k
 invariant-loop-k l =
-    (l.k ≤ l.n)
-    × (l.end ≤ 260 + 256 * l.k)
+    (l.end ≤ 260 + 256 * l.k)
     × (l.end ≡ offset_due l.n (file_count l.file) l.k)
     × (below l.k (entry_fits l.file l.n) ≡ true)
     × (l.lengths ≡ counts_to l.file l.k)
-
-abbrev pub decreases-loop-k : goal.decreases-loop-k
-decreases-loop-k l = l.n - l.k

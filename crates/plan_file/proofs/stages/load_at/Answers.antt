@@ -3,7 +3,6 @@ use mathlib.Core.Path.{◌≡◌, refl, sym, ◌∙◌, ap}
 use mathlib.Core.List.{List}
 use Prim.Native.Nat.{ℕ}
 use lib.ListN.{drop}
-use borrow.Author.Tests.{not-true, not-false}
 use Rattle.plan.specs.declared.Plan.{Plan}
 use Rattle.plan.specs.Programs.{canonical}
 use Rattle.plan_laws.proofs.Canonical.{meaning_canonical}
@@ -25,22 +24,22 @@ plan_is b n lengths w e =
 pub returns-then-not-h : goal.returns-then-not-h
 returns-then-not-h c =
     let a = c.args in
-    rw (bad_header a.h (drop a.at a.file.now) (not-true a.h.ok c.if-not-h.true)) at c.refused.ensures
+    rw (bad_header a.h (drop a.at a.file.now) c.if-not-h.true) at c.refused.ensures
 
-pub check_code-answer-requires : goal.check_code-answer-requires
-check_code-answer-requires c =
-    (rw c.rest_at-rest.ensures (c.requires (not-false c.args.h.ok c.if-not-h.false)), record { parents = refl; senders = refl; receivers = refl })
+pub check_code-requires : goal.check_code-requires
+check_code-requires c =
+    (rw c.rest_at-rest.ensures (c.requires c.if-not-h.false), record { parents = refl; senders = refl; receivers = refl })
 
 pub read_code-requires : goal.read_code-requires
-read_code-requires c = (rw c.rest_at-rest.ensures (c.requires (not-false c.args.h.ok c.if-not-h.false)), refl)
+read_code-requires c = (rw c.rest_at-rest.ensures (c.requires c.if-not-h.false), refl)
 
-pub returns-in-Accepted : goal.returns-in-Accepted
-returns-in-Accepted c =
+pub returns : goal.returns
+returns c =
     let h = c.args.h in
     let b = drop c.args.at c.args.file.now in
-    let ok = not-false h.ok c.if-not-h.false in
-    let q = rw c.rest_at-rest.ensures at c.check_code-answer.ensures in
-    let accepted = c.in-Accepted.is in
+    let ok = c.if-not-h.false in
+    let q = rw c.rest_at-rest.ensures at c.check_code.ensures in
+    let accepted = c.in_default.is in
     let m = programs_in b h.tasks h.lengths in
     let codes = c.read_code.ensures ∙ ap (λ (b : List ℕ). (canonical (programs_in b h.tasks h.lengths)).codes) c.rest_at-rest.ensures in
     let plan : record { tasks = h.tasks; lengths = h.lengths; codes = c.read_code.new.codes } ≡ canonical m =
@@ -50,8 +49,8 @@ returns-in-Accepted c =
       firsts = λ e. rw (plan, meaning_canonical m (sym q.answer ∙ accepted)) (q.firsts accepted);
     }
 
-pub returns-in-Refused : goal.returns-in-Refused
-returns-in-Refused c =
+pub returns-in-Err : goal.returns-in-Err
+returns-in-Err c =
     let h = c.args.h in
-    let q = rw c.rest_at-rest.ensures at c.check_code-answer.ensures in
-    rw (bad_plan h (drop c.args.at c.args.file.now) (not-false h.ok c.if-not-h.false) (sym c.in-Refused.is ∙ q.answer)) at c.refused-in-Refused.ensures
+    let q = rw c.rest_at-rest.ensures at c.check_code.ensures in
+    rw (bad_plan h (drop c.args.at c.args.file.now) c.if-not-h.false (sym c.in-Err.is ∙ q.answer)) at c.refused-in-Err.ensures

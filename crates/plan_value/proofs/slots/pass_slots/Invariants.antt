@@ -1,6 +1,6 @@
 -- `slots::pass_slots` is the pass over the instructions of a plan value. The invariant of the outer loop: it has passed the first k tasks; of the inner
 -- one: and the next's first i instructions.
-use Prim.Native.Nat.{◌≤◌, ◌<◌, ◌-◌}
+use Prim.Native.Nat.{◌≤◌, ◌<◌}
 use mathlib.Core.Path.{◌≡◌}
 use lib.ListN.{get_or}
 use Rattle.plan.specs.Programs.{programs}
@@ -11,23 +11,14 @@ use Rattle.plan_value.proofs.slots.pass_slots.Given as goal
 
 abbrev pub invariant-loop-i : goal.invariant-loop-i
 invariant-loop-i l =
-    (l.i ≤ l.count)
-    × (l.count ≤ 64)
-    × (l.k < l.n)
-    × (l.n ≤ 64)
-    × (l.n ≡ l.tasks)
+    (l.count ≤ 64)
+    × (l.k < l.tasks)
+    × (l.tasks ≤ 64)
     × (l.count ≡ get_or l.lengths l.k 0)
     × Passed present_edition l.tasks (entries_to (programs (plan_in l.tasks l.lengths l.codes)) l.k l.i) (seen l.p l.parents l.senders l.receivers)
 
-abbrev pub decreases-loop-i : goal.decreases-loop-i
-decreases-loop-i l = l.count - l.i
-
 abbrev pub invariant-loop-k : goal.invariant-loop-k
 invariant-loop-k l =
-    (l.k ≤ l.n)
-    × (l.n ≤ 64)
-    × (l.n ≡ l.tasks)
+    (l.tasks ≤ 64)
+    × (l.k-end ≡ l.tasks)
     × Passed present_edition l.tasks (entries_to (programs (plan_in l.tasks l.lengths l.codes)) l.k 0) (seen l.p l.parents l.senders l.receivers)
-
-abbrev pub decreases-loop-k : goal.decreases-loop-k
-decreases-loop-k l = l.n - l.k

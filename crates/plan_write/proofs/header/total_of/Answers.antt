@@ -1,28 +1,18 @@
 use mathlib.Core.Path.{◌≡◌, sym}
 use native.Mathlib.Omega.{arith}
-use borrow.Author.Rules.{rules}
 use Rattle.plan_write.proofs.Entries.{total_none, total_more, total_part}
 use Rattle.plan_write.proofs.header.total_of.Goals as goal
 
 pub loop-k-init : goal.loop-k-init
-loop-k-init c = (search rules, sym (total_none c.args.lengths.now))
-
-pub bounds-lengths-k : goal.bounds-lengths-k
-bounds-lengths-k c = omega arith
+loop-k-init c = sym (total_none c.args.lengths.now)
 
 pub overflow_add-total : goal.overflow_add-total
 overflow_add-total c = omega (arith, total_part c.args.lengths.now c.args.n c.loop-k.k c.loop-k-test.true)
 
-pub overflow_add-k : goal.overflow_add-k
-overflow_add-k c = omega arith
-
-pub loop-k-smaller : goal.loop-k-smaller
-loop-k-smaller c = omega arith
-
 pub loop-k-preserved : goal.loop-k-preserved
-loop-k-preserved c = (omega arith, omega (arith, total_more c.args.lengths.now c.loop-k.k))
+loop-k-preserved c = omega (arith, total_more c.args.lengths.now c.loop-k.k)
 
 pub returns : goal.returns
 returns c =
     let e : c.loop-k.k ≡ c.args.n = omega arith in
-    rw (← e) c.loop-k.invariant.1
+    rw (← e) c.loop-k.invariant

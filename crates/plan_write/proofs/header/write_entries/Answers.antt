@@ -2,50 +2,19 @@ use mathlib.Core.Path.{◌≡◌, refl, sym, ap, ◌∙◌}
 use Prim.Native.Nat.{ℕ, ◌+◌}
 use native.Mathlib.Omega.{arith}
 use lib.ListN.{length}
-use borrow.Author.Rules.{rules}
 use Rattle.base.specs.Range.{joined}
 use Rattle.plan_write.specs.output.Output.{overlay}
 use Rattle.plan_write.specs.Header.{entry_bytes}
 use Rattle.plan_write.proofs.Entries.{total_part, due_none, due_more, entries_none, entries_length, entries_step}
 use Rattle.plan_write.proofs.header.write_entries.Goals as goal
 
-pub overflow_mul-end : goal.overflow_mul-end
-overflow_mul-end c = omega arith
-
-pub overflow_add-end : goal.overflow_add-end
-overflow_add-end c = omega arith
-
 pub loop-k-init : goal.loop-k-init
 loop-k-init c =
     let a = c.args in
-    (search rules, refl, sym (due_none a.lengths.now a.n), sym (entries_none a.lengths.now a.n a.out.now))
-
-pub bounds-lengths-k : goal.bounds-lengths-k
-bounds-lengths-k c = omega arith
-
-pub overflow_mul-k : goal.overflow_mul-k
-overflow_mul-k c = omega arith
-
-pub overflow_add-k : goal.overflow_add-k
-overflow_add-k c = omega arith
+    (refl, sym (due_none a.lengths.now a.n), sym (entries_none a.lengths.now a.n a.out.now))
 
 pub overflow_cast-end : goal.overflow_cast-end
 overflow_cast-end c = omega (arith, total_part c.args.lengths.now c.args.n c.loop-k.k c.loop-k-test.true)
-
-pub put_word-requires : goal.put_word-requires
-put_word-requires c = omega arith
-
-pub overflow_mul-k-in-loop-k : goal.overflow_mul-k-in-loop-k
-overflow_mul-k-in-loop-k c = omega arith
-
-pub overflow_add-k-in-loop-k : goal.overflow_add-k-in-loop-k
-overflow_add-k-in-loop-k c = omega arith
-
-pub overflow_cast-count : goal.overflow_cast-count
-overflow_cast-count c = omega (arith, total_part c.args.lengths.now c.args.n c.loop-k.k c.loop-k-test.true)
-
-pub put_word-requires-in-loop-k : goal.put_word-requires-in-loop-k
-put_word-requires-in-loop-k c = omega arith
 
 pub overflow_mul-end-in-loop-k : goal.overflow_mul-end-in-loop-k
 overflow_mul-end-in-loop-k c = omega (arith, total_part c.args.lengths.now c.args.n c.loop-k.k c.loop-k-test.true)
@@ -53,30 +22,23 @@ overflow_mul-end-in-loop-k c = omega (arith, total_part c.args.lengths.now c.arg
 pub overflow_add-end-in-loop-k : goal.overflow_add-end-in-loop-k
 overflow_add-end-in-loop-k c = omega (arith, total_part c.args.lengths.now c.args.n c.loop-k.k c.loop-k-test.true)
 
-pub overflow_add-k-in-loop-k-2 : goal.overflow_add-k-in-loop-k-2
-overflow_add-k-in-loop-k-2 c = omega arith
-
-pub loop-k-smaller : goal.loop-k-smaller
-loop-k-smaller c = omega arith
-
 pub loop-k-preserved : goal.loop-k-preserved
 loop-k-preserved c =
     let a = c.args in
     let k = c.loop-k.k in
     let out : _ ≡ overlay a.out.now 4 (joined (k + 1) (entry_bytes a.lengths.now a.n)) =
     entries_step a.lengths.now a.n a.out.now k c.loop-k.end _ c.loop-k.out _ _ (omega (arith, c.requires))
-    c.loop-k.invariant.3 c.loop-k.invariant.2 c.wide8-count.ensures c.put_word.ensures c.put_word-in-loop-k.ensures in (
-      omega arith,
+    c.loop-k.invariant.2 c.loop-k.invariant.1 refl c.put_word.ensures c.put_word-in-loop-k.ensures in (
       ap length out ∙ entries_length a.lengths.now a.n a.out.now (k + 1) (omega arith),
       omega (arith, due_more a.lengths.now a.n k),
       out,
     )
 
 pub shape_of-out : goal.shape_of-out
-shape_of-out c = c.loop-k.invariant.1
+shape_of-out c = c.loop-k.invariant.0
 
 pub returns : goal.returns
 returns c =
     let a = c.args in
     let e : c.loop-k.k ≡ a.n = omega arith in
-    c.loop-k.invariant.3 ∙ ap (λ (k : ℕ). overlay a.out.now 4 (joined k (entry_bytes a.lengths.now a.n))) e
+    c.loop-k.invariant.2 ∙ ap (λ (k : ℕ). overlay a.out.now 4 (joined k (entry_bytes a.lengths.now a.n))) e

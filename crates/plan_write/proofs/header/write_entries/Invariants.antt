@@ -1,6 +1,5 @@
 -- `header::write_entries` puts the entries of n tasks. The loop's invariant: those of the first k tasks are put, and the next offset is due.
 use mathlib.Core.Path.{◌≡◌}
-use Prim.Native.Nat.{◌≤◌, ◌-◌}
 use lib.ListN.{length, get_or}
 use Rattle.base.specs.Range.{joined}
 use Rattle.plan.specs.Layout.{offset_due}
@@ -10,10 +9,6 @@ use Rattle.plan_write.proofs.header.write_entries.Given as goal
 
 abbrev pub invariant-loop-k : goal.invariant-loop-k
 invariant-loop-k l =
-    (l.k ≤ l.n)
-    × (length l.out ≡ length l.initial.out)
+    (length l.out ≡ length l.initial.out)
     × (l.end ≡ offset_due l.n (λ j. get_or l.lengths j 0) l.k)
     × (l.out ≡ overlay l.initial.out 4 (joined l.k (entry_bytes l.lengths l.n)))
-
-abbrev pub decreases-loop-k : goal.decreases-loop-k
-decreases-loop-k l = l.n - l.k
