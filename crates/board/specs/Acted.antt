@@ -1,51 +1,48 @@
 -- A verdict carried out on what is lent.
-use Rattle.std.specs.Prelude.{◌≡◌, List, ℕ}
+use Rattle.std.specs.Prelude.{◌≡◌, List, ℕ, None, Ok, Err}
 use Rattle.rules.specs.declared.rule.Outcome.{Outcome}
 use Rattle.rules.specs.declared.rule.Posting.{Posting}
 use Rattle.rules.specs.declared.rule.Posting.TheVariants.{Nothing as NoPosting}
-use Rattle.rules.specs.declared.rule.Received.TheVariants.{Nothing as NoWord}
-use Rattle.rules.specs.declared.step.StepAnswer.{StepAnswer}
-use Rattle.rules.specs.declared.step.StepAnswer.TheVariants.{Accepted}
+use Rattle.rules.specs.Answers.{StepAnswer}
 use Rattle.rules.specs.declared.system.TaskTable.{TaskTable}
 use Rattle.rules.specs.declared.system.Parents.{Parents}
 use Rattle.rules.specs.declared.system.Store.{Store}
-use Rattle.rig_parts.specs.declared.change.Verdict.{Verdict}
-use Rattle.rig_parts.specs.declared.change.Verdict.TheVariants.{Refused, Accepted as Allowed}
+use Rattle.rig_parts.specs.Answers.{Verdict}
 use Rattle.rig_parts.specs.Sweeps.{swept_parents}
 use Rattle.rig_parts.specs.Effects.{changed_tasks, changed_store}
 use Rattle.board.specs.declared.act.Act.{Act}
 use Rattle.board.specs.Lent.{Lent, Whole, tasks_of, store_of, parents_on}
 
 abbrev pub refused_act : StepAnswer → Act
-refused_act q = record { answer = q; received = NoWord; posting = NoPosting }
+refused_act q = record { answer = q; received = None; posting = NoPosting }
 
 abbrev pub accepted_act : Outcome → Act
-accepted_act o = record { answer = Accepted; received = o.received; posting = o.posting }
+accepted_act o = record { answer = Ok tt; received = o.received; posting = o.posting }
 
 -- accepted, no word is received, and this is posted
 abbrev pub posted_act : Posting → Act
-posted_act p = record { answer = Accepted; received = NoWord; posting = p }
+posted_act p = record { answer = Ok tt; received = None; posting = p }
 
 abbrev pub plain_act : Act
 plain_act = posted_act NoPosting
 
 -- what is said and posted
 abbrev pub act_of : Verdict → Act
-act_of (Refused q) = refused_act q
-act_of (Allowed k) = accepted_act k.outcome
+act_of (Err q) = refused_act (Err q)
+act_of (Ok k) = accepted_act k.outcome
 
 -- the tasks, what is kept for channels, and what is kept for parents, then
 abbrev pub tasks_after : Verdict → TaskTable → TaskTable
-tasks_after (Refused q) ts = ts
-tasks_after (Allowed k) ts = changed_tasks k ts
+tasks_after (Err q) ts = ts
+tasks_after (Ok k) ts = changed_tasks k ts
 
 abbrev pub store_after : List ℕ → List ℕ → Verdict → Store → Store
-store_after senders receivers (Refused q) s = s
-store_after senders receivers (Allowed k) s = changed_store senders receivers k s
+store_after senders receivers (Err q) s = s
+store_after senders receivers (Ok k) s = changed_store senders receivers k s
 
 abbrev pub parents_after : Verdict → Parents → Parents
-parents_after (Refused q) ps = ps
-parents_after (Allowed k) ps = swept_parents k.sweep ps
+parents_after (Err q) ps = ps
+parents_after (Ok k) ps = swept_parents k.sweep ps
 
 -- the verdict v was carried out: r is said, and what is lent is `after`
 pub record Acted (senders receivers : List ℕ) (v : Verdict) (before : Lent) (r : Act) (after : Lent) : Type 0 where

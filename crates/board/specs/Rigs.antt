@@ -1,10 +1,9 @@
 -- What a function supposes of what it is lent, and what it says of the rest: there is some rest beside which the parts are those of a rig
 -- that 9 does not refuse; and whatever the rest is, it stays.
-use Rattle.std.specs.Prelude.{◌≡◌, Bool, true, false, List, ℕ}
+use Rattle.std.specs.Prelude.{◌≡◌, Bool, true, false, List, ℕ, Ok}
 use Rattle.rules.specs.declared.message.Message.{Message}
 use Rattle.rules.specs.declared.step.Step.{Step}
 use Rattle.rules.specs.Sound.{message_ok}
-use Rattle.rig_parts.specs.declared.change.Verdict.TheVariants.{Accepted as Allowed}
 use Rattle.rig_parts.specs.Facts.{Facts, facts, PartsOf}
 use Rattle.rig_parts.specs.Openings.{opened_in}
 use Rattle.plan_index.specs.user_table.Users.{senders_of, receivers_of, parents_of, Indexed}
@@ -35,13 +34,13 @@ pub record Opens (codes users : List ℕ) (l : Lent) (m : Message) : Type 0 wher
 abbrev pub Opened : List ℕ → List ℕ → Message → Lent → Act → Lent → Type 0
 Opened codes users m l r l' =
     (count : ℕ) (numbers : List ℕ)
-    → Acted (senders_of users) (receivers_of users) (Allowed (opened_in (facts_in count codes numbers users) (tasks_of l) (kept_of l) m)) l r l'
+    → Acted (senders_of users) (receivers_of users) (Ok (opened_in (facts_in count codes numbers users) (tasks_of l) (kept_of l) m)) l r l'
 
 -- this is what opening it would do
 abbrev pub Opening : List ℕ → List ℕ → Message → Lent → Act → Type 0
 Opening codes users m l r =
     (count : ℕ) (numbers : List ℕ)
-    → r ≡ act_of (Allowed (opened_in (facts_in count codes numbers users) (tasks_of l) (kept_of l) m))
+    → r ≡ act_of (Ok (opened_in (facts_in count codes numbers users) (tasks_of l) (kept_of l) m))
 
 -- a task can run, by the board alone
 pub record RunsOn (codes : List ℕ) (n : Size) (board : List ℕ) : Type 0 where

@@ -3,14 +3,15 @@ ghost use Rattle.std.specs.Prelude.{◌≡◌, ◌≤◌, ◌+◌, leb, length};
 ghost use Rattle.rules.specs.Networks.{messages_of};
 ghost use Rattle.board.specs.Acted.{refused_act, accepted_act, posted_act};
 
-use rules::rule::{Outcome, Posting, Received};
-use rules::step::StepAnswer;
+use plan::{ChannelId, Word};
+use rules::rule::{Outcome, Posting};
+use rules::step::StepRefusal;
 
 // The answer, the word that was received, and what is posted.
 #[derive(Clone, Copy)]
 pub struct Act {
-    pub answer: StepAnswer,
-    pub received: Received,
+    pub answer: Result<(), StepRefusal>,
+    pub received: Option<(ChannelId, Word)>,
     pub posting: Posting,
 }
 
@@ -22,12 +23,12 @@ pub struct Size {
     pub used: usize,
 }
 
-pub fn refused(q: StepAnswer) -> Act
+pub fn refused(q: Result<(), StepRefusal>) -> Act
     ensures { result ≡ refused_act q }
 {
     Act {
         answer: q,
-        received: Received::Nothing,
+        received: None,
         posting: Posting::Nothing,
     }
 }
@@ -35,12 +36,10 @@ pub fn refused(q: StepAnswer) -> Act
 pub fn accepted(o: Outcome) -> Act
     ensures { result ≡ accepted_act o }
 {
-    let received = o.received;
-    let posting = o.posting;
     Act {
-        answer: StepAnswer::Accepted,
-        received: received,
-        posting: posting,
+        answer: Ok(()),
+        received: o.received,
+        posting: o.posting,
     }
 }
 
@@ -49,8 +48,8 @@ pub fn posted(p: Posting) -> Act
     ensures { result ≡ posted_act p }
 {
     Act {
-        answer: StepAnswer::Accepted,
-        received: Received::Nothing,
+        answer: Ok(()),
+        received: None,
         posting: p,
     }
 }

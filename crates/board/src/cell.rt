@@ -11,21 +11,15 @@ pub fn is_on(codes: &[u32; 4096], s: TaskState, u: TaskId, c: ChannelId, b: Task
     requires { (u.0 ≤ 64) × (b.pc ≤ 65) }
     ensures { result ≡ is_on_in codes.now s u c b }
 {
-    let last = crate::fetch::is_on(codes, u, c, b.pc);
-    base::both(task_rules::state::is_in(b, s), last)
+    b.state == s && crate::fetch::is_on(codes, u, c, b.pc)
 }
 
 // The cell of these parts.
 pub fn cell_of(hint: Hint, held: Offer, noted: ProcessorId, channel: Channel) -> Cell
     ensures { result ≡ record { entry = record { hint = hint; held = held; noted = noted }; channel = channel } }
 {
-    let entry = Entry {
-        hint: hint,
-        held: held,
-        noted: noted,
-    };
     Cell {
-        entry: entry,
-        channel: channel,
+        entry: Entry { hint, held, noted },
+        channel,
     }
 }

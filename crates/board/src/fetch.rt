@@ -11,12 +11,11 @@ use rules::task::{Task, TaskState};
 pub fn no_task() -> Task
     ensures { result ≡ no_task }
 {
-    let nowhere = cell_rules::order::unknown();
     Task {
         state: TaskState::Unborn,
         processor: ProcessorId(0),
         pc: 0,
-        origin: nowhere,
+        origin: cell_rules::order::unknown(),
         word: Word(0, 0, 0, 0),
         overflow: false,
         moves: 0,
@@ -29,7 +28,7 @@ pub fn instruction_in(codes: &[u32; 4096], t: TaskId, pc: u8) -> Instruction
     requires { (1 ≤ t.0) × (t.0 ≤ 64) × (1 ≤ pc) × (pc ≤ 64) }
     ensures { result ≡ instruction_in codes.now t pc }
 {
-    let at = 64 * (base::wide8(t.0) - 1) + (base::wide8(pc) - 1);
+    let at = 64 * (t.0 as usize - 1) + (pc as usize - 1);
     Instruction::of(codes[at])
 }
 
@@ -38,13 +37,10 @@ fn last_code(codes: &[u32; 4096], t: TaskId, pc: u8) -> u32
     requires { (t.0 ≤ 64) × (pc ≤ 65) }
     ensures { result ≡ last_of codes.now t pc }
 {
-    if t.0 == 0 {
+    if t.0 == 0 || pc < 2 {
         return 0;
     }
-    if pc < 2 {
-        return 0;
-    }
-    let at = 64 * (base::wide8(t.0) - 1) + (base::wide8(pc) - 2);
+    let at = 64 * (t.0 as usize - 1) + (pc as usize - 2);
     codes[at]
 }
 
@@ -53,13 +49,10 @@ pub fn last_number(numbers: &[u8; 4096], t: TaskId, pc: u8) -> u8
     requires { (t.0 ≤ 64) × (pc ≤ 65) }
     ensures { result ≡ last_of numbers.now t pc }
 {
-    if t.0 == 0 {
+    if t.0 == 0 || pc < 2 {
         return 0;
     }
-    if pc < 2 {
-        return 0;
-    }
-    let slot = 64 * (base::wide8(t.0) - 1) + (base::wide8(pc) - 2);
+    let slot = 64 * (t.0 as usize - 1) + (pc as usize - 2);
     numbers[slot]
 }
 
@@ -69,5 +62,5 @@ pub fn is_on(codes: &[u32; 4096], t: TaskId, c: ChannelId, pc: u8) -> bool
     ensures { result ≡ eqb (instruction_of (last_of codes.now t pc)).operand c.0 }
 {
     let last = Instruction::of(last_code(codes, t, pc));
-    base::wide16(last.operand) == base::wide8(c.0)
+    last.operand as usize == c.0 as usize
 }

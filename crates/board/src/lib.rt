@@ -34,7 +34,7 @@ fn channel_index(c: ChannelId) -> usize
     requires { (1 ≤ c.0) × (c.0 ≤ 128) }
     ensures { (result ≡ c.0 - 1) × (result < 128) }
 {
-    base::wide8(c.0) - 1
+    c.0 as usize - 1
 }
 
 // Where the entry of desk d is for the channel whose own entry is at k.
@@ -42,7 +42,7 @@ fn entry_beside(d: ProcessorId, k: usize) -> usize
     requires { (1 ≤ d.0) × (d.0 ≤ 6) × (k < 128) }
     ensures { (result ≡ 128 * (d.0 - 1) + k) × (result < 768) }
 {
-    128 * (base::wide8(d.0) - 1) + k
+    128 * (d.0 as usize - 1) + k
 }
 
 // Where the entry of desk d and channel c is.
@@ -61,7 +61,7 @@ pub fn task_at(board: &Board, t: TaskId) -> Task
     if t.0 == 0 {
         return crate::fetch::no_task();
     }
-    let n = base::wide8(t.0);
+    let n = t.0 as usize;
     let at = 126 + 2 * n;
     crate::packing::task_of(board[at], board[at + 1], board[255 + n])
 }
@@ -72,14 +72,13 @@ pub fn put_task(board: &mut Board, t: TaskId, x: Task)
     ensures { TaskPut t x board.old board.new }
 {
     if t.0 != 0 {
-        let n = base::wide8(t.0);
+        let n = t.0 as usize;
         let at = 126 + 2 * n;
-        let word = x.word;
         let old = board[at];
         let new = crate::packing::task_word(x);
         board[at] = new;
         board[at + 1] = x.children;
-        board[255 + n] = crate::packing::word_number(word);
+        board[255 + n] = crate::packing::word_number(x.word);
         crate::ready::put_ready(board, t, old, new);
     }
 }
@@ -90,13 +89,12 @@ pub fn put_first_level(board: &mut Board, t: TaskId, x: Task)
     requires { (1 ≤ t.0) × (t.0 ≤ 64) × Whole board.old × SameAbove (task_in (tasks_on board.old) t).word x.word × SameStanding (task_in (tasks_on board.old) t) x }
     ensures { TaskPut t x board.old board.new }
 {
-    let n = base::wide8(t.0);
+    let n = t.0 as usize;
     let at = 126 + 2 * n;
-    let word = x.word;
     let v = board[255 + n];
     board[at] = crate::packing::task_word(x);
     board[at + 1] = x.children;
-    board[255 + n] = crate::packing::with_first_level(v, word.0);
+    board[255 + n] = crate::packing::with_first_level(v, x.word.0);
 }
 
 // The own entry of a channel, at k.
@@ -153,9 +151,8 @@ fn hint_entry<'a>(hintprocessors: &'a [u8; 768], hintmoves: &'a [u16; 768], i: u
     requires { i < 768 }
     ensures { result ≡ hint_entry hintprocessors.now hintmoves.now i }
 {
-    let near = ProcessorId(hintprocessors[i]);
     Hint {
-        processor: near,
+        processor: ProcessorId(hintprocessors[i]),
         moves: hintmoves[i],
     }
 }
@@ -170,8 +167,7 @@ fn put_hint_entry<'a>(
     requires { i < 768 }
     ensures { HintPut i h hintprocessors.old hintmoves.old hintprocessors.new hintmoves.new }
 {
-    let near = h.processor;
-    hintprocessors[i] = near.0;
+    hintprocessors[i] = h.processor.0;
     hintmoves[i] = h.moves;
 }
 
@@ -180,9 +176,8 @@ fn held_entry<'a>(heldprocessors: &'a [u8; 768], heldnumbers: &'a [u8; 768], i: 
     requires { i < 768 }
     ensures { result ≡ held_entry heldprocessors.now heldnumbers.now i }
 {
-    let from = ProcessorId(heldprocessors[i]);
     Offer {
-        processor: from,
+        processor: ProcessorId(heldprocessors[i]),
         number: heldnumbers[i],
     }
 }
@@ -197,8 +192,7 @@ fn put_held_entry<'a>(
     requires { i < 768 }
     ensures { HeldPut i o heldprocessors.old heldnumbers.old heldprocessors.new heldnumbers.new }
 {
-    let from = o.processor;
-    heldprocessors[i] = from.0;
+    heldprocessors[i] = o.processor.0;
     heldnumbers[i] = o.number;
 }
 
@@ -279,11 +273,11 @@ fn parent_index(d: ProcessorId, t: TaskId) -> usize
     requires { AtParent d t }
     ensures { (result ≡ parent_index d t) × (result < 384) }
 {
-    let row = 64 * (base::wide8(d.0) - 1);
+    let row = 64 * (d.0 as usize - 1);
     if t.0 == 0 {
         return row;
     }
-    row + (base::wide8(t.0) - 1)
+    row + (t.0 as usize - 1)
 }
 
 // What desk d keeps for parent t.
@@ -292,9 +286,8 @@ pub fn parent_at(board: &Board, d: ProcessorId, t: TaskId) -> ParentEntry
     ensures { result ≡ parent_in (parents_on board.now) d t }
 {
     let at = 320 + 2 * parent_index(d, t);
-    let hint = crate::packing::hint_of(board[at]);
     ParentEntry {
-        hint: hint,
+        hint: crate::packing::hint_of(board[at]),
         held: board[at + 1],
     }
 }

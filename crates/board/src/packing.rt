@@ -56,16 +56,14 @@ pub fn hint_of(v: u64) -> Hint
 pub fn channel_of(v: u64) -> Channel
     ensures { result ≡ channel_of v }
 {
-    let travelling = hint_of(v);
-    let carried = Offer {
-        processor: ProcessorId(low8(v / 16777216)),
-        number: low8(v / 4294967296),
-    };
     Channel {
         granted: low8(v / 1099511627776),
         awaiting: is_odd(v / 281474976710656),
-        carried: carried,
-        travelling: travelling,
+        carried: Offer {
+            processor: ProcessorId(low8(v / 16777216)),
+            number: low8(v / 4294967296),
+        },
+        travelling: hint_of(v),
     }
 }
 
@@ -73,8 +71,7 @@ pub fn channel_of(v: u64) -> Channel
 pub fn hint_word(h: Hint) -> u64
     ensures { (result ≡ hint_word h) × (result < 16777216) }
 {
-    let toward = h.processor;
-    65536 * (toward.0 as u64) + h.moves as u64
+    65536 * (h.processor.0 as u64) + h.moves as u64
 }
 
 // The number of a channel's own entry with another travelling pointer.
@@ -88,14 +85,10 @@ pub fn with_travelling(v: u64, h: Hint) -> u64
 pub fn channel_word(y: Channel) -> u64
     ensures { result ≡ channel_word y }
 {
-    let carried = y.carried;
-    let offering = carried.processor;
-    let travelling = y.travelling;
-    let toward = travelling.processor;
-    travelling.moves as u64
-        + 65536 * (toward.0 as u64)
-        + 16777216 * (offering.0 as u64)
-        + 4294967296 * (carried.number as u64)
+    y.travelling.moves as u64
+        + 65536 * (y.travelling.processor.0 as u64)
+        + 16777216 * (y.carried.processor.0 as u64)
+        + 4294967296 * (y.carried.number as u64)
         + 1099511627776 * (y.granted as u64)
         + 281474976710656 * bit(y.awaiting)
 }
@@ -160,20 +153,18 @@ pub fn with_first_level(v: u64, n: u16) -> u64
 pub fn task_of(v: u64, children: u64, word: u64) -> Task
     ensures { result ≡ task_of v children word }
 {
-    let w = word_of(word);
-    let origin = Hint {
-        processor: ProcessorId(low8(v / 16777216)),
-        moves: low16(v / 4294967296),
-    };
     Task {
         state: state_of(low7(v)),
         processor: ProcessorId(low8(v / 256)),
         pc: low8(v / 65536),
-        origin: origin,
-        word: w,
+        origin: Hint {
+            processor: ProcessorId(low8(v / 16777216)),
+            moves: low16(v / 4294967296),
+        },
+        word: word_of(word),
         overflow: is_odd(v / 128),
         moves: low16(v / 281474976710656),
-        children: children,
+        children,
     }
 }
 
@@ -181,17 +172,13 @@ pub fn task_of(v: u64, children: u64, word: u64) -> Task
 pub fn task_word(x: Task) -> u64
     ensures { result ≡ task_word x }
 {
-    let at = x.processor;
-    let origin = x.origin;
-    let toward = origin.processor;
-    let state = x.state;
-    state_number(state)
+    state_number(x.state)
         + 281474976710656 * (x.moves as u64)
         + 65536 * (x.pc as u64)
         + 128 * bit(x.overflow)
-        + 16777216 * (toward.0 as u64)
-        + 256 * (at.0 as u64)
-        + 4294967296 * (origin.moves as u64)
+        + 16777216 * (x.origin.processor.0 as u64)
+        + 256 * (x.processor.0 as u64)
+        + 4294967296 * (x.origin.moves as u64)
 }
 
 // The desk at which a task is ready, read from its first number; 0 where it is not ready.

@@ -13,7 +13,7 @@ pub fn ready_at(board: &Board, d: ProcessorId) -> u64
     requires { (1 ≤ d.0) × (d.0 ≤ 6) }
     ensures { result ≡ get_or (tasks_on board.now).ready (d.0 - 1) 0 }
 {
-    board[1087 + base::wide8(d.0)]
+    board[1087 + d.0 as usize]
 }
 
 // Desk d's set becomes s.
@@ -21,8 +21,8 @@ pub fn put_set(board: &mut Board, d: ProcessorId, s: u64)
     requires { (1 ≤ d.0) × (d.0 ≤ 6) × Whole board.old }
     ensures { SetPut (λ e x. pick (eqb d.0 e) s x) board.old board.new }
 {
-    let n = base::wide8(d.0);
-    board[1087 + n] = s;
+    let at = 1087 + d.0 as usize;
+    board[at] = s;
 }
 
 // The set with t where it joins, or without t.
@@ -42,10 +42,9 @@ fn change(board: &mut Board, t: TaskId, d: u8, joins: bool)
     requires { (1 ≤ t.0) × (t.0 ≤ 64) × Whole board.old }
     ensures { SetPut (λ e s. pick (eqb d e) (pick joins (inserted t.0 s) (removed t.0 s)) s) board.old board.new }
 {
-    let n = base::wide8(d);
-    if base::is_within(1, 6, n) {
-        let s = board[1087 + n];
-        board[1087 + n] = with_or_without(joins, s, t.0);
+    if 1 <= d && d <= 6 {
+        let n = 1087 + d as usize;
+        board[n] = with_or_without(joins, board[n], t.0);
     }
 }
 

@@ -16,14 +16,10 @@ pub fn at_rest<'a>(count: u8, codes: &'a [u32; 4096], board: &'a Board, used: us
     if used != 0 {
         return false;
     }
-    let mut k: u8 = 0;
-    while k < count {
-        let t = k + 1;
-        let q = run_refusal(codes, board, count, TaskId(t));
-        if is_accepted(q) {
+    for k in 0..count {
+        if is_accepted(run_refusal(codes, board, count, TaskId(k + 1))) {
             return false;
         }
-        k = t;
     }
     true
 }

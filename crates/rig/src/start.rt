@@ -1,7 +1,6 @@
 // The rig at the start, and its parts.
 
 ghost use Rattle.std.specs.Prelude.{◌≡◌, replicate};
-ghost use Rattle.plan.specs.declared.PlanAnswer.TheVariants.{Accepted};
 ghost use Rattle.plan.specs.Programs.{programs};
 ghost use Rattle.plan.specs.Refusals.{plan_answer};
 ghost use Rattle.rules.specs.Starts.{started, no_messages, no_tables, no_channels};
@@ -25,12 +24,11 @@ use rules::task::{Task, TaskState};
 fn unborn() -> Task
     ensures { result ≡ unborn }
 {
-    let nowhere = cell_rules::order::unknown();
     Task {
         state: TaskState::Unborn,
         processor: ProcessorId(0),
         pc: 1,
-        origin: nowhere,
+        origin: cell_rules::order::unknown(),
         word: Word(0, 0, 0, 0),
         overflow: false,
         moves: 0,
@@ -42,25 +40,18 @@ fn unborn() -> Task
 fn first_task() -> Task
     ensures { result ≡ born (processor_id 1) unknown }
 {
-    let none = unborn();
-    let nowhere = cell_rules::order::unknown();
-    none.birth(ProcessorId(1), nowhere)
+    unborn().birth(ProcessorId(1), cell_rules::order::unknown())
 }
 
 // Task 1 is born at desk 1, where it is ready; the others are unborn.
 pub fn start_tasks() -> TaskTable
     ensures { result ≡ start_tasks }
 {
-    let none = unborn();
-    let mut records = [none; 64];
-    let first = first_task();
-    records[0] = first;
+    let mut records = [unborn(); 64];
+    records[0] = first_task();
     let mut ready = [0u64; 6];
     ready[0] = 1;
-    TaskTable {
-        records: records,
-        ready: ready,
-    }
+    TaskTable { records, ready }
 }
 
 // The mail without a letter.
@@ -70,9 +61,8 @@ pub fn no_messages() -> Network
     let slot = Slot {
         message: Message::Empty,
     };
-    let slots = [slot; 256];
     Network {
-        slots: slots,
+        slots: [slot; 256],
         used: 0,
     }
 }
@@ -113,8 +103,8 @@ fn start_parents() -> Parents
     let mut hintmoves = [0u16; 384];
     hintmoves[0] = 1;
     Parents {
-        hintprocessors: hintprocessors,
-        hintmoves: hintmoves,
+        hintprocessors,
+        hintmoves,
         held: [0; 384],
     }
 }
@@ -124,13 +114,10 @@ pub fn start_board(board: &mut Board)
     requires { board.old ≡ replicate 1094 0 }
     ensures { StartsOn board.new }
 {
-    let mut k: usize = 0;
-    while k < 64 {
+    for k in 0..64usize {
         board[128 + 2 * k] = 65536;
-        k += 1;
     }
-    let first = first_task();
-    put_task(board, TaskId(1), first);
+    put_task(board, TaskId(1), first_task());
     let h = Hint {
         processor: ProcessorId(1),
         moves: 1,
@@ -140,53 +127,32 @@ pub fn start_board(board: &mut Board)
 
 // The start of an accepted plan p on so many desks: a birth of task 1 at desk 1.
 pub fn start(processors: u8, p: Plan, e: Ends) -> System
-    requires { (e ≡ ends_of p) × (plan_answer (programs p) ≡ Accepted) }
+    requires { (e ≡ ends_of p) × (plan_answer (programs p) ≡ Ok tt) }
     ensures { result ≡ started processors p }
 {
-    let senders = e.senders;
-    let receivers = e.receivers;
-    let parents = e.parents;
     let mut users = [0u8; 1024];
-    build(&senders, &receivers, &parents, &mut users);
-    let first = TaskId(1);
-    let one = ProcessorId(1);
+    build(&e.senders, &e.receivers, &e.parents, &mut users);
     let here = Hint {
-        processor: one,
+        processor: ProcessorId(1),
         moves: 1,
     };
-    let none = no_tables();
-    let mut hintprocessors = none.hintprocessors;
-    let mut hintmoves = none.hintmoves;
+    let mut tables = no_tables();
     locate(
         &users,
-        &mut hintprocessors,
-        &mut hintmoves,
-        first,
-        one,
+        &mut tables.hintprocessors,
+        &mut tables.hintmoves,
+        TaskId(1),
+        ProcessorId(1),
         here,
     );
-    let heldprocessors = none.heldprocessors;
-    let heldnumbers = none.heldnumbers;
-    let notes = none.notes;
-    let tables = Tables {
-        hintprocessors: hintprocessors,
-        hintmoves: hintmoves,
-        heldprocessors: heldprocessors,
-        heldnumbers: heldnumbers,
-        notes: notes,
-    };
-    let tasks = start_tasks();
-    let channels = no_channels();
-    let kept = start_parents();
-    let network = no_messages();
     System {
-        processors: processors,
+        processors,
         plan: p,
-        tasks: tasks,
-        tables: tables,
-        channels: channels,
-        parents: kept,
-        network: network,
+        tasks: start_tasks(),
+        tables,
+        channels: no_channels(),
+        parents: start_parents(),
+        network: no_messages(),
         chosen: [0; 6],
     }
 }

@@ -2,7 +2,7 @@
 use mathlib.Core.Path.{◌≡◌, refl, ◌∙◌, ap}
 use mathlib.Core.Bool.{true}
 use mathlib.Core.List.{List}
-use Prim.Native.Nat.{ℕ, ◌-◌, ◌≤◌}
+use Prim.Native.Nat.{ℕ, ◌≤◌}
 use lib.ListN.{length}
 use Rattle.base.specs.Choice.{within}
 use Rattle.base.proofs.Choices.{pick_either}
@@ -18,7 +18,6 @@ use Rattle.rules.specs.Networks.{messages_of}
 use Rattle.rules.specs.Effects.{Effect}
 use Rattle.rules.specs.Deliver.{opened}
 use Rattle.rules.specs.Sound.{message_ok}
-use Rattle.rules.specs.Systems.{store_in}
 use Rattle.rules_laws.specs.Shapes.{Shaped}
 use Rattle.rules_sound.specs.Sound.{Sound}
 use Rattle.rules_sound.specs.Stands.{Whole}

@@ -6,6 +6,7 @@ use native.Mathlib.Omega.{arith}
 use lib.Dec.{eqb, leb}
 use lib.ListN.{length}
 use borrow.Author.Tests.{eqb-true}
+use Rattle.std.specs.Prelude.{Ok, Err}
 use Rattle.base.specs.Choice.{unless, within}
 use Rattle.base.proofs.Choices.{pick_cases, pick_either}
 use Rattle.base.proofs.Tests.{within_high}
@@ -17,8 +18,8 @@ use Rattle.rules.specs.declared.task.TaskState.TheVariants.{Ready}
 use Rattle.rules.specs.declared.rule.Site.{Site}
 use Rattle.rules.specs.declared.system.TaskTable.{TaskTable}
 use Rattle.rules.specs.declared.system.ParentEntry.{ParentEntry}
-use Rattle.rules.specs.declared.step.StepAnswer.{StepAnswer}
-use Rattle.rules.specs.declared.step.StepAnswer.TheVariants.{Accepted as Unrefused, NetworkFull}
+use Rattle.rules.specs.Answers.{StepAnswer}
+use Rattle.rules.specs.declared.step.StepRefusal.TheVariants.{NetworkFull}
 use Rattle.rules.specs.Answers.{is_accepted}
 use Rattle.rules.specs.Tasks.{is_in}
 use Rattle.rules.specs.Networks.{messages_of}
@@ -27,8 +28,7 @@ use Rattle.rig_parts.specs.declared.kept.Kept.{Kept}
 use Rattle.rig_parts.specs.Sweeps.{sweep_ok}
 use Rattle.rig_parts.specs.declared.change.Scope.{Scope}
 use Rattle.rig_parts.specs.declared.change.Change.{Change}
-use Rattle.rig_parts.specs.declared.change.Verdict.{Verdict}
-use Rattle.rig_parts.specs.declared.change.Verdict.TheVariants.{Refused, Accepted}
+use Rattle.rig_parts.specs.Answers.{Verdict}
 use Rattle.rig_parts.specs.Facts.{Facts, PartsOf}
 use Rattle.rig_parts.specs.Fetches.{scope_ok, site_in}
 use Rattle.rig_parts.specs.Scopes.{alone, run_scope}
@@ -49,12 +49,13 @@ Placed k = (scope_ok k.scope ≡ true) × (sweep_ok k.sweep ≡ true)
 module _ (n used : ℕ) where
   -- behind an answer
   answered_ok : (a : StepAnswer) (v : Verdict) → (is_accepted a ≡ true → verdict_ok n used v ≡ true) → verdict_ok n used (unless_refused a v) ≡ true
-  answered_ok a v h = pick_cases (λ w. verdict_ok n used w ≡ true) (is_accepted a) v (Refused a) h (λ e. refl)
+  answered_ok (Ok tt) v h = h refl
+  answered_ok (Err q) v h = refl
 
   fitting_ok : (k : Change) → Placed k → verdict_ok n used (fitting_in n used k) ≡ true
   fitting_ok k (a, b) =
       let ok = leb (used + length (messages_of n k.outcome.posting)) 256 in
-      rw (fitting_answer k ok) (answered_ok (unless ok NetworkFull Unrefused) (Accepted k) (λ e. simp (a, b, (passed ok NetworkFull Unrefused refl e).0)))
+      rw (fitting_answer k ok) (answered_ok (unless ok (Err NetworkFull) (Ok tt)) (Ok k) (λ e. simp (a, b, (passed ok (Err NetworkFull) (Ok tt) refl e).0)))
 
 -- an instruction changes its scope, a birth is at the desk of the creating task, and an end at the desk of the scope
 run_placed : (k : Scope) (t : TaskId) (i : Instruction) (w : ℕ) (x : Site) (y : ParentEntry) → scope_ok k ≡ true → within 1 6 k.processor.0 ≡ true
@@ -91,7 +92,7 @@ module _ {f : Facts} {n : ℕ} {ts : TaskTable} {s : Kept} {used : ℕ} (p : Par
   unfolding judged_move
   move_feasible e =
       let x = task_in ts t in
-      answered_ok n used (move_refusal f.tasks n ts used t e) (Accepted (move_change t x e))
+      answered_ok n used (move_refusal f.tasks n ts used t e) (Ok (move_change t x e))
       (λ a.
       let q = move_passed f.tasks n ts used t e a in
       let processor = processor_in p t q.task q.ready in

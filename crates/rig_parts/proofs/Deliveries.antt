@@ -5,7 +5,7 @@ use Rattle.plan.specs.declared.Plan.{Plan}
 use Rattle.rules.specs.declared.message.Network.{Network}
 use Rattle.rules.specs.declared.system.System.{System}
 use Rattle.rules.specs.Networks.{message_at, dequeued}
-use Rattle.rules.specs.Systems.{with_network, store_in, channel_at, entry_at, parent_at}
+use Rattle.rules.specs.Systems.{with_network, channel_at, entry_at, parent_at}
 use Rattle.rules.specs.Deliver.{delivered}
 use Rattle.rules_laws.specs.Shapes.{Shaped}
 use Rattle.rules_sound.specs.Sound.{Holds, Sound}

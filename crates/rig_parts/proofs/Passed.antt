@@ -6,6 +6,7 @@ use Prim.Native.Nat.{ℕ, ◌+◌}
 use lib.Dec.{eqb, leb}
 use lib.ListN.{length}
 use borrow.Author.Tests.{eqb-false, not-true}
+use Rattle.std.specs.Prelude.{Ok, Err}
 use Rattle.base.specs.Choice.{within}
 use Rattle.plan.specs.declared.TaskId.{TaskId}
 use Rattle.plan.specs.declared.ProcessorId.{ProcessorId}
@@ -13,7 +14,7 @@ use Rattle.rules.specs.declared.task.Task.{Task}
 use Rattle.rules.specs.declared.task.TaskState.TheVariants.{Ready}
 use Rattle.rules.specs.declared.message.Message.TheVariants.{Migration}
 use Rattle.rules.specs.declared.rule.Posting.TheVariants.{Single}
-use Rattle.rules.specs.declared.step.StepAnswer.TheVariants.{Accepted, NoTask, NotReady, NetworkFull, NoProcessor, AlreadyThere, MovesSpent}
+use Rattle.rules.specs.declared.step.StepRefusal.TheVariants.{NoTask, NotReady, NetworkFull, NoProcessor, AlreadyThere, MovesSpent}
 use Rattle.rules.specs.declared.system.TaskTable.{TaskTable}
 use Rattle.rules.specs.Numbers.{most_moves}
 use Rattle.rules.specs.Answers.{is_accepted}
@@ -29,8 +30,8 @@ pub run_passed : (codes : List ℕ) (m : ℕ) (ts : TaskTable) (t : TaskId) → 
     → (within 1 m t.0 ≡ true) × (is_in Ready (task_in ts t) ≡ true)
 unfolding run_refusal
 run_passed codes m ts t h =
-    let (w, h₁) = passed (within 1 m t.0) NoTask _ refl h in
-    let (ready, _) = passed (is_in Ready (task_in ts t)) NotReady _ refl h₁ in
+    let (w, h₁) = passed (within 1 m t.0) (Err NoTask) _ refl h in
+    let (ready, _) = passed (is_in Ready (task_in ts t)) (Err NotReady) _ refl h₁ in
     (w, ready)
 
 -- a move of task t, with record x, to desk e
@@ -46,10 +47,10 @@ pub move_passed : (m n : ℕ) (ts : TaskTable) (used : ℕ) (t : TaskId) (e : Pr
 unfolding move_refusal
 move_passed m n ts used t e h =
     let x = task_in ts t in
-    let (a, h₁) = passed (within 1 m t.0) NoTask _ refl h in
-    let (b, h₂) = passed (within 1 n e.0) NoProcessor _ refl h₁ in
-    let (r, h₃) = passed (is_in Ready x) NotReady _ refl h₂ in
-    let (_, h₄) = passed (not (is_at e x)) AlreadyThere _ refl h₃ in
-    let (s, h₅) = passed (not (eqb x.moves most_moves)) MovesSpent _ refl h₄ in
-    let (f, _) = passed (leb (used + length (messages_of n (Single (Migration e t)))) 256) NetworkFull Accepted refl h₅ in
+    let (a, h₁) = passed (within 1 m t.0) (Err NoTask) _ refl h in
+    let (b, h₂) = passed (within 1 n e.0) (Err NoProcessor) _ refl h₁ in
+    let (r, h₃) = passed (is_in Ready x) (Err NotReady) _ refl h₂ in
+    let (_, h₄) = passed (not (is_at e x)) (Err AlreadyThere) _ refl h₃ in
+    let (s, h₅) = passed (not (eqb x.moves most_moves)) (Err MovesSpent) _ refl h₄ in
+    let (f, _) = passed (leb (used + length (messages_of n (Single (Migration e t)))) 256) (Err NetworkFull) (Ok tt) refl h₅ in
     record { task = a; processor = b; ready = r; unspent = eqb-false x.moves most_moves (not-true _ s); fitting = f }

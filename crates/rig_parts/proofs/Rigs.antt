@@ -8,7 +8,6 @@ use Rattle.rules.specs.declared.system.TaskTable.{TaskTable}
 use Rattle.rules.specs.declared.system.System.{System}
 use Rattle.rules.specs.Sound.{system_ok}
 use Rattle.rules.specs.Steps.{ruled_step, quiescent}
-use Rattle.rules.specs.Systems.{store_in}
 use Rattle.rules_laws.specs.Shapes.{Shaped}
 use Rattle.rules_laws.proofs.Steps.{ruled_step_lem}
 use Rattle.rules_laws.proofs.Shapes.{step_shaped, step_plan, step_processors}

@@ -5,6 +5,7 @@ use mathlib.Core.Logic.{by_cases}
 use Prim.Native.Nat.{◌-◌, ◌≤◌}
 use native.Mathlib.Omega.{arith}
 use native.Mathlib.Decide.{ℕ_discrete}
+use Rattle.std.specs.Prelude.{Ok, Err}
 use Rattle.base.specs.Choice.{unless, within}
 use Rattle.base.proofs.Tests.{within_low, within_high}
 use Rattle.plan.specs.declared.TaskId.{TaskId}
@@ -15,17 +16,16 @@ use Rattle.plan.specs.Refusals.{instruction_ok}
 use Rattle.plan.proofs.Parts.{tasks_of_lem}
 use Rattle.plan_laws.proofs.Programs.{instruction_fine, send_operand, receive_operand}
 use Rattle.rules.specs.declared.task.TaskState.TheVariants.{Ready}
-use Rattle.rules.specs.declared.step.StepAnswer.TheVariants.{Accepted, NoTask, NotReady, FinishWithChildren, NetworkFull}
+use Rattle.rules.specs.declared.step.StepRefusal.TheVariants.{NoTask, NotReady, FinishWithChildren, NetworkFull}
 use Rattle.rules.specs.declared.system.System.{System}
 use Rattle.rules.specs.Tasks.{is_in, is_childless}
-use Rattle.rules.specs.Systems.{task_at, store_in}
+use Rattle.rules.specs.Systems.{task_at}
 use Rattle.rules.specs.Places.{next_in}
 use Rattle.rules.specs.Runs.{next_of, ran, fits, finishes_early, run_answer}
 use Rattle.rules_sound.specs.Sound.{program_in, Sound}
 use Rattle.rules_sound.proofs.Settled.{settled}
 use Rattle.rules_sound.proofs.Frames.{tasks_few, in_plan}
-use Rattle.rig_parts.specs.declared.change.Verdict.{Verdict}
-use Rattle.rig_parts.specs.declared.change.Verdict.TheVariants.{Accepted as Allowed}
+use Rattle.rig_parts.specs.Answers.{Verdict}
 use Rattle.rig_parts.specs.Facts.{facts_of, kept_in}
 use Rattle.rig_parts.specs.RunVerdicts.{fitting_in, run_refusal, judged_run}
 use Rattle.rig_parts.specs.Effects.{effect_of, ran_of}
@@ -38,7 +38,7 @@ use Rattle.rig_parts.proofs.Answers.{refused_unless, fitting_answer}
 -- the verdict on a ready task t whose next instruction is i
 abbrev judged_next : System → TaskId → Instruction → Verdict
 judged_next r t i =
-    unless_refused (unless (not (is_finish i && not (is_childless (task_at r t)))) FinishWithChildren Accepted) (fitting_in r.processors r.network.used (ran_of r t i))
+    unless_refused (unless (not (is_finish i && not (is_childless (task_at r t)))) (Err FinishWithChildren) (Ok tt)) (fitting_in r.processors r.network.used (ran_of r t i))
 
 module _ (r : System) (f : Sound r) (t : TaskId) where
   -- a ready task
@@ -78,21 +78,21 @@ module _ (r : System) (f : Sound r) (t : TaskId) where
         (λ g. by_cases (kind op_set) (set_ran r t i) (λ s. add_ran r t i (λ k kl kh e. omega arith)))))))
 
     ready_judged : judged_next r t (next_of r t)
-        ≡ verdict_of (ran_of r t (next_of r t)) (unless (not (finishes_early r t)) FinishWithChildren (unless (fits r (ran r t)) NetworkFull Accepted))
+        ≡ verdict_of (ran_of r t (next_of r t)) (unless (not (finishes_early r t)) (Err FinishWithChildren) (unless (fits r (ran r t)) (Err NetworkFull) (Ok tt)))
     unfolding fits effect_of
     ready_judged =
         let k = ran_of r t (next_of r t) in
         rw run_effect
-        (refused_unless _ (Allowed k) (not (finishes_early r t)) FinishWithChildren Accepted _ refl (λ e. fitting_answer k (fits r (effect_of r k))))
+        (refused_unless _ (Ok k) (not (finishes_early r t)) (Err FinishWithChildren) (Ok tt) _ refl (λ e. fitting_answer k (fits r (effect_of r k))))
 
   pub run_answer_lem : judged_run (facts_of r.plan) r.processors r.tasks (kept_in r) r.network.used t ≡ verdict_of (ran_of r t (next_of r t)) (run_answer r t)
   unfolding judged_run run_refusal run_answer
   run_answer_lem =
       let k = ran_of r t (next_of r t) in
       let m = r.plan.tasks in
-      refused_unless _ (Allowed k) (within 1 m t.0) NoTask _ _ refl
+      refused_unless _ (Ok k) (within 1 m t.0) (Err NoTask) _ _ refl
       (λ w.
       let l = within_low 1 m t.0 w in
       let h = within_high 1 m t.0 w in
-      refused_unless _ (Allowed k) (is_in Ready (task_at r t)) NotReady _ _ refl
+      refused_unless _ (Ok k) (is_in Ready (task_at r t)) (Err NotReady) _ _ refl
       (λ ready. ap (judged_next r t) (next_read r f.rig t l h ready) ∙ ready_judged l h ready))

@@ -1,15 +1,16 @@
 -- One step on the parts of a rig that 9 does not refuse is the step of the rig.
 use mathlib.Core.Path.{◌≡◌, refl, sym, ◌∙◌, ap}
 use mathlib.Core.Bool.{Bool, true, false}
+use Rattle.std.specs.Prelude.{Ok, Err}
 use Rattle.base.specs.Choice.{unless, within}
 use Rattle.base.proofs.Choices.{pick_cases}
 use Rattle.base.proofs.Tests.{within_low, within_high}
 use Rattle.rules.specs.declared.step.Step.{Step}
-use Rattle.rules.specs.declared.step.StepAnswer.TheVariants.{Accepted, NoMessage, BadStep}
+use Rattle.rules.specs.declared.step.StepRefusal.TheVariants.{NoMessage, BadStep}
 use Rattle.rules.specs.declared.system.System.{System}
 use Rattle.rules.specs.Numbers.{task_id, processor_id}
 use Rattle.rules.specs.Networks.{message_at, dequeued}
-use Rattle.rules.specs.Systems.{task_at, with_network, store_in}
+use Rattle.rules.specs.Systems.{task_at, with_network}
 use Rattle.rules.specs.Effects.{Effect}
 use Rattle.rules.specs.Runs.{next_of, run_answer}
 use Rattle.rules.specs.Deliver.{deliver_answer}
@@ -36,12 +37,12 @@ use Rattle.rig_parts.proofs.Carrying.{carried_in, settled_in, carried_is_lem, se
 
 -- a step, by the answer of its kind where 19 does not refuse it
 form_tested : (r : System) (x : Step) (v : Turn) → (well_formed x ≡ true → v ≡ parts_of (answered r x (kind_answer r x)))
-    → unless (well_formed x) (refused_turn BadStep r.tasks r.network (kept_in r)) v ≡ parts_of (ruled_step r x)
+    → unless (well_formed x) (refused_turn (Err BadStep) r.tasks r.network (kept_in r)) v ≡ parts_of (ruled_step r x)
 unfolding ruled_step ruled_answer answered
 form_tested r x v h = go (well_formed x) h
   where
     go : (ok : Bool) → (ok ≡ true → v ≡ parts_of (answered r x (kind_answer r x)))
-        → unless ok (refused_turn BadStep r.tasks r.network (kept_in r)) v ≡ parts_of (answered r x (unless ok BadStep (kind_answer r x)))
+        → unless ok (refused_turn (Err BadStep) r.tasks r.network (kept_in r)) v ≡ parts_of (answered r x (unless ok (Err BadStep) (kind_answer r x)))
     go true k = k refl
     go false k = refl
 
@@ -78,9 +79,9 @@ module _ (r : System) (z : Shaped r) (f : Sound r) (x : Step) where
   deliver_turn kind = go (within 1 r.network.used x.number) refl
     where
       go : (b : Bool) → within 1 r.network.used x.number ≡ b
-          → unless b (refused_turn NoMessage r.tasks r.network (kept_in r))
+          → unless b (refused_turn (Err NoMessage) r.tasks r.network (kept_in r))
           (carried_in (with_network r (dequeued r.network x.number)) (opened_in (facts_of r.plan) r.tasks (kept_in r) (message_at r.network x.number)))
-          ≡ parts_of (answered r x (unless b NoMessage Accepted))
+          ≡ parts_of (answered r x (unless b (Err NoMessage) (Ok tt)))
       go true e =
           let p = x.number in
           let used = r.network.used in

@@ -6,7 +6,7 @@ use Rattle.rules.specs.declared.step.Stepped.{Stepped}
 use Rattle.rules.specs.declared.system.System.{System}
 use Rattle.rules.specs.Sound.{system_ok}
 use Rattle.rules.specs.Steps.{step}
-use Rattle.rules.specs.Systems.{store_in, with_tasks, with_store, with_parents, with_network}
+use Rattle.rules.specs.Systems.{with_tasks, with_store, with_parents, with_network}
 use Rattle.rules_laws.specs.Shapes.{Shaped}
 use Rattle.rules_laws.proofs.Steps.{ruled_step_lem}
 use Rattle.rules_laws.proofs.Shapes.{step_plan, step_processors, step_chosen}

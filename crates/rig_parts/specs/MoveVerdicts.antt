@@ -1,5 +1,5 @@
 -- The verdict on a move.
-use Rattle.std.specs.Prelude.{◌≡◌, true, ℕ, ◌+◌, ◌≤◌}
+use Rattle.std.specs.Prelude.{◌≡◌, true, ℕ, ◌+◌, ◌≤◌, None}
 use Rattle.base.specs.Choice.{within}
 use Rattle.plan.specs.declared.TaskId.{TaskId}
 use Rattle.plan.specs.declared.ProcessorId.{ProcessorId}
@@ -7,8 +7,7 @@ use Rattle.rules.specs.declared.task.Task.{Task}
 use Rattle.rules.specs.declared.task.TaskState.TheVariants.{Ready}
 use Rattle.rules.specs.declared.message.Message.TheVariants.{Migration}
 use Rattle.rules.specs.declared.rule.Posting.TheVariants.{Single}
-use Rattle.rules.specs.declared.rule.Received.TheVariants.{Nothing as NoWord}
-use Rattle.rules.specs.declared.step.StepAnswer.{StepAnswer}
+use Rattle.rules.specs.Answers.{StepAnswer}
 use Rattle.rules.specs.declared.system.TaskTable.{TaskTable}
 use Rattle.rules.specs.Numbers.{most_moves}
 use Rattle.rules.specs.Tasks.{is_in, departed, no_task}
@@ -18,7 +17,7 @@ use Rattle.rules.specs.Systems.{task_in}
 use Rattle.rules.specs.Moves.{move_tests}
 use Rattle.rig_parts.specs.declared.sweep.Sweep.TheVariants.{Departure}
 use Rattle.rig_parts.specs.declared.change.Change.{Change}
-use Rattle.rig_parts.specs.declared.change.Verdict.{Verdict}
+use Rattle.rig_parts.specs.Answers.{Verdict}
 use Rattle.rig_parts.specs.Fetches.{no_cell}
 use Rattle.rig_parts.specs.Scopes.{alone}
 use Rattle.rig_parts.specs.Answers.{verdict_of}
@@ -28,7 +27,7 @@ use Rattle.rig_parts.specs.RunVerdicts.{change}
 abbrev pub move_change : TaskId → Task → ProcessorId → Change
 move_change t x e =
     change (alone t x.processor)
-    (record { sender = departed x; receiver = no_task; cell = no_cell; posting = Single (Migration e t); received = NoWord })
+    (record { sender = departed x; receiver = no_task; cell = no_cell; posting = Single (Migration e t); received = None })
     (Departure t x.processor (hint e (x.moves + 1)))
 
 -- a ready task has a count that is not over the limit

@@ -1,5 +1,5 @@
 -- The verdict on a run.
-use Rattle.std.specs.Prelude.{true, List, ℕ, ◌-◌, eqb, get_or}
+use Rattle.std.specs.Prelude.{true, List, ℕ, ◌-◌, eqb, get_or, None, Ok, Err}
 use Rattle.base.specs.Choice.{pick, unless}
 use Rattle.plan.specs.declared.TaskId.{TaskId}
 use Rattle.plan.specs.declared.Instruction.{Instruction}
@@ -9,9 +9,8 @@ use Rattle.rules.specs.declared.rule.Site.{Site}
 use Rattle.rules.specs.declared.rule.Outcome.{Outcome}
 use Rattle.rules.specs.declared.rule.Posting.{Posting}
 use Rattle.rules.specs.declared.rule.Posting.TheVariants.{Nothing as NoPosting}
-use Rattle.rules.specs.declared.rule.Received.TheVariants.{Nothing as NoWord}
-use Rattle.rules.specs.declared.step.StepAnswer.{StepAnswer}
-use Rattle.rules.specs.declared.step.StepAnswer.TheVariants.{NetworkFull}
+use Rattle.rules.specs.Answers.{StepAnswer}
+use Rattle.rules.specs.declared.step.StepRefusal.TheVariants.{NetworkFull}
 use Rattle.rules.specs.declared.system.TaskTable.{TaskTable}
 use Rattle.rules.specs.declared.system.ParentEntry.{ParentEntry}
 use Rattle.rules.specs.Numbers.{task_id, channel_id}
@@ -28,8 +27,7 @@ use Rattle.rig_parts.specs.declared.sweep.Sweep.TheVariants.{Nothing, Birth, End
 use Rattle.rig_parts.specs.declared.kept.Kept.{Kept}
 use Rattle.rig_parts.specs.declared.change.Scope.{Scope}
 use Rattle.rig_parts.specs.declared.change.Change.{Change}
-use Rattle.rig_parts.specs.declared.change.Verdict.{Verdict}
-use Rattle.rig_parts.specs.declared.change.Verdict.TheVariants.{Refused, Accepted}
+use Rattle.rig_parts.specs.Answers.{Verdict}
 use Rattle.rig_parts.specs.Sweeps.{parent_in}
 use Rattle.rig_parts.specs.Facts.{Facts}
 use Rattle.rig_parts.specs.Fetches.{instruction_in, slot_at, last_of, site_in}
@@ -41,7 +39,7 @@ change k o s = record { scope = k; outcome = o; sweep = s }
 
 -- two tasks are changed, and this is posted
 abbrev pub tasks_only : Site → Task → Task → Posting → Outcome
-tasks_only x s u p = record { sender = s; receiver = u; cell = x.cell; posting = p; received = NoWord }
+tasks_only x s u p = record { sender = s; receiver = u; cell = x.cell; posting = p; received = None }
 
 -- a create: the creating task and the child
 abbrev pub create_change : Scope → Site → Instruction → Change
@@ -81,7 +79,7 @@ send_in numbers t i k x =
 
 -- 13, unless its letters fit
 abbrev pub fitting_in : ℕ → ℕ → Change → Verdict
-fitting_in n used k = unless (fits_in n k.outcome.posting used) (Refused NetworkFull) (Accepted k)
+fitting_in n used k = unless (fits_in n k.outcome.posting used) (Err NetworkFull) (Ok k)
 
 -- what instruction i of task t would do
 unfoldable pub ran_in : Facts → TaskTable → Kept → TaskId → Instruction → Change

@@ -1,11 +1,10 @@
 -- One step carried out on the parts of a rig that 9 does not refuse.
-use Rattle.std.specs.Prelude.{◌≡◌, List, ℕ}
+use Rattle.std.specs.Prelude.{◌≡◌, List, ℕ, None, Ok, Err}
 use Rattle.base.specs.Choice.{unless, within}
 use Rattle.rules.specs.declared.message.Network.{Network}
-use Rattle.rules.specs.declared.rule.Received.TheVariants.{Nothing}
 use Rattle.rules.specs.declared.step.Step.{Step}
-use Rattle.rules.specs.declared.step.StepAnswer.{StepAnswer}
-use Rattle.rules.specs.declared.step.StepAnswer.TheVariants.{Accepted, NoMessage, BadStep}
+use Rattle.rules.specs.Answers.{StepAnswer}
+use Rattle.rules.specs.declared.step.StepRefusal.TheVariants.{NoMessage, BadStep}
 use Rattle.rules.specs.declared.step.Report.{Report}
 use Rattle.rules.specs.declared.step.Stepped.{Stepped}
 use Rattle.rules.specs.declared.system.TaskTable.{TaskTable}
@@ -15,8 +14,7 @@ use Rattle.rules.specs.Steps.{by_kind, well_formed}
 use Rattle.rig_parts.specs.declared.kept.Kept.{Kept}
 use Rattle.rig_parts.specs.declared.turn.Turn.{Turn}
 use Rattle.rig_parts.specs.declared.change.Change.{Change}
-use Rattle.rig_parts.specs.declared.change.Verdict.{Verdict}
-use Rattle.rig_parts.specs.declared.change.Verdict.TheVariants.{Refused, Accepted as Allowed}
+use Rattle.rig_parts.specs.Answers.{Verdict}
 use Rattle.rig_parts.specs.Facts.{Facts, PartsOf, kept_in}
 use Rattle.rig_parts.specs.Effects.{changed_tasks, changed_kept}
 use Rattle.rig_parts.specs.RunVerdicts.{judged_run}
@@ -28,7 +26,7 @@ abbrev pub turned : Report → TaskTable → Network → Kept → Turn
 turned q ts k s = record { report = q; tasks = ts; network = k; kept = s }
 
 abbrev pub report_of : StepAnswer → Report
-report_of a = record { answer = a; received = Nothing }
+report_of a = record { answer = a; received = None }
 
 -- a refused step leaves the parts as they were
 abbrev pub refused_turn : StepAnswer → TaskTable → Network → Kept → Turn
@@ -37,24 +35,24 @@ refused_turn a ts k s = turned (report_of a) ts k s
 -- a change carried out, and its letters posted, on n desks
 unfoldable pub carried_out : List ℕ → List ℕ → ℕ → Change → TaskTable → Network → Kept → Turn
 carried_out senders receivers n x ts k s =
-    turned (record { answer = Accepted; received = x.outcome.received })
+    turned (record { answer = Ok tt; received = x.outcome.received })
     (changed_tasks x ts)
     (posted n x.outcome.posting k)
     (changed_kept senders receivers x s)
 
 abbrev pub settled : List ℕ → List ℕ → ℕ → Verdict → TaskTable → Network → Kept → Turn
-settled senders receivers n (Refused a) ts k s = refused_turn a ts k s
-settled senders receivers n (Allowed x) ts k s = carried_out senders receivers n x ts k s
+settled senders receivers n (Err a) ts k s = refused_turn (Err a) ts k s
+settled senders receivers n (Ok x) ts k s = carried_out senders receivers n x ts k s
 
 unfoldable pub delivered_turn : Facts → ℕ → TaskTable → Network → Kept → ℕ → Turn
 delivered_turn f n ts k s p =
-    unless (within 1 k.used p) (refused_turn NoMessage ts k s)
+    unless (within 1 k.used p) (refused_turn (Err NoMessage) ts k s)
     (carried_out f.senders f.receivers n (opened_in f ts s (message_at k p)) ts (dequeued k p) s)
 
 -- one step
 unfoldable pub turn_of : Facts → ℕ → TaskTable → Network → Kept → Step → Turn
 turn_of f n ts k s x =
-    unless (well_formed x) (refused_turn BadStep ts k s)
+    unless (well_formed x) (refused_turn (Err BadStep) ts k s)
     (by_kind x
     (settled f.senders f.receivers n (judged_run f n ts s k.used (task_id x.task)) ts k s)
     (delivered_turn f n ts k s x.number)

@@ -1,8 +1,7 @@
-// What a step changes, and the verdict on a step.
+// What a step changes.
 use crate::sweep::Sweep;
 use plan::{ChannelId, ProcessorId, TaskId};
 use rules::rule::Outcome;
-use rules::step::StepAnswer;
 
 // What a step may touch: up to two tasks, and one channel at one desk; 0 is none. Where a step is about
 // a channel, the tasks are its ends.
@@ -20,10 +19,4 @@ pub struct Change {
     pub scope: Scope,
     pub outcome: Outcome,
     pub sweep: Sweep,
-}
-
-#[derive(Clone, Copy)]
-pub enum Verdict {
-    Refused(StepAnswer),
-    Accepted(Change),
 }

@@ -2,7 +2,7 @@
 // specs/ and proofs/. The types that these speak of:
 #![tactic(auto)]
 
-// What a step may touch, what it changes, and the verdict on it.
+// What a step may touch, and what it changes.
 pub mod change;
 // What a rig keeps beside its tasks and its mail.
 pub mod kept;

@@ -14,8 +14,7 @@ use board::Board;
 use board::act::Size;
 use network::position;
 use rules::message::Network;
-use rules::rule::Received;
-use rules::step::{Report, StepAnswer};
+use rules::step::{Report, StepRefusal};
 use steps::message::deliver;
 use steps::other;
 use steps::word::word_run;
@@ -97,8 +96,8 @@ pub fn run_steps<'a>(
             if word_run(codes, board, now_size, s) {
                 // a set or an add: nothing is posted
                 let plain = Report {
-                    answer: StepAnswer::Accepted,
-                    received: Received::Nothing,
+                    answer: Ok(()),
+                    received: None,
                 };
                 emit_next(out, progress, next, plain);
             } else {

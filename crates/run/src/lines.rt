@@ -16,7 +16,7 @@ pub fn note(progress: &mut [usize; 2], written: usize)
         progress[1] = 1;
         return;
     }
-    progress[0] = progress[0] + written;
+    progress[0] += written;
 }
 
 // The line of the k-th step behind those before it.
@@ -27,7 +27,6 @@ pub fn emit_next<'a>(out: &'a mut [u8], progress: &'a mut [usize; 2], k: usize, 
     if progress[1] != 0 {
         return;
     }
-    let filled = progress[0];
-    let written = emit_step(out, filled, k, q);
+    let written = emit_step(out, progress[0], k, q);
     note(progress, written);
 }

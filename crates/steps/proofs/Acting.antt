@@ -3,15 +3,15 @@ use mathlib.Core.Path.{◌≡◌, refl, ◌∙◌}
 use mathlib.Core.Bool.{Bool, false, true≢false}
 use mathlib.Core.List.{List}
 use Prim.Native.Nat.{ℕ}
+use Rattle.std.specs.Prelude.{Ok, Err}
 use Rattle.base.specs.Choice.{within}
 use Rattle.rules.specs.declared.task.Task.{Task}
-use Rattle.rules.specs.declared.step.StepAnswer.{StepAnswer}
+use Rattle.rules.specs.declared.step.StepRefusal.{StepRefusal}
 use Rattle.rules.specs.declared.system.TaskTable.{TaskTable}
 use Rattle.rules.specs.Numbers.{task_id}
 use Rattle.rules.specs.Answers.{is_accepted}
 use Rattle.rules.specs.Systems.{task_stored}
-use Rattle.rig_parts.specs.declared.change.Verdict.{Verdict}
-use Rattle.rig_parts.specs.declared.change.Verdict.TheVariants.{Refused, Accepted as Allowed}
+use Rattle.rig_parts.specs.Answers.{Verdict}
 use Rattle.board.specs.declared.act.Act.{Act}
 use Rattle.board.specs.Lent.{Lent, Whole}
 use Rattle.board.specs.Acted.{Acted, act_of, refused_act}
@@ -29,10 +29,10 @@ pub same_acted : {ss rs : List ℕ} {v u : Verdict} {l after : Lent} {r : Act} �
 same_acted e h = rw e h
 
 module _ (ss rs : List ℕ) (l : Lent) {r : Act} (w : Whole l.board) where
-  pub refused_acted : (v : Verdict) (q : StepAnswer) → v ≡ Refused q → r ≡ refused_act q → Acted ss rs v l r l
+  pub refused_acted : (v : Verdict) (q : StepRefusal) → v ≡ Err q → r ≡ refused_act (Err q) → Acted ss rs v l r l
   refused_acted v q e h = rw e (record { whole = w; act = h; tasks = refl; store = refl; parents = refl })
 
   -- by what it is answered
   pub answered_acted : (v : Verdict) → is_accepted (act_of v).answer ≡ false → r ≡ act_of v → Acted ss rs v l r l
-  answered_acted (Refused q) e h = refused_acted (Refused q) q refl h
-  answered_acted (Allowed k) e h = absurd (true≢false e)
+  answered_acted (Err q) e h = refused_acted (Err q) q refl h
+  answered_acted (Ok k) e h = absurd (true≢false e)

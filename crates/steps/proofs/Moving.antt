@@ -1,19 +1,19 @@
 -- A move by its answer, and what it leaves.
 use mathlib.Core.Path.{◌≡◌, refl, sym, ap, ◌∙◌}
-use mathlib.Core.Bool.{Bool, true, false}
+use mathlib.Core.Bool.{true, false, true≢false}
 use mathlib.Core.List.{List}
 use Prim.Native.Nat.{ℕ, ◌+◌, ◌≤◌, ◌<◌}
 use native.Mathlib.Omega.{arith}
 use lib.Dec.{leb}
 use lib.ListN.{length}
 use borrow.Author.Tests.{le-leb, lt-leb}
-use Rattle.base.specs.Choice.{pick}
+use Rattle.std.specs.Prelude.{Ok, Err}
 use Rattle.plan.specs.declared.TaskId.{TaskId}
 use Rattle.plan.specs.declared.ProcessorId.{ProcessorId}
 use Rattle.rules.specs.declared.task.Task.{Task}
 use Rattle.rules.specs.declared.message.Message.{Message}
 use Rattle.rules.specs.declared.rule.Posting.TheVariants.{Single}
-use Rattle.rules.specs.declared.step.StepAnswer.{StepAnswer}
+use Rattle.rules.specs.Answers.{StepAnswer}
 use Rattle.rules.specs.declared.system.TaskTable.{TaskTable}
 use Rattle.rules.specs.declared.system.Channels.{Channels}
 use Rattle.rules.specs.Answers.{is_accepted}
@@ -22,10 +22,10 @@ use Rattle.rules.specs.Hints.{hint}
 use Rattle.rules.specs.Starts.{pointing}
 use Rattle.rules.specs.Networks.{messages_of}
 use Rattle.rules.specs.Systems.{store, task_in, task_stored}
+use Rattle.rules_laws.proofs.Steps.{accepted_is}
 use Rattle.rig_parts.specs.declared.sweep.CellRule.TheVariants.{Locate, DepartSending}
 use Rattle.rig_parts.specs.declared.change.Change.{Change}
-use Rattle.rig_parts.specs.declared.change.Verdict.{Verdict}
-use Rattle.rig_parts.specs.declared.change.Verdict.TheVariants.{Refused, Accepted as Allowed}
+use Rattle.rig_parts.specs.Answers.{Verdict}
 use Rattle.rig_parts.specs.Sweeps.{for_ends, parent_in}
 use Rattle.rig_parts.specs.Fetches.{cell_put}
 use Rattle.rig_parts.specs.MoveVerdicts.{move_change, move_refusal, judged_move}
@@ -50,13 +50,14 @@ unfolding messages_of
 one_over n used m h = lt-leb (used + 1) 256 (omega (arith, h))
 
 -- what is said, by the answer
-module _ (k : Change) (a : StepAnswer) where
-  said : (b : Bool) → is_accepted a ≡ b → is_accepted (act_of (pick b (Allowed k) (Refused a))).answer ≡ b
-  said true e = refl
-  said false e = e
+pub said_of : (k : Change) (a : StepAnswer) → is_accepted (act_of (verdict_of k a)).answer ≡ is_accepted a
+said_of k (Ok tt) = refl
+said_of k (Err q) = refl
 
-  pub said_of : is_accepted (act_of (verdict_of k a)).answer ≡ is_accepted a
-  said_of = said (is_accepted a) refl
+-- where it is no acceptance, it alone is said
+refused_of : (k : Change) (a : StepAnswer) → is_accepted a ≡ false → refused_act a ≡ act_of (verdict_of k a)
+refused_of k (Ok tt) h = absurd (true≢false h)
+refused_of k (Err q) h = refl
 
 -- a move, by its answer
 module _ (m n : ℕ) (ts : TaskTable) (used : ℕ) (t : TaskId) (e : ProcessorId) where
@@ -65,11 +66,11 @@ module _ (m n : ℕ) (ts : TaskTable) (used : ℕ) (t : TaskId) (e : ProcessorId
 
   pub move_refused : is_accepted answer ≡ false → refused_act answer ≡ act_of (judged_move m n ts used t e)
   unfolding judged_move
-  move_refused h = sym (rw h refl)
+  move_refused h = refused_of (move_change t (task_in ts t) e) answer h
 
-  pub move_accepted : is_accepted answer ≡ true → judged_move m n ts used t e ≡ Allowed (move_change t (task_in ts t) e)
+  pub move_accepted : is_accepted answer ≡ true → judged_move m n ts used t e ≡ Ok (move_change t (task_in ts t) e)
   unfolding judged_move
-  move_accepted h = rw h refl
+  move_accepted h = ap (verdict_of (move_change t (task_in ts t) e)) (accepted_is answer h)
 
   pub move_said : is_accepted (act_of (judged_move m n ts used t e)).answer ≡ is_accepted answer
   unfolding judged_move
@@ -77,7 +78,7 @@ module _ (m n : ℕ) (ts : TaskTable) (used : ℕ) (t : TaskId) (e : ProcessorId
 
 -- the task leaves, then its desk points to where it goes, then pointers follow it, then what it sent travels
 module _ (ss rs hp hm op on notes board left₀ gone hp' hm' left : List ℕ) (t : TaskId) (e : ProcessorId) where
-  pub move_acted : (x y : Task) (v : Verdict) {r : Act} → y ≡ departed x → v ≡ Allowed (move_change t x e)
+  pub move_acted : (x y : Task) (v : Verdict) {r : Act} → y ≡ departed x → v ≡ Ok (move_change t x e)
       → tasks_on left₀ ≡ task_stored (tasks_on board) t y → channels_on left₀ ≡ channels_on board → parents_on left₀ ≡ parents_on board
       → ParentPut x.processor t (pointing (parent_in (parents_on left₀) x.processor t) (hint e (x.moves + 1))) left₀ gone
       → StoredBy (for_ends rs t x.processor (Locate e (x.moves + 1))) (lent hp hm op on notes gone) (lent hp' hm' op on notes gone)

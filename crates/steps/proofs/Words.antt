@@ -6,6 +6,7 @@ use Prim.Native.Nat.{ℕ, ◌+◌, ◌≤◌}
 use native.Mathlib.Omega.{arith}
 use lib.Dec.{eqb}
 use borrow.Author.Tests.{ne_eqb, eq-eqb, le-leb}
+use Rattle.std.specs.Prelude.{Ok}
 use Rattle.base.specs.Choice.{within}
 use Rattle.base.proofs.Tests.{tests_differ}
 use Rattle.plan.specs.declared.TaskId.{TaskId}
@@ -25,8 +26,7 @@ use Rattle.rules.specs.Steps.{is_run, well_formed}
 use Rattle.rules.specs.Systems.{store, task_in, task_stored}
 use Rattle.rules.specs.Tasks.{is_in}
 use Rattle.rig_parts.specs.declared.change.Scope.{Scope}
-use Rattle.rig_parts.specs.declared.change.Verdict.{Verdict}
-use Rattle.rig_parts.specs.declared.change.Verdict.TheVariants.{Accepted}
+use Rattle.rig_parts.specs.Answers.{Verdict}
 use Rattle.rig_parts.specs.Facts.{Facts}
 use Rattle.rig_parts.specs.Fetches.{cell_put, site_in}
 use Rattle.rig_parts.specs.Scopes.{alone, run_scope}
@@ -67,7 +67,7 @@ module _ (f : Facts) (n : ℕ) (ts : TaskTable) (s : Kept) (used : ℕ) (x : Ste
 
   -- a set or an add of a ready task is accepted
   pub word_judged : is_run x ≡ true → x.number ≡ 0 → within 1 f.tasks x.task ≡ true → is_in Ready (task_in ts t) ≡ true → 6 ≤ (next_at f ts t).opcode → used ≤ 256
-      → step_verdict f n ts s used x ≡ Accepted (task_change k (site_in f.codes ts s.store k) (word_changed (task_in ts t) (next_at f ts t)))
+      → step_verdict f n ts s used x ≡ Ok (task_change k (site_in f.codes ts s.store k) (word_changed (task_in ts t) (next_at f ts t)))
   unfolding step_verdict judged_run run_refusal ran_in run_change run_scope send_in site_in messages_of well_formed
   word_judged run zero w ready high few =
       let o = (next_at f ts t).opcode in
@@ -80,7 +80,7 @@ module _ (ss rs hp hm op on notes board board' : List ℕ) (t : TaskId) (y : Tas
   s = store_of (lent hp hm op on notes board)
 
   -- and its task's new record is all that it leaves
-  pub word_acted : (codes : List ℕ) (d : ProcessorId) → v ≡ Accepted (task_change (alone t d) (site_in codes (tasks_on board) s (alone t d)) y)
+  pub word_acted : (codes : List ℕ) (d : ProcessorId) → v ≡ Ok (task_change (alone t d) (site_in codes (tasks_on board) s (alone t d)) y)
       → (Whole board') × (tasks_on board' ≡ task_stored (tasks_on board) t y) × (channels_on board' ≡ channels_on board) × (parents_on board' ≡ parents_on board)
       → Acted ss rs v (lent hp hm op on notes board) plain_act (lent hp hm op on notes board')
   unfolding cell_put

@@ -25,19 +25,16 @@ use board::Board;
 use board::act::{Act, Size, refused};
 use moves::{move_decided, move_task};
 use plan::TaskId;
-use rules::step::{Step, StepAnswer};
+use rules::step::{Step, StepRefusal};
 
 // A step that is no run and no move, and delivers nothing.
 fn no_message(s: Step) -> Act
-    ensures { result ≡ refused_act (kind_refusal s) }
+    ensures { result ≡ refused_act (Err (kind_refusal s)) }
 {
-    if s.kind != 2 {
-        return refused(StepAnswer::BadStep);
+    if s.kind == 2 && s.task == 0 {
+        return refused(Err(StepRefusal::NoMessage));
     }
-    if s.task != 0 {
-        return refused(StepAnswer::BadStep);
-    }
-    refused(StepAnswer::NoMessage)
+    refused(Err(StepRefusal::BadStep))
 }
 
 // A step that is no run is carried out: a move, or none. Neither codes nor numbers are asked.
@@ -93,7 +90,7 @@ pub fn other<'a>(
 {
     if s.kind == 1 {
         if s.number != 0 {
-            return refused(StepAnswer::BadStep);
+            return refused(Err(StepRefusal::BadStep));
         }
         return run(
             codes,
@@ -133,7 +130,7 @@ pub fn step_decided<'a>(
 {
     if s.kind == 1 {
         if s.number != 0 {
-            return refused(StepAnswer::BadStep);
+            return refused(Err(StepRefusal::BadStep));
         }
         return run_decided(
             codes,

@@ -14,35 +14,35 @@ use plan::{ProcessorId, TaskId};
 use rules::channel::Hint;
 use rules::message::Message;
 use rules::rule::Posting;
-use rules::step::StepAnswer;
+use rules::step::StepRefusal;
 use rules::task::TaskState;
 
 // Why a move of task t to desk `to` is refused, if it is.
-pub fn move_refusal(board: &Board, n: Size, t: TaskId, to: u16) -> StepAnswer
+pub fn move_refusal(board: &Board, n: Size, t: TaskId, to: u16) -> Result<(), StepRefusal>
     requires { n.tasks ≤ 64 }
     ensures { result ≡ move_refusal n.tasks n.processors (tasks_on board.now) n.used t (processor_id to) }
 {
     if !base::is_within(1, base::wide8(n.tasks), base::wide8(t.0)) {
-        return StepAnswer::NoTask;
+        return Err(StepRefusal::NoTask);
     }
     if !base::is_within(1, base::wide8(n.processors), base::wide16(to)) {
-        return StepAnswer::NoProcessor;
+        return Err(StepRefusal::NoProcessor);
     }
     let x = task_at(board, t);
     let e = ProcessorId(to as u8);
     if !task_rules::state::is_in(x, TaskState::Ready) {
-        return StepAnswer::NotReady;
+        return Err(StepRefusal::NotReady);
     }
     if task_rules::state::is_at(x, e) {
-        return StepAnswer::AlreadyThere;
+        return Err(StepRefusal::AlreadyThere);
     }
     if x.moves == 9999 {
-        return StepAnswer::MovesSpent;
+        return Err(StepRefusal::MovesSpent);
     }
     if 256 <= n.used {
-        return StepAnswer::NetworkFull;
+        return Err(StepRefusal::NetworkFull);
     }
-    StepAnswer::Accepted
+    Ok(())
 }
 
 // What the move is answered and would post; nothing is changed.
@@ -75,8 +75,7 @@ pub fn move_task<'a>(
         hintprocessors.new hintmoves.new board.new }
 {
     let r = move_decided(board, n, t, to);
-    let q = r.answer;
-    if !is_accepted(q) {
+    if !is_accepted(r.answer) {
         return r;
     }
     let x = task_at(board, t);

@@ -7,13 +7,13 @@ use native.Mathlib.Omega.{arith}
 use lib.Dec.{eqb, leb}
 use lib.ListN.{length, length-append}
 use borrow.Author.Tests.{leb-true}
+use Rattle.std.specs.Prelude.{Ok, Err}
 use Rattle.base.specs.Choice.{unless, within}
 use Rattle.base.proofs.Choices.{pick_either}
 use Rattle.base.proofs.Tables.{length_table}
 use Rattle.base.proofs.Tests.{and_right, within_low, within_high}
 use Rattle.plan.specs.declared.Plan.{Plan}
-use Rattle.plan.specs.declared.PlanAnswer.{PlanAnswer}
-use Rattle.plan.specs.declared.PlanAnswer.TheVariants.{Accepted, Refused}
+use Rattle.plan.specs.Answers.{PlanAnswer}
 use Rattle.plan.specs.declared.Refusal.TheVariants.{BadProcessors}
 use Rattle.plan.specs.Programs.{programs, canonical}
 use Rattle.plan.specs.Refusals.{plan_answer}
@@ -22,7 +22,7 @@ use Rattle.plan_laws.proofs.Answers.{unless_accepted}
 use Rattle.plan_laws.proofs.Canonical.{meaning_canonical}
 use Rattle.plan_laws.proofs.LayoutRead.{file_plan_lem}
 use Rattle.rules.specs.declared.step.Step.{Step}
-use Rattle.rules.specs.declared.step.RunAnswer.TheVariants.{Traced, OutputShort}
+use Rattle.rules.specs.declared.step.RunRefusal.TheVariants.{OutputShort}
 use Rattle.rules.specs.Starts.{started}
 use Rattle.rules.specs.Steps.{steps}
 use Rattle.rules.specs.Trace.{step_lines, over_lines, end_line}
@@ -41,7 +41,7 @@ use Rattle.trace.proofs.Steps.{steps_short}
 use Rattle.trace.proofs.Texts.{text_append, text_more}
 
 -- the trace of a list of steps from the start of an accepted plan
-trace_short : (n : ℕ) (p : Plan) → 1 ≤ n → n ≤ 6 → plan_answer (programs p) ≡ Accepted → (ss : List Step) → length ss ≤ 2000
+trace_short : (n : ℕ) (p : Plan) → 1 ≤ n → n ≤ 6 → plan_answer (programs p) ≡ Ok tt → (ss : List Step) → length ss ≤ 2000
     → length (text (trace_lines (started n p) ss)) ≤ length ss * 35 + (9 * 7 + 55 * 8) + 10
 unfolding trace_lines
 trace_short n p some few a ss l =
@@ -75,18 +75,18 @@ fitting_short room (l ∷ ls) =
     (omega arith)
 
 -- what is written of lines of at most k bytes, where none is written of a refused file
-written_short : (a : PlanAnswer) (ok : Bool) (ls : List (List ℕ)) (room k : ℕ) → (a ≡ Accepted → ok ≡ true → length (text ls) ≤ k)
+written_short : (a : PlanAnswer) (ok : Bool) (ls : List (List ℕ)) (room k : ℕ) → (a ≡ Ok tt → ok ≡ true → length (text ls) ≤ k)
     → length (written_after (answer_after a ok ls room) ls room) ≤ k
-written_short (Refused x) ok ls room k h = omega arith
-written_short Accepted false ls room k h = omega arith
-written_short Accepted true ls room k h = go (leb (length (text ls)) room)
+written_short (Err x) ok ls room k h = omega arith
+written_short (Ok tt) false ls room k h = omega arith
+written_short (Ok tt) true ls room k h = go (leb (length (text ls)) room)
   where
-    go : (b : Bool) → length (written_after (unless b OutputShort Traced) ls room) ≤ k
+    go : (b : Bool) → length (written_after (unless b (Err OutputShort) (Ok tt)) ls room) ≤ k
     go true = h refl refl
     go false = omega (arith, fitting_short room ls, h refl refl)
 
 -- the trace of an accepted file on desks of a right number
-pub start_short : (n : ℕ) (p b : List ℕ) → start_answer n p ≡ Accepted → steps_ok b ≡ true → length (text (trace_lines (start_of n p) (file_steps b))) ≤ longest_trace
+pub start_short : (n : ℕ) (p b : List ℕ) → start_answer n p ≡ Ok tt → steps_ok b ≡ true → length (text (trace_lines (start_of n p) (file_steps b))) ≤ longest_trace
 unfolding start_answer start_of
 start_short n p b h s =
     let (d, a) = unless_accepted (within 1 6 n) BadProcessors (file_answer p) h in

@@ -8,15 +8,14 @@ use lib.Dec.{eqb, leb}
 use lib.ListN.{length, length-append, get_or-append}
 use lib.Seq.{get_or-append-add}
 use borrow.Author.Tests.{eqb-true}
+use Rattle.std.specs.Prelude.{Ok, Err}
 use Rattle.base.specs.Lists.{every}
 use Rattle.base.proofs.Tables.{length_table, table_split}
 use Rattle.base.proofs.Tests.{and_left}
 use Rattle.plan.specs.declared.ChannelId.{ChannelId}
-use Rattle.plan.specs.declared.PlanAnswer.{PlanAnswer}
-use Rattle.plan.specs.declared.PlanAnswer.TheVariants.{Accepted as PlanAccepted, Refused}
+use Rattle.plan.specs.Answers.{PlanAnswer}
 use Rattle.plan.specs.Files.{start_answer, byte_at}
 use Rattle.rules.specs.declared.step.Step.{Step}
-use Rattle.rules.specs.declared.step.RunAnswer.TheVariants.{Traced}
 use Rattle.rules.specs.declared.step.Stepped.{Stepped}
 use Rattle.rules.specs.declared.system.System.{System}
 use Rattle.rules.specs.Answers.{is_accepted}
@@ -65,12 +64,12 @@ trace_text_lem r ss =
     rw (text_append (lines_of r ss) (over_lines q ++ (end_line q ∷ [])), text_more (over_lines q) (end_line q)) refl
 
 -- a run that is answered 0: its steps are in order
-traced_steps : (a : PlanAnswer) (ok : Bool) (lines : List (List ℕ)) (room : ℕ) → answer_after a ok lines room ≡ Traced → ok ≡ true
-traced_steps (Refused x) ok lines room e = absurd (let z : ◌≡◌ {A = ℕ} 0 1 = cc in omega arith)
-traced_steps PlanAccepted true lines room e = refl
-traced_steps PlanAccepted false lines room e = absurd (let z : ◌≡◌ {A = ℕ} 0 1 = cc in omega arith)
+traced_steps : (a : PlanAnswer) (ok : Bool) (lines : List (List ℕ)) (room : ℕ) → answer_after a ok lines room ≡ Ok tt → ok ≡ true
+traced_steps (Err x) ok lines room e = absurd (let z : ◌≡◌ {A = ℕ} 0 1 = cc in omega arith)
+traced_steps (Ok tt) true lines room e = refl
+traced_steps (Ok tt) false lines room e = absurd (let z : ◌≡◌ {A = ℕ} 0 1 = cc in omega arith)
 
-module _ (n : ℕ) (p b out : List ℕ) (e : run_file_answer n p b out ≡ Traced) where
+module _ (n : ℕ) (p b out : List ℕ) (e : run_file_answer n p b out ≡ Ok tt) where
   whole_steps : length b % 4 ≡ 0
   unfolding run_file_answer steps_ok
   whole_steps =

@@ -5,9 +5,9 @@ use mathlib.Core.Bool.{false}
 use mathlib.Core.List.{List, [], ◌∷◌, ◌++◌}
 use Prim.Native.Nat.{ℕ}
 use lib.ListN.{replicate}
+use Rattle.std.specs.Prelude.{Ok}
 use Rattle.base.specs.Beginnings.{Beginning}
 use Rattle.rules.specs.declared.step.Step.{Step}
-use Rattle.rules.specs.declared.step.RunAnswer.TheVariants.{Traced}
 use Rattle.rules.specs.declared.system.System.{System}
 use Rattle.rules.specs.Answers.{is_accepted}
 use Rattle.rules.specs.Steps.{step_answer, run_step, steps}
@@ -31,11 +31,11 @@ abbrev room : List ℕ
 room = replicate 64 0
 
 -- both runs are answered 0
-two_run : run_file_answer 1 plan_file two_steps room ≡ Traced
+two_run : run_file_answer 1 plan_file two_steps room ≡ Ok tt
 unfolding evaluated
 two_run = refl
 
-three_run : run_file_answer 1 plan_file (two_steps ++ one_more) room ≡ Traced
+three_run : run_file_answer 1 plan_file (two_steps ++ one_more) room ≡ Ok tt
 unfolding evaluated
 three_run = refl
 

@@ -9,15 +9,16 @@ use native.Mathlib.Omega.{arith}
 use lib.Dec.{leb}
 use lib.ListN.{length, length-append}
 use borrow.Author.Tests.{leb-true}
+use Rattle.std.specs.Prelude.{None, Some}
+use Rattle.std.specs.Prelude.{Ok, Err}
 use Rattle.base.specs.Choice.{pick}
 use Rattle.base.specs.Range.{fold, joined}
 use Rattle.base.proofs.Choices.{pick_either}
 use Rattle.base.proofs.Tests.{and_left, and_right}
 use Rattle.plan.specs.Words.{word_numbers}
-use Rattle.rules.specs.declared.rule.Received.{Received}
-use Rattle.rules.specs.declared.rule.Received.TheVariants.{Nothing, Word}
-use Rattle.rules.specs.declared.step.StepAnswer.{StepAnswer}
-use Rattle.rules.specs.declared.step.StepAnswer.TheVariants.{Accepted, BadSystem, NoTask, NotReady, FinishWithChildren, NetworkFull, NoMessage, NoProcessor, AlreadyThere, MoveWithChildren, MovesSpent, BadStep}
+use Rattle.rules.specs.Reports.{Received}
+use Rattle.rules.specs.Answers.{StepAnswer}
+use Rattle.rules.specs.declared.step.StepRefusal.TheVariants.{BadSystem, NoTask, NotReady, FinishWithChildren, NetworkFull, NoMessage, NoProcessor, AlreadyThere, MoveWithChildren, MovesSpent, BadStep}
 use Rattle.rules.specs.declared.step.Report.{Report}
 use Rattle.rules.specs.declared.system.System.{System}
 use Rattle.rules.specs.Answers.{step_number}
@@ -42,31 +43,31 @@ unfolding fields
 last_field = refl
 
 answer_few : (a : StepAnswer) → step_number a < 100
-answer_few Accepted = omega arith
-answer_few BadSystem = omega arith
-answer_few NoTask = omega arith
-answer_few NotReady = omega arith
-answer_few FinishWithChildren = omega arith
-answer_few NetworkFull = omega arith
-answer_few NoMessage = omega arith
-answer_few NoProcessor = omega arith
-answer_few AlreadyThere = omega arith
-answer_few MoveWithChildren = omega arith
-answer_few MovesSpent = omega arith
-answer_few BadStep = omega arith
+answer_few (Ok tt) = omega arith
+answer_few (Err BadSystem) = omega arith
+answer_few (Err NoTask) = omega arith
+answer_few (Err NotReady) = omega arith
+answer_few (Err FinishWithChildren) = omega arith
+answer_few (Err NetworkFull) = omega arith
+answer_few (Err NoMessage) = omega arith
+answer_few (Err NoProcessor) = omega arith
+answer_few (Err AlreadyThere) = omega arith
+answer_few (Err MoveWithChildren) = omega arith
+answer_few (Err MovesSpent) = omega arith
+answer_few (Err BadStep) = omega arith
 
 -- what a line says behind its step's number
 abbrev pub report_text : Report → List ℕ
 report_text q = fields (step_number q.answer ∷ received_fields q.received)
 
 -- no word is received with a refusal
-pub refused_short : (a : StepAnswer) → length (report_text (record { answer = a; received = Nothing })) ≤ 4
+pub refused_short : (a : StepAnswer) → length (report_text (record { answer = a; received = None })) ≤ 4
 refused_short a = omega (arith, field_more (step_number a) 2 [] (few_digits 1 (step_number a) (answer_few a)), last_field)
 
-pub accepted_short : (w : Received) → received_good word_fits w ≡ true → length (report_text (record { answer = Accepted; received = w })) ≤ 31
+pub accepted_short : (w : Received) → received_good word_fits w ≡ true → length (report_text (record { answer = Ok tt; received = w })) ≤ 31
 unfolding received_good
-accepted_short Nothing h = omega (arith, refused_short Accepted)
-accepted_short (Word c w) h =
+accepted_short None h = omega (arith, refused_short (Ok tt))
+accepted_short (Some (c, w)) h =
     let channel : c.0 ≤ 128 = leb-true c.0 128 (and_left (leb c.0 128) (word_fits w) h) in
     let f = fits w (and_right (leb c.0 128) (word_fits w) h) in
     omega (

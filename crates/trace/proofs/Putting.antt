@@ -7,10 +7,10 @@ use native.Mathlib.Numerals.{add-one}
 use native.Mathlib.Omega.{arith}
 use lib.ListN.{length, set, take, drop, length-append, length-drop}
 use lib.Seq.{set_split, length-take-le, take_at, drop-append-add, drop-drop}
+use Rattle.std.specs.Prelude.{None, Some}
 use Rattle.plan.specs.declared.ChannelId.{ChannelId}
 use Rattle.plan.specs.declared.Word.{Word as WordOf}
 use Rattle.plan.specs.Words.{word_numbers}
-use Rattle.rules.specs.declared.rule.Received.TheVariants.{Nothing, Word}
 use Rattle.rules.specs.declared.step.Report.{Report}
 use Rattle.rules.specs.Answers.{step_number}
 use Rattle.rules.specs.Trace.{decimal, fields, step_line}
@@ -124,10 +124,10 @@ module _ (k a c : ℕ) (w : WordOf) where
 
 -- the line of a step that received nothing, and of one that received the word w on channel c
 module _ (k : ℕ) (q : Report) (a : ℕ) (e : a ≡ step_number q.answer) where
-  pub step_none : q.received ≡ Nothing → decimal k ++ fields (a ∷ []) ≡ step_line k q
+  pub step_none : q.received ≡ None → decimal k ++ fields (a ∷ []) ≡ step_line k q
   unfolding step_line
   step_none n = rw (n, e) refl
 
-  pub step_word : (c : ChannelId) (w : WordOf) → q.received ≡ Word c w → (x : ℕ) → x ≡ c.0 → decimal k ++ fields (a ∷ x ∷ word_numbers w) ≡ step_line k q
+  pub step_word : (c : ChannelId) (w : WordOf) → q.received ≡ Some (c, w) → (x : ℕ) → x ≡ c.0 → decimal k ++ fields (a ∷ x ∷ word_numbers w) ≡ step_line k q
   unfolding step_line
   step_word c w n x ex = rw (n, e, ex) refl

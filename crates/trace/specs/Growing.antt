@@ -1,13 +1,11 @@
 -- What a driver's author may rely on: a step file may grow, and refused steps may be left out. Said of the definitions of `rules` alone.
-use Rattle.std.specs.Prelude.{◌≡◌, true, false, List, [], ◌∷◌, ◌++◌, ℕ, ◌/◌, ◌<◌, length, get_or}
+use Rattle.std.specs.Prelude.{◌≡◌, true, false, List, [], ◌∷◌, ◌++◌, ℕ, ◌/◌, ◌<◌, length, get_or, None, Ok}
 use Rattle.base.specs.Choice.{pick}
 use Rattle.base.specs.Lists.{every}
 use Rattle.base.specs.Beginnings.{Beginning}
 use Rattle.plan.specs.declared.ChannelId.{ChannelId}
-use Rattle.rules.specs.declared.rule.Received.TheVariants.{Nothing}
 use Rattle.rules.specs.declared.step.Step.{Step}
 use Rattle.rules.specs.declared.step.Report.{Report}
-use Rattle.rules.specs.declared.step.RunAnswer.TheVariants.{Traced}
 use Rattle.rules.specs.declared.system.System.{System}
 use Rattle.rules.specs.Answers.{is_accepted}
 use Rattle.rules.specs.Steps.{step_answer, step, steps, received_on}
@@ -42,7 +40,7 @@ pub record FileGrows (n : ℕ) (p a more out later : List ℕ) : Type 0 where
 -- `trace_of_prefix` of step files: both runs are answered 0, so that both files are within the limits and hold whole steps
 abbrev pub FileOfPrefix : Type 0
 FileOfPrefix =
-    (n : ℕ) (p a more out later : List ℕ) → run_file_answer n p a out ≡ Traced → run_file_answer n p (a ++ more) later ≡ Traced
+    (n : ℕ) (p a more out later : List ℕ) → run_file_answer n p a out ≡ Ok tt → run_file_answer n p (a ++ more) later ≡ Ok tt
     → FileGrows n p a more out later
 
 -- one step s between others, and the same steps without it: the rig is the same in the end, and so are the other steps' answers and words. `q` is
@@ -50,7 +48,7 @@ FileOfPrefix =
 pub record LeftOut (r : System) (before : List Step) (s : Step) (behind : List Step) : Type 0 where
   pub q : Report
   pub later : List Report
-  pub nothing : q.received ≡ Nothing
+  pub nothing : q.received ≡ None
   pub with : (steps r (before ++ (s ∷ behind))).reports ≡ (steps r before).reports ++ (q ∷ later)
   pub without : (steps r (before ++ behind)).reports ≡ (steps r before).reports ++ later
   pub system : (steps r (before ++ behind)).system ≡ (steps r (before ++ (s ∷ behind))).system

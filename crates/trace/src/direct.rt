@@ -6,12 +6,11 @@ pub mod finish;
 ghost use Rattle.std.specs.Prelude.{◌≡◌, ◌∷◌, [], ◌++◌, ◌+◌, ◌<◌, ◌≤◌, length, leb};
 ghost use Rattle.plan.specs.Words.{word_numbers};
 ghost use Rattle.rules.specs.Trace.{decimal, fields, step_line, over_line};
-ghost use Rattle.trace.specs.Lines.{level_fields, over_word, end_word, end_text};
+ghost use Rattle.trace.specs.Lines.{level_fields, end_text};
 ghost use Rattle.trace.specs.Output.{Emitted, Put, PutTo};
 
 use super::{answer_number, digit, flag};
 use plan::Word;
-use rules::rule::Received;
 use rules::step::Report;
 
 // How many digits a number has.
@@ -112,37 +111,22 @@ fn put_field(out: &mut [u8], at: usize, n: usize) -> usize
     put_number(out, at + 1, n)
 }
 
-// A level, behind a space.
-fn put_level(out: &mut [u8], at: usize, n: u16) -> usize
-    requires { at + length (32 ∷ decimal n) ≤ length out.old }
-    ensures { PutTo out.old at (32 ∷ decimal n) result out.new }
-{
-    put_field(out, at, base::wide16(n))
-}
-
-// How many digits it has.
-fn level_digits(n: u16) -> usize
-    ensures { (result ≡ length (decimal n)) × (result ≤ 5) }
-{
-    digits(base::wide16(n))
-}
-
 // The four levels of a word, level 0 first, each behind a space.
 fn put_levels(out: &mut [u8], at: usize, w: Word) -> usize
     requires { at + length (level_fields w) ≤ length out.old }
     ensures { PutTo out.old at (level_fields w) result out.new }
 {
-    let first = put_level(out, at, w.0);
-    let second = put_level(out, first, w.1);
-    let third = put_level(out, second, w.2);
-    put_level(out, third, w.3)
+    let first = put_field(out, at, w.0 as usize);
+    let second = put_field(out, first, w.1 as usize);
+    let third = put_field(out, second, w.2 as usize);
+    put_field(out, third, w.3 as usize)
 }
 
 // How long they are.
 fn levels_length(w: Word) -> usize
     ensures { (result ≡ length (level_fields w)) × (result ≤ 24) }
 {
-    level_digits(w.0) + level_digits(w.1) + level_digits(w.2) + level_digits(w.3) + 4
+    digits(w.0 as usize) + digits(w.1 as usize) + digits(w.2 as usize) + digits(w.3 as usize) + 4
 }
 
 // The numbers of a step and of its answer, at the front.
@@ -159,10 +143,7 @@ fn head_fits(left: usize, k: usize, a: usize) -> bool
     requires { (k < 100000) × (a < 100000) }
     ensures { result ≡ leb (length (decimal k ++ fields (a ∷ []))) left }
 {
-    if 42 <= left {
-        return true;
-    }
-    digits(k) + digits(a) + 2 <= left
+    42 <= left || digits(k) + digits(a) + 2 <= left
 }
 
 // Whether a line of two numbers, a channel and a word does.
@@ -170,10 +151,7 @@ fn received_fits(left: usize, k: usize, a: usize, c: usize, w: Word) -> bool
     requires { (k < 100000) × (a < 100000) × (c < 100000) }
     ensures { result ≡ leb (length (decimal k ++ fields (a ∷ c ∷ word_numbers w))) left }
 {
-    if 42 <= left {
-        return true;
-    }
-    digits(k) + digits(a) + digits(c) + levels_length(w) + 3 <= left
+    42 <= left || digits(k) + digits(a) + digits(c) + levels_length(w) + 3 <= left
 }
 
 // A line of two numbers at the front, if it fits.
@@ -209,12 +187,10 @@ fn write_step(rest: &mut [u8], k: usize, q: Report) -> usize
     requires { k < 100000 }
     ensures { Emitted rest.old 0 (step_line k q) result rest.new }
 {
-    let answer = q.answer;
-    let received = q.received;
-    let a = base::wide8(answer_number(answer));
-    match received {
-        Received::Nothing => write_head(rest, k, a),
-        Received::Word(c, w) => write_received(rest, k, a, base::wide8(c.0), w),
+    let a = answer_number(q.answer) as usize;
+    match q.received {
+        None => write_head(rest, k, a),
+        Some((c, w)) => write_received(rest, k, a, c.0 as usize, w),
     }
 }
 
@@ -227,16 +203,13 @@ pub fn emit_step(out: &mut [u8], filled: usize, k: usize, q: Report) -> usize
     write_step(&mut out[filled..], k, q)
 }
 
-// The word that begins the line of a marked task, at the front.
-fn put_over(rest: &mut [u8]) -> usize
-    requires { 4 ≤ length rest.old }
-    ensures { PutTo rest.old 0 over_word result rest.new }
+// A word that begins a line, at the front.
+fn put_word(rest: &mut [u8], word: &[u8]) -> usize
+    requires { length word.now ≤ length rest.old }
+    ensures { PutTo rest.old 0 word.now result rest.new }
 {
-    rest[0] = 111;
-    rest[1] = 118;
-    rest[2] = 101;
-    rest[3] = 114;
-    4
+    rest[..word.len()].copy_from_slice(word);
+    word.len()
 }
 
 // The line of task t, which is marked, at the front of the rest of the output, if it fits: how many bytes were written.
@@ -247,7 +220,7 @@ fn write_over(rest: &mut [u8], t: usize) -> usize
     if rest.len() < digits(t) + 6 {
         return 0;
     }
-    let word = put_over(rest);
+    let word = put_word(rest, b"over");
     let end = put_field(rest, word, t);
     rest[end] = 10;
     end + 1
@@ -262,17 +235,6 @@ pub fn emit_over(out: &mut [u8], filled: usize, t: usize) -> usize
     write_over(&mut out[filled..], t)
 }
 
-// The word that begins the last line, at the front.
-fn put_end(rest: &mut [u8]) -> usize
-    requires { 3 ≤ length rest.old }
-    ensures { PutTo rest.old 0 end_word result rest.new }
-{
-    rest[0] = 101;
-    rest[1] = 110;
-    rest[2] = 100;
-    3
-}
-
 // The last line at the front of the rest of the output, if it fits: how many bytes were written.
 fn write_end(rest: &mut [u8], quiet: bool, messages: usize) -> usize
     requires { messages < 100000 }
@@ -281,7 +243,7 @@ fn write_end(rest: &mut [u8], quiet: bool, messages: usize) -> usize
     if rest.len() < digits(messages) + 7 {
         return 0;
     }
-    let word = put_end(rest);
+    let word = put_word(rest, b"end");
     let answer = put_field(rest, word, flag(quiet));
     let end = put_field(rest, answer, messages);
     rest[end] = 10;

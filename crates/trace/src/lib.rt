@@ -8,7 +8,7 @@ ghost use Rattle.std.specs.Prelude.{◌≡◌, ◌+◌, ◌<◌, ◌≤◌};
 ghost use Rattle.base.specs.Choice.{pick};
 ghost use Rattle.rules.specs.Answers.{step_number};
 
-use rules::step::StepAnswer;
+use rules::step::StepRefusal;
 
 // A digit, below ten, as a byte.
 fn digit(n: usize) -> u8
@@ -19,22 +19,22 @@ fn digit(n: usize) -> u8
 }
 
 // The number of an answer.
-pub fn answer_number(a: StepAnswer) -> u8
+pub fn answer_number(a: Result<(), StepRefusal>) -> u8
     ensures { result ≡ step_number a }
 {
     match a {
-        StepAnswer::Accepted => 0,
-        StepAnswer::BadSystem => 9,
-        StepAnswer::NoTask => 10,
-        StepAnswer::NotReady => 11,
-        StepAnswer::FinishWithChildren => 12,
-        StepAnswer::NetworkFull => 13,
-        StepAnswer::NoMessage => 14,
-        StepAnswer::NoProcessor => 15,
-        StepAnswer::AlreadyThere => 16,
-        StepAnswer::MoveWithChildren => 17,
-        StepAnswer::MovesSpent => 18,
-        StepAnswer::BadStep => 19,
+        Ok(()) => 0,
+        Err(StepRefusal::BadSystem) => 9,
+        Err(StepRefusal::NoTask) => 10,
+        Err(StepRefusal::NotReady) => 11,
+        Err(StepRefusal::FinishWithChildren) => 12,
+        Err(StepRefusal::NetworkFull) => 13,
+        Err(StepRefusal::NoMessage) => 14,
+        Err(StepRefusal::NoProcessor) => 15,
+        Err(StepRefusal::AlreadyThere) => 16,
+        Err(StepRefusal::MoveWithChildren) => 17,
+        Err(StepRefusal::MovesSpent) => 18,
+        Err(StepRefusal::BadStep) => 19,
     }
 }
 

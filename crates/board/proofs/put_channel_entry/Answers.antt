@@ -1,17 +1,7 @@
 -- `put_channel_entry`: the own entry of a channel, at k, becomes y.
 use native.Mathlib.Omega.{arith}
 use Rattle.board.proofs.Stores.{NarrowChannel, channel_put}
-use borrow.Author.Rules.{rules}
 use Rattle.board.proofs.put_channel_entry.Goals as goal
-
-pub channel_word-requires : goal.channel_word-requires
-channel_word-requires c = search rules
-
-pub offset_bounds-board-k : goal.offset_bounds-board-k
-offset_bounds-board-k c = search rules
-
-pub bounds-board-k : goal.bounds-board-k
-bounds-board-k c = search rules
 
 pub returns : goal.returns
 returns c =

@@ -1,23 +1,7 @@
 -- `put_travelling_entry`: the travelling pointer of the channel whose own entry is at k becomes h.
 use native.Mathlib.Omega.{arith}
 use Rattle.board.proofs.Stores.{travelling_put}
-use borrow.Author.Rules.{rules}
 use Rattle.board.proofs.put_travelling_entry.Goals as goal
-
-pub offset_bounds-board-k : goal.offset_bounds-board-k
-offset_bounds-board-k c = search rules
-
-pub bounds-board-k : goal.bounds-board-k
-bounds-board-k c = search rules
-
-pub with_travelling-requires : goal.with_travelling-requires
-with_travelling-requires c = search rules
-
-pub offset_bounds-board-k-2 : goal.offset_bounds-board-k-2
-offset_bounds-board-k-2 c = search rules
-
-pub bounds-board-k-2 : goal.bounds-board-k-2
-bounds-board-k-2 c = search rules
 
 pub returns : goal.returns
 returns c =

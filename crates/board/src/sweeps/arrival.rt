@@ -36,11 +36,9 @@ fn arrive_receiving_at<'a>(
     let none = cell_rules::order::no_offer();
     put_held_entry(heldprocessors, heldnumbers, i, none);
     let mut y = channel_entry(board, k);
-    if y.granted < o.number {
-        if y.carried.number < o.number {
-            y.carried = o;
-            put_channel_entry(board, k, y);
-        }
+    if y.granted < o.number && y.carried.number < o.number {
+        y.carried = o;
+        put_channel_entry(board, k, y);
     }
 }
 

@@ -6,10 +6,10 @@ use native.Mathlib.Omega.{arith}
 use native.Mathlib.Decide.{dec_lt}
 use lib.ListN.{get_or, length, get_or-eq_default}
 use borrow.Author.Tests.{le-leb, lt-leb}
+use Rattle.std.specs.Prelude.{Ok}
 use Rattle.base.proofs.Tables.{length_table}
 use Rattle.plan.specs.declared.Plan.{Plan}
 use Rattle.plan.specs.declared.TaskId.{TaskId}
-use Rattle.plan.specs.declared.PlanAnswer.TheVariants.{Accepted}
 use Rattle.plan.specs.Kinds.{op_create, op_send, op_receive}
 use Rattle.plan.specs.Programs.{programs}
 use Rattle.plan.specs.Refusals.{plan_answer}
@@ -20,7 +20,7 @@ use Rattle.plan_index.specs.ends.Derived.{user_in, ends_of}
 use Rattle.plan_index.proofs.ends.Entries.{sender_in_lem, receiver_in_lem, parent_at_lem}
 use Rattle.plan_index.specs.user_table.Built.{Few}
 
-module _ (p : Plan) (a : plan_answer (programs p) ≡ Accepted) where
+module _ (p : Plan) (a : plan_answer (programs p) ≡ Ok tt) where
   tasks_few : p.tasks ≤ 64
   tasks_few = omega (arith, tasks_of_lem p, (sized (programs p) (plan_passed (programs p) a).sizes).tasks.few)
 

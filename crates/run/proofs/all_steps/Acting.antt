@@ -7,6 +7,7 @@ use native.Mathlib.Omega.{arith}
 use lib.Dec.{eqb}
 use lib.ListN.{length}
 use borrow.Author.Tests.{eqb-true}
+use Rattle.std.specs.Prelude.{Ok, Err}
 use Rattle.base.specs.Choice.{unless, within}
 use Rattle.base.proofs.Choices.{pick_either}
 use Rattle.base.proofs.Tests.{within_low}
@@ -20,8 +21,7 @@ use Rattle.rig_parts.specs.declared.kept.Kept.{Kept}
 use Rattle.rules.specs.Numbers.{task_id, processor_id}
 use Rattle.rules.specs.Networks.{enqueued_all, messages_of, message_at, dequeued}
 use Rattle.rules.specs.Steps.{is_run, is_deliver, is_move, well_formed}
-use Rattle.rig_parts.specs.declared.change.Verdict.{Verdict}
-use Rattle.rig_parts.specs.declared.change.Verdict.TheVariants.{Refused, Accepted}
+use Rattle.rig_parts.specs.Answers.{Verdict}
 use Rattle.rig_parts.specs.Facts.{PartsOf, Facts}
 use Rattle.rig_parts.specs.Feasible.{verdict_ok}
 use Rattle.rig_parts.specs.Openings.{opened_in}
@@ -56,8 +56,8 @@ module _ (senders receivers : List ℕ) (n : ℕ) (k : Network) (before after : 
   pub acted_turn : (v : Verdict) → Acted senders receivers v before r after
       → turned (report_of r) (tasks_of after) (enqueued_all k (messages_of n r.posting)) (kept_of after) ≡ settled senders receivers n v (tasks_of before) k (kept_of before)
   unfolding carried_out enqueued_all messages_of
-  acted_turn (Refused q) a = turned_as n k a.act a.tasks (both_kept a.store a.parents)
-  acted_turn (Accepted x) a = turned_as n k a.act a.tasks (both_kept a.store a.parents)
+  acted_turn (Err q) a = turned_as n k a.act a.tasks (both_kept a.store a.parents)
+  acted_turn (Ok x) a = turned_as n k a.act a.tasks (both_kept a.store a.parents)
 
 -- by a test
 by_bool : {P : Type 0} (b : Bool) → (b ≡ true → P) → (b ≡ false → P) → P
@@ -85,7 +85,7 @@ module _ (f : Facts) (n : ℕ) (ts : TaskTable) (k : Network) (s : Kept) (x : St
 
   -- a step that delivers the letter at position p
   pub message_turn : (p : ℕ) → p ≡ position_of k.used x → (p ≡ 0 → ⊥)
-      → settled f.senders f.receivers n (Accepted (opened_in f ts s (message_at k p))) ts (dequeued k p) s ≡ turn_of f n ts k s x
+      → settled f.senders f.receivers n (Ok (opened_in f ts s (message_at k p))) ts (dequeued k p) s ≡ turn_of f n ts k s x
   unfolding turn_of well_formed delivered_turn position_of
   message_turn p at some =
       by_bool (is_deliver x)
@@ -103,11 +103,11 @@ module _ (f : Facts) (n : ℕ) (ts : TaskTable) (k : Network) (s : Kept) (x : St
 -- what was carried out, with the mail then, is the turn
 module _ (f : Facts) (n : ℕ) (k : Network) (x : Step) (before after : Lent) (r : Act) {k' : Network} where
   pub delivered_made : (p : ℕ) → p ≡ position_of k.used x → (p ≡ 0 → ⊥)
-      → Acted f.senders f.receivers (Accepted (opened_in f (tasks_of before) (kept_of before) (message_at k p))) before r after
+      → Acted f.senders f.receivers (Ok (opened_in f (tasks_of before) (kept_of before) (message_at k p))) before r after
       → k' ≡ enqueued_all (dequeued k p) (messages_of n r.posting) → turned (report_of r) (tasks_of after) k' (kept_of after) ≡ turn_of f n (tasks_of before) k (kept_of before) x
   delivered_made p at some a e =
       ap (λ (z : Network). turned (report_of r) (tasks_of after) z (kept_of after)) e
-      ∙ acted_turn f.senders f.receivers n (dequeued k p) before after r (Accepted (opened_in f (tasks_of before) (kept_of before) (message_at k p))) a
+      ∙ acted_turn f.senders f.receivers n (dequeued k p) before after r (Ok (opened_in f (tasks_of before) (kept_of before) (message_at k p))) a
       ∙ message_turn f n (tasks_of before) k (kept_of before) x p at some
 
   pub other_made : position_of k.used x ≡ 0
@@ -126,8 +126,8 @@ either P false a b p q = p
 -- there is room for what is posted
 room_of : (n used : ℕ) (v : Verdict) → used ≤ 256 → verdict_ok n used v ≡ true → used + length (messages_of n (act_of v).posting) ≤ 256
 unfolding messages_of
-room_of n used (Refused q) few ok = omega arith
-room_of n used (Accepted y) few ok = change_room n used y ok
+room_of n used (Err q) few ok = omega arith
+room_of n used (Ok y) few ok = change_room n used y ok
 
 -- a step that delivers nothing has room for its letters
 pub step_room : {f : Facts} {n : ℕ} {ts : TaskTable} {s : Kept} {used : ℕ} (p : PartsOf f n ts s used) (x : Step) {r : Act}

@@ -3,6 +3,7 @@ use mathlib.Core.Path.{◌≡◌, refl, sym, ap, ◌∙◌, subst}
 use mathlib.Core.Bool.{true, false}
 use Prim.Native.Nat.{ℕ, ◌+◌, ◌-◌, ◌≤◌}
 use lib.ListN.{length, set}
+use Rattle.std.specs.Prelude.{Ok}
 use Rattle.rules.specs.declared.message.Message.{Message}
 use Rattle.rules.specs.declared.message.Network.{Network}
 use Rattle.rules.specs.declared.message.Slot.{Slot}
@@ -10,7 +11,6 @@ use Rattle.rules.specs.declared.rule.Posting.{Posting}
 use Rattle.rules.specs.declared.system.TaskTable.{TaskTable}
 use Rattle.rules.specs.Networks.{slot, dequeued, enqueued, enqueued_all, messages_of}
 use Rattle.rig_parts.specs.declared.kept.Kept.{Kept}
-use Rattle.rig_parts.specs.declared.change.Verdict.TheVariants.{Accepted}
 use Rattle.rig_parts.specs.Facts.{Facts}
 use Rattle.rig_parts.specs.Fetches.{site_in}
 use Rattle.rig_parts.specs.Scopes.{message_scope}
@@ -29,7 +29,7 @@ unfolding enqueued
 joins k m = refl
 
 -- a letter that is opened posts one letter at most
-pub opened_posts : (f : Facts) (ts : TaskTable) (s : Kept) (m : Message) {r : Act} → r ≡ act_of (Accepted (opened_in f ts s m)) → AtMostOne r.posting
+pub opened_posts : (f : Facts) (ts : TaskTable) (s : Kept) (m : Message) {r : Act} → r ≡ act_of (Ok (opened_in f ts s m)) → AtMostOne r.posting
 unfolding opened_in
 opened_posts f ts s m e =
     let k = message_scope f.senders f.receivers f.parents m in

@@ -1,7 +1,6 @@
 -- What a run begins with.
-use Rattle.std.specs.Prelude.{◌≡◌, ℕ, ◌≤◌}
+use Rattle.std.specs.Prelude.{◌≡◌, ℕ, ◌≤◌, Ok}
 use Rattle.plan.specs.declared.Plan.{Plan}
-use Rattle.plan.specs.declared.PlanAnswer.TheVariants.{Accepted}
 use Rattle.plan.specs.Programs.{programs}
 use Rattle.plan.specs.Refusals.{plan_answer}
 use Rattle.rig_parts.specs.Facts.{Facts, facts_of}
@@ -10,7 +9,7 @@ use Rattle.rig_parts.specs.Facts.{Facts, facts_of}
 pub record Begins (n : ℕ) (p : Plan) (f : Facts) : Type 0 where
   pub some : 1 ≤ n
   pub most : n ≤ 6
-  pub accepted : plan_answer (programs p) ≡ Accepted
+  pub accepted : plan_answer (programs p) ≡ Ok tt
   pub derived : f ≡ facts_of p
 
 -- the same of some plan

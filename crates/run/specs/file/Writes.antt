@@ -3,7 +3,7 @@ use Rattle.std.specs.Prelude.{◌≡◌, List, [], ◌∷◌, ℕ, suc, length}
 use Rattle.base.specs.Choice.{pick}
 use Rattle.base.specs.Range.{joined}
 use Rattle.plan.specs.declared.Plan.{Plan}
-use Rattle.rules.specs.declared.step.RunAnswer.{RunAnswer}
+use Rattle.rules.specs.Answers.{RunAnswer}
 use Rattle.rules.specs.declared.system.TaskTable.{TaskTable}
 use Rattle.rules.specs.Numbers.{task_id}
 use Rattle.rules.specs.Starts.{started}

@@ -42,30 +42,24 @@ pub fn drive<'a>(
 {
     let mut users = [0u8; 1024];
     build(senders, receivers, parents, &mut users);
-    let tables = no_tables();
-    let mut hintprocessors = tables.hintprocessors;
-    let mut hintmoves = tables.hintmoves;
-    let mut heldprocessors = tables.heldprocessors;
-    let mut heldnumbers = tables.heldnumbers;
-    let mut notes = tables.notes;
+    let mut tables = no_tables();
     let mut board = [0u64; 1094];
     start_board(&mut board);
-    let one = ProcessorId(1);
     let born = Hint {
-        processor: one,
+        processor: ProcessorId(1),
         moves: 1,
     };
     locate(
         &users,
-        &mut hintprocessors,
-        &mut hintmoves,
+        &mut tables.hintprocessors,
+        &mut tables.hintmoves,
         TaskId(1),
-        one,
+        ProcessorId(1),
         born,
     );
     let size = Size {
         tasks: count,
-        processors: processors,
+        processors,
         used: 0,
     };
     let network = no_messages();
@@ -74,11 +68,11 @@ pub fn drive<'a>(
         codes,
         numbers,
         &users,
-        &mut hintprocessors,
-        &mut hintmoves,
-        &mut heldprocessors,
-        &mut heldnumbers,
-        &mut notes,
+        &mut tables.hintprocessors,
+        &mut tables.hintmoves,
+        &mut tables.heldprocessors,
+        &mut tables.heldnumbers,
+        &mut tables.notes,
         &mut board,
         size,
         network,
@@ -90,10 +84,8 @@ pub fn drive<'a>(
     let messages = network.used;
     let rest = at_rest(count, codes, &board, messages);
     emit_last(out, &mut progress, rest, messages);
-    let filled = progress[0];
-    let whole = progress[1] == 0;
     Driven {
-        filled: filled,
-        whole: whole,
+        filled: progress[0],
+        whole: progress[1] == 0,
     }
 }

@@ -22,8 +22,7 @@ fn emit_mark<'a>(out: &'a mut [u8], progress: &'a mut [usize; 2], board: &'a Boa
     if !x.overflow {
         return;
     }
-    let filled = progress[0];
-    let written = emit_over(out, filled, base::wide8(t));
+    let written = emit_over(out, progress[0], t as usize);
     note(progress, written);
 }
 
@@ -32,10 +31,8 @@ pub fn emit_marks<'a>(out: &'a mut [u8], progress: &'a mut [usize; 2], board: &'
     requires { (tasks ≤ 64) × (length progress.old ≡ 2) × (get_or progress.old 0 0 ≤ length out.old) }
     ensures { LinesNext (mark_lines (tasks_on board.now) tasks) progress.old out.old progress.new out.new }
 {
-    let mut t: u8 = 0;
-    while t < tasks {
-        t += 1;
-        emit_mark(out, progress, board, t);
+    for t in 0..tasks {
+        emit_mark(out, progress, board, t + 1);
     }
 }
 
@@ -47,7 +44,6 @@ pub fn emit_last<'a>(out: &'a mut [u8], progress: &'a mut [usize; 2], rest: bool
     if progress[1] != 0 {
         return;
     }
-    let filled = progress[0];
-    let written = emit_end(out, filled, rest, messages);
+    let written = emit_end(out, progress[0], rest, messages);
     note(progress, written);
 }

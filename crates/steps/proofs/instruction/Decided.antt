@@ -4,14 +4,14 @@ use mathlib.Core.Bool.{Bool, true, false}
 use Prim.Native.Nat.{ℕ, ◌+◌}
 use lib.Dec.{leb}
 use lib.ListN.{length}
+use Rattle.std.specs.Prelude.{Ok, Err}
 use Rattle.base.specs.Choice.{unless}
 use Rattle.rules.specs.declared.channel.Cell.{Cell}
 use Rattle.rules.specs.declared.rule.Outcome.{Outcome}
-use Rattle.rules.specs.declared.step.StepAnswer.TheVariants.{NetworkFull}
+use Rattle.rules.specs.declared.step.StepRefusal.TheVariants.{NetworkFull}
 use Rattle.rules.specs.Networks.{messages_of}
 use Rattle.rig_parts.specs.declared.sweep.Sweep.TheVariants.{Nothing}
 use Rattle.rig_parts.specs.declared.change.Scope.{Scope}
-use Rattle.rig_parts.specs.declared.change.Verdict.TheVariants.{Refused, Accepted}
 use Rattle.rig_parts.specs.RunVerdicts.{change, fitting_in}
 use Rattle.board.specs.declared.act.Act.{Act}
 use Rattle.board.specs.Acted.{act_of}
@@ -22,7 +22,7 @@ with_cell o x = record { sender = o.sender; receiver = o.receiver; cell = x; pos
 
 -- whether it fits or not
 same : (k : Scope) (o : Outcome) (x : Cell) (b : Bool)
-    → act_of (unless b (Refused NetworkFull) (Accepted (change k o Nothing))) ≡ act_of (unless b (Refused NetworkFull) (Accepted (change k (with_cell o x) Nothing)))
+    → act_of (unless b (Err NetworkFull) (Ok (change k o Nothing))) ≡ act_of (unless b (Err NetworkFull) (Ok (change k (with_cell o x) Nothing)))
 same k o x true = refl
 same k o x false = refl
 

@@ -3,6 +3,7 @@ use mathlib.Core.Path.{◌≡◌, refl, sym, ◌∙◌}
 use mathlib.Core.Bool.{true, false}
 use mathlib.Core.List.{List}
 use Prim.Native.Nat.{ℕ, ◌≤◌}
+use Rattle.std.specs.Prelude.{Ok}
 use Rattle.base.proofs.Tests.{within_low, within_high}
 use Rattle.plan.specs.declared.ProcessorId.{ProcessorId}
 use Rattle.plan.specs.declared.TaskId.{TaskId}
@@ -23,7 +24,6 @@ use Rattle.rules_laws.proofs.TaskAt.{task_stored_own}
 use Rattle.rig_parts.specs.declared.sweep.Sweep.{Sweep}
 use Rattle.rig_parts.specs.declared.sweep.Sweep.TheVariants.{Nothing, Arrival, Ending}
 use Rattle.rig_parts.specs.declared.change.Change.{Change}
-use Rattle.rig_parts.specs.declared.change.Verdict.TheVariants.{Accepted as Allowed}
 use Rattle.rig_parts.specs.Sweeps.{swept, swept_parents, parent_in}
 use Rattle.rig_parts.specs.Fetches.{cell_put, site_in}
 use Rattle.rig_parts.specs.Scopes.{alone, named_in}
@@ -63,7 +63,7 @@ alone_acted : (senders receivers : List ℕ) (before after : Lent) {k : Change} 
     → k ≡ change (alone u d) (tasks_only x y x.receiver p) w
     → r ≡ posted_act p → Whole after.board → tasks_of after ≡ task_stored (tasks_of before) u y → store_of after ≡ swept senders receivers w (store_of before)
     → parents_on after.board ≡ swept_parents w (parents_on before.board)
-    → Acted senders receivers (Allowed k) before r after
+    → Acted senders receivers (Ok k) before r after
 unfolding task_stored cell_put
 alone_acted senders receivers before after u d x y p w e a z ts st ps = rw e (record { whole = z; act = a; tasks = ts; store = st; parents = ps })
 

@@ -21,9 +21,6 @@ returns-then-s-eq3 c =
     same_acted (a_move (facts_in a.n.tasks codes numbers a.users.now) a.n.processors (tasks_of l) (kept_of l) a.n.used a.s c.if-s-eq3.true)
     (c.move_task.ensures op on notes)
 
-pub no_message-requires : goal.no_message-requires
-no_message-requires c = search rules
-
 pub returns : goal.returns
 returns c =
     let a = c.args in

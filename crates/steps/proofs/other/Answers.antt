@@ -1,9 +1,9 @@
 -- `other`: by the step's kind.
 use native.Mathlib.Omega.{arith}
 use borrow.Author.Rules.{rules}
-use Rattle.rules.specs.declared.step.StepAnswer.TheVariants.{BadStep}
+use Rattle.rules.specs.declared.step.StepRefusal.TheVariants.{BadStep}
 use Rattle.rules.specs.Numbers.{task_id}
-use Rattle.rig_parts.specs.declared.change.Verdict.{Verdict}
+use Rattle.rig_parts.specs.Answers.{Verdict}
 use Rattle.rig_parts.specs.Facts.{Facts}
 use Rattle.board.specs.Lent.{Lent, lent, tasks_of, kept_of}
 use Rattle.board.specs.Rigs.{facts_in}
@@ -24,18 +24,12 @@ here s = let a = s.args in lent a.hintprocessors.now a.hintmoves.now a.heldproce
 abbrev verdict : Start → Verdict
 verdict s = let a = s.args in step_verdict (given s) a.n.processors (tasks_of (here s)) (kept_of (here s)) a.n.used a.s
 
-pub refused-requires : goal.refused-requires
-refused-requires c = search rules
-
 pub returns-then-s-ne0 : goal.returns-then-s-ne0
 returns-then-s-ne0 c =
     let k = c.before.before.before in
     let s = k.before.before in
     refused_acted (given s).senders (given s).receivers (here s) s.requires.whole (verdict s) BadStep
     (bad_run _ _ _ _ _ _ k.if-s-eq1.true c.if-s-ne0.true) c.refused.ensures
-
-pub run-requires : goal.run-requires
-run-requires c = search rules
 
 pub returns-then-s-eq1 : goal.returns-then-s-eq1
 returns-then-s-eq1 c =

@@ -7,14 +7,8 @@ use Rattle.board.specs.Acted.{act_of}
 use Rattle.steps.proofs.ByKind.{bad_run, a_run, a_move, no_run_no_move}
 use Rattle.steps.proofs.step_decided.Goals as goal
 
-pub refused-requires : goal.refused-requires
-refused-requires c = search rules
-
 pub returns-then-s-ne0 : goal.returns-then-s-ne0
 returns-then-s-ne0 c = c.refused.ensures ∙ sym (ap act_of (bad_run _ _ _ _ _ _ c.if-s-eq1.true c.if-s-ne0.true))
-
-pub run_decided-requires : goal.run_decided-requires
-run_decided-requires c = search rules
 
 pub returns-then-s-eq1 : goal.returns-then-s-eq1
 returns-then-s-eq1 c =
@@ -25,9 +19,6 @@ move_decided-requires c = count_few c.requires.parts
 
 pub returns-then-s-eq3 : goal.returns-then-s-eq3
 returns-then-s-eq3 c = c.move_decided.ensures ∙ sym (ap act_of (a_move _ _ _ _ _ _ c.if-s-eq3.true))
-
-pub no_message-requires : goal.no_message-requires
-no_message-requires c = search rules
 
 pub returns : goal.returns
 returns c =

@@ -1,12 +1,11 @@
 -- The verdict on an instruction that uses no channel, of task t with record x, and what it supposes.
-use Rattle.std.specs.Prelude.{List, ℕ, ◌≤◌, ◌<◌}
+use Rattle.std.specs.Prelude.{List, ℕ, ◌≤◌, ◌<◌, None, Ok}
 use Rattle.plan.specs.declared.TaskId.{TaskId}
 use Rattle.plan.specs.declared.ProcessorId.{ProcessorId}
 use Rattle.rules.specs.declared.task.Task.{Task}
 use Rattle.rules.specs.declared.rule.Outcome.{Outcome}
 use Rattle.rules.specs.declared.rule.Posting.{Posting}
 use Rattle.rules.specs.declared.rule.Posting.TheVariants.{Nothing as NoPosting}
-use Rattle.rules.specs.declared.rule.Received.TheVariants.{Nothing as NoWord}
 use Rattle.rules.specs.Numbers.{channel_id}
 use Rattle.rules.specs.declared.rule.Finished.{Finished}
 use Rattle.rules.specs.declared.system.TaskTable.{TaskTable}
@@ -17,8 +16,7 @@ use Rattle.rules.specs.Local.{create_rule, finish_rule}
 use Rattle.rules.specs.Systems.{task_in}
 use Rattle.rig_parts.specs.declared.sweep.Sweep.TheVariants.{Nothing, Birth, Ending}
 use Rattle.rig_parts.specs.declared.change.Change.{Change}
-use Rattle.rig_parts.specs.declared.change.Verdict.{Verdict}
-use Rattle.rig_parts.specs.declared.change.Verdict.TheVariants.{Accepted}
+use Rattle.rig_parts.specs.Answers.{Verdict}
 use Rattle.rig_parts.specs.Sweeps.{parent_in}
 use Rattle.rig_parts.specs.Fetches.{no_cell}
 use Rattle.rig_parts.specs.Scopes.{scope, alone, named_in}
@@ -26,13 +24,13 @@ use Rattle.rig_parts.specs.RunVerdicts.{change, fitting_in}
 
 -- two tasks are left so, and this is posted
 abbrev pub two_tasks : Task → Task → Posting → Outcome
-two_tasks a b p = record { sender = a; receiver = b; cell = no_cell; posting = p; received = NoWord }
+two_tasks a b p = record { sender = a; receiver = b; cell = no_cell; posting = p; received = None }
 
 -- a create: task u is born at the task's desk
 abbrev pub create_verdict : TaskId → Task → TaskId → Verdict
 create_verdict t x u =
     let d = x.processor in
-    Accepted (change (scope t u (channel_id 0) d) (two_tasks (create_rule x u) (born d (hint d x.moves)) NoPosting) (Birth u d))
+    Ok (change (scope t u (channel_id 0) d) (two_tasks (create_rule x u) (born d (hint d x.moves)) NoPosting) (Birth u d))
 
 -- what it supposes
 pub record CanCreate (t : TaskId) (x : Task) (u : TaskId) : Type 0 where
@@ -70,4 +68,4 @@ pub record CanFinish (parents : List ℕ) (t : TaskId) (x : Task) : Type 0 where
 
 -- another instruction makes the task y, at desk d
 abbrev pub alone_verdict : TaskId → ProcessorId → Task → Verdict
-alone_verdict t d y = Accepted (change (alone t d) (two_tasks y no_task NoPosting) Nothing)
+alone_verdict t d y = Ok (change (alone t d) (two_tasks y no_task NoPosting) Nothing)

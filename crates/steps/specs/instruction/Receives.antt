@@ -10,7 +10,7 @@ use Rattle.rules.specs.Systems.{read_channel, task_in}
 use Rattle.rules.specs.Receive.{receive_rule}
 use Rattle.rig_parts.specs.declared.sweep.Sweep.TheVariants.{Nothing}
 use Rattle.rig_parts.specs.declared.change.Scope.{Scope}
-use Rattle.rig_parts.specs.declared.change.Verdict.{Verdict}
+use Rattle.rig_parts.specs.Answers.{Verdict}
 use Rattle.rig_parts.specs.Fetches.{last_of, site_in}
 use Rattle.rig_parts.specs.Scopes.{scope, named_in}
 use Rattle.rig_parts.specs.RunVerdicts.{change, fitting_in}

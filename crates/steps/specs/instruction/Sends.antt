@@ -9,7 +9,7 @@ use Rattle.rules.specs.Send.{send_rule}
 use Rattle.rules.specs.Systems.{task_in}
 use Rattle.rig_parts.specs.declared.sweep.Sweep.TheVariants.{Nothing}
 use Rattle.rig_parts.specs.declared.change.Scope.{Scope}
-use Rattle.rig_parts.specs.declared.change.Verdict.{Verdict}
+use Rattle.rig_parts.specs.Answers.{Verdict}
 use Rattle.rig_parts.specs.Fetches.{slot_at, site_in}
 use Rattle.rig_parts.specs.Scopes.{scope, named_in}
 use Rattle.rig_parts.specs.RunVerdicts.{change, fitting_in}

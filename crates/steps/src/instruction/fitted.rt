@@ -7,16 +7,15 @@ ghost use Rattle.board.specs.Acted.{act_of};
 
 use board::act::{Act, Size, accepted, fits, refused};
 use rules::rule::Outcome;
-use rules::step::StepAnswer;
+use rules::step::StepRefusal;
 
 // Accepted, or the mail is full.
 pub fn fitted(n: Size, o: Outcome) -> Act
     requires { n.used ≤ 256 }
     ensures { (k : Scope) (s : Sweep) → result ≡ act_of (fitting_in n.processors n.used (change k o s)) }
 {
-    let posting = o.posting;
-    if !fits(n, posting) {
-        return refused(StepAnswer::NetworkFull);
+    if !fits(n, o.posting) {
+        return refused(Err(StepRefusal::NetworkFull));
     }
     accepted(o)
 }

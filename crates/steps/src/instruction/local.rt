@@ -13,7 +13,7 @@ use plan::TaskId;
 use plan_index::user_table::users::parent;
 use rules::channel::Hint;
 use rules::rule::{Finished, Posting};
-use rules::step::StepAnswer;
+use rules::step::StepRefusal;
 use rules::task::Task;
 
 // A create of task t, with record x: task u is born at its desk.
@@ -73,18 +73,14 @@ pub fn finish<'a>(users: &'a [u8; 1024], board: &'a mut Board, n: Size, t: TaskI
         (lent hintprocessors hintmoves heldprocessors heldnumbers notes board.new) }
 {
     let f = finished(users, board, t, x);
-    let posting = f.posting;
-    if !fits(n, posting) {
-        return refused(StepAnswer::NetworkFull);
+    if !fits(n, f.posting) {
+        return refused(Err(StepRefusal::NetworkFull));
     }
     let u = parent(users, t);
-    let left = f.parent;
-    let done = f.task;
-    let entry = f.entry;
-    put_task(board, u, left);
-    put_task(board, t, done);
-    put_parent(board, x.processor, u, entry);
-    posted(posting)
+    put_task(board, u, f.parent);
+    put_task(board, t, f.task);
+    put_parent(board, x.processor, u, f.entry);
+    posted(f.posting)
 }
 
 // The same, decided and not done.
@@ -99,11 +95,10 @@ pub fn finish_decided<'a>(
     ensures { result ≡ act_of (finish_verdict (parents_of users.now) n.processors n.used (tasks_on board.now) (parents_on board.now) t x) }
 {
     let f = finished(users, board, t, x);
-    let posting = f.posting;
-    if !fits(n, posting) {
-        return refused(StepAnswer::NetworkFull);
+    if !fits(n, f.posting) {
+        return refused(Err(StepRefusal::NetworkFull));
     }
-    posted(posting)
+    posted(f.posting)
 }
 
 // Task t becomes y, and nothing else changes.

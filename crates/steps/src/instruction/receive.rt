@@ -11,7 +11,7 @@ use board::{Board, channel_at, note_at, put_channel, put_note, put_task, task_at
 use plan::{ChannelId, TaskId};
 use plan_index::user_table::users;
 use rules::rule::{Outcome, Site};
-use rules::step::StepAnswer;
+use rules::step::StepRefusal;
 use rules::task::TaskState;
 
 // What a receive of task t on channel c leaves, with no pointer and no held offer: they are not seen, and stay.
@@ -40,9 +40,9 @@ pub fn receive_outcome<'a>(
     let site = Site {
         sender: a,
         receiver: b,
-        sending: sending,
+        sending,
         receiving: false,
-        cell: cell,
+        cell,
     };
     let w = board::fetch::last_number(numbers, u, a.pc);
     channel_rules::receive::receive_rule(site, c, w)
@@ -69,22 +69,14 @@ pub fn receive<'a>(
         (lent hintprocessors hintmoves heldprocessors heldnumbers notes.new board.new) }
 {
     let o = receive_outcome(codes, numbers, users, notes, board, t, c);
-    let posting = o.posting;
-    if !fits(n, posting) {
-        return refused(StepAnswer::NetworkFull);
+    if !fits(n, o.posting) {
+        return refused(Err(StepRefusal::NetworkFull));
     }
-    let sender = o.sender;
-    let receiver = o.receiver;
-    let left = o.cell;
-    let entry = left.entry;
-    let noted = entry.noted;
-    let own = left.channel;
-    let d = receiver.processor;
     let u = users::sender(users, c);
-    put_task(board, u, sender);
-    put_task(board, t, receiver);
-    put_note(notes, d, c, noted);
-    put_channel(board, c, own);
+    put_task(board, u, o.sender);
+    put_task(board, t, o.receiver);
+    put_note(notes, o.receiver.processor, c, o.cell.entry.noted);
+    put_channel(board, c, o.cell.channel);
     accepted(o)
 }
 

@@ -7,7 +7,7 @@ ghost use Rattle.board.specs.Acted.{Acted, act_of};
 ghost use Rattle.board.specs.Rigs.{RigOn, facts_in};
 
 use crate::instruction::local::{alone, create, finish, finish_decided};
-use crate::instruction::next::{Next, next_of};
+use crate::instruction::next::next_of;
 use crate::instruction::receive::{receive, receive_decided};
 use crate::instruction::send::{send, send_decided};
 use board::Board;
@@ -40,10 +40,9 @@ pub fn run<'a>(
 {
     let found = next_of(codes, board, n.tasks, t);
     match found {
-        Next::Refused(q) => refused(q),
-        Next::Runs(x, i) => {
-            let opcode = i.opcode;
-            match opcode {
+        Err(e) => refused(Err(e)),
+        Ok((x, i)) => {
+            match i.opcode {
                 CREATE => {
                     let u = TaskId(i.operand as u8);
                     create(users, hintprocessors, hintmoves, board, t, x, u)
@@ -107,10 +106,9 @@ pub fn run_decided<'a>(
 {
     let found = next_of(codes, board, n.tasks, t);
     match found {
-        Next::Refused(q) => refused(q),
-        Next::Runs(x, i) => {
-            let opcode = i.opcode;
-            match opcode {
+        Err(e) => refused(Err(e)),
+        Ok((x, i)) => {
+            match i.opcode {
                 FINISH => finish_decided(users, board, n, t, x),
                 SEND => {
                     let c = ChannelId(i.operand as u8);

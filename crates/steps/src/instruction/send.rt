@@ -11,7 +11,7 @@ use board::{Board, channel_at, held_at, hint_at, put_channel, put_held, put_task
 use plan::{ChannelId, ProcessorId, TaskId};
 use plan_index::user_table::users;
 use rules::rule::{Outcome, Site};
-use rules::step::StepAnswer;
+use rules::step::StepRefusal;
 use rules::task::TaskState;
 
 // What a send of task t on channel c leaves, with nothing noted: the note is not seen, and stays.
@@ -44,10 +44,10 @@ pub fn send_outcome<'a>(
         sender: a,
         receiver: b,
         sending: false,
-        receiving: receiving,
-        cell: cell,
+        receiving,
+        cell,
     };
-    let at = 64 * (base::wide8(t.0) - 1) + (base::wide8(a.pc) - 1);
+    let at = 64 * (t.0 as usize - 1) + (a.pc as usize - 1);
     let w = numbers[at];
     channel_rules::send::send_rule(site, c, w)
 }
@@ -86,22 +86,15 @@ pub fn send<'a>(
         t,
         c,
     );
-    let posting = o.posting;
-    if !fits(n, posting) {
-        return refused(StepAnswer::NetworkFull);
+    if !fits(n, o.posting) {
+        return refused(Err(StepRefusal::NetworkFull));
     }
-    let sender = o.sender;
-    let receiver = o.receiver;
-    let left = o.cell;
-    let entry = left.entry;
-    let offer = entry.held;
-    let own = left.channel;
-    let d = sender.processor;
     let u = users::receiver(users, c);
-    put_task(board, t, sender);
-    put_task(board, u, receiver);
-    put_held(heldprocessors, heldnumbers, d, c, offer);
-    put_channel(board, c, own);
+    put_task(board, t, o.sender);
+    put_task(board, u, o.receiver);
+    let held = o.cell.entry.held;
+    put_held(heldprocessors, heldnumbers, o.sender.processor, c, held);
+    put_channel(board, c, o.cell.channel);
     accepted(o)
 }
 

@@ -53,10 +53,8 @@ pub fn advert<'a>(
         return posted(Posting::Nothing);
     };
     let o = advert_outcome(codes, users, notes, board, m);
-    let left = o.cell;
-    let entry = left.entry;
-    board::put_note(notes, d, c, entry.noted);
-    board::put_channel(board, c, left.channel);
+    board::put_note(notes, d, c, o.cell.entry.noted);
+    board::put_channel(board, c, o.cell.channel);
     accepted(o)
 }
 

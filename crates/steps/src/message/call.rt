@@ -39,9 +39,9 @@ fn call_outcome<'a>(
     let x = Site {
         sender: a,
         receiver: nobody,
-        sending: sending,
+        sending,
         receiving: false,
-        cell: cell,
+        cell,
     };
     channel_rules::messages::call(x, m)
 }
@@ -65,11 +65,8 @@ pub fn call<'a>(
     };
     let o = call_outcome(codes, users, hintprocessors, hintmoves, board, m);
     let u = plan_index::user_table::users::sender(users, c);
-    let sender = o.sender;
-    let left = o.cell;
-    let entry = left.entry;
-    board::put_task(board, u, sender);
-    board::put_hint(hintprocessors, hintmoves, d, c, entry.hint);
+    board::put_task(board, u, o.sender);
+    board::put_hint(hintprocessors, hintmoves, d, c, o.cell.entry.hint);
     accepted(o)
 }
 

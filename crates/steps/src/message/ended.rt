@@ -35,12 +35,9 @@ pub fn ended<'a>(users: &'a [u8; 1024], board: &'a mut Board, h: Hint, t: TaskId
 {
     let o = ended_outcome(users, board, h, t);
     let u = parent(users, t);
-    let left = o.parent;
-    let entry = o.entry;
-    let posting = o.posting;
-    put_task(board, u, left);
-    put_parent(board, h.processor, u, entry);
-    posted(posting)
+    put_task(board, u, o.parent);
+    put_parent(board, h.processor, u, o.entry);
+    posted(o.posting)
 }
 
 // What opening it would do.
@@ -52,6 +49,5 @@ pub fn ended_decided<'a>(users: &'a [u8; 1024], board: &'a Board, h: Hint, t: Ta
         result }
 {
     let o = ended_outcome(users, board, h, t);
-    let posting = o.posting;
-    posted(posting)
+    posted(o.posting)
 }

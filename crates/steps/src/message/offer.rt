@@ -69,10 +69,9 @@ pub fn offer<'a>(
         board,
         m,
     );
-    let left = o.cell;
-    let entry = left.entry;
-    board::put_held(heldprocessors, heldnumbers, h.processor, c, entry.held);
-    board::put_channel(board, c, left.channel);
+    let held = o.cell.entry.held;
+    board::put_held(heldprocessors, heldnumbers, h.processor, c, held);
+    board::put_channel(board, c, o.cell.channel);
     accepted(o)
 }
 

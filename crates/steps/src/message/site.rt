@@ -1,7 +1,6 @@
 // What a letter about a channel puts together of a site.
 ghost use Rattle.std.specs.Prelude.{◌≡◌, ◌≤◌};
 ghost use Rattle.rules.specs.declared.rule.Posting.TheVariants.{Nothing as NoPosting};
-ghost use Rattle.rules.specs.declared.rule.Received.TheVariants.{Nothing as NoWord};
 ghost use Rattle.rules.specs.Tasks.{no_task};
 ghost use Rattle.rules.specs.Systems.{task_in};
 ghost use Rattle.rig_parts.specs.Fetches.{no_cell};
@@ -13,7 +12,7 @@ ghost use Rattle.steps.specs.message.Seen.{at_receiver};
 use board::Board;
 use plan::{ChannelId, ProcessorId};
 use rules::channel::{Cell, Channel};
-use rules::rule::{Outcome, Posting, Received, Site};
+use rules::rule::{Outcome, Posting, Site};
 use rules::task::TaskState;
 
 // The cell that stands for none.
@@ -52,14 +51,14 @@ pub fn at_receiver<'a>(
         sender: nobody,
         receiver: b,
         sending: false,
-        receiving: receiving,
-        cell: cell,
+        receiving,
+        cell,
     }
 }
 
 // What is left where no letter is opened.
 pub fn unopened() -> Outcome
-    ensures { result ≡ record { sender = no_task; receiver = no_task; cell = no_cell; posting = NoPosting; received = NoWord } }
+    ensures { result ≡ record { sender = no_task; receiver = no_task; cell = no_cell; posting = NoPosting; received = None } }
 {
     let nobody = board::fetch::no_task();
     let nowhere = no_cell();
@@ -68,6 +67,6 @@ pub fn unopened() -> Outcome
         receiver: nobody,
         cell: nowhere,
         posting: Posting::Nothing,
-        received: Received::Nothing,
+        received: None,
     }
 }

@@ -52,10 +52,8 @@ pub fn word<'a>(
     };
     let o = word_outcome(codes, users, board, m);
     let u = plan_index::user_table::users::receiver(users, c);
-    let receiver = o.receiver;
-    let left = o.cell;
-    board::put_task(board, u, receiver);
-    board::put_channel(board, c, left.channel);
+    board::put_task(board, u, o.receiver);
+    board::put_channel(board, c, o.cell.channel);
     accepted(o)
 }
 

@@ -3,34 +3,15 @@ ghost use Rattle.std.specs.Prelude.{◌≡◌, ◌∷◌, [], ◌++◌, ◌<◌,
 ghost use Rattle.rules.specs.Trace.{decimal, fields};
 ghost use Rattle.rules.specs.Finish.{verdict_line};
 ghost use Rattle.trace.specs.Lines.{verdict_word};
-ghost use Rattle.trace.specs.Output.{Emitted, PutTo};
+ghost use Rattle.trace.specs.Output.{Emitted};
 
-use super::{digits, put_field, write_head};
+use super::{digits, put_field, put_word, write_head};
 
-// How long the word is that says the verdict.
-fn verdict_length(finishes: bool) -> usize
-    ensures { (result ≡ length (verdict_word finishes)) × (result ≤ 3) }
+// The word that says the verdict.
+fn verdict_word(finishes: bool) -> &'static [u8]
+    ensures { result.now ≡ verdict_word finishes }
 {
-    if finishes {
-        return 3;
-    }
-    2
-}
-
-// The word that says the verdict, at the front.
-fn put_verdict(rest: &mut [u8], finishes: bool) -> usize
-    requires { length (verdict_word finishes) ≤ length rest.old }
-    ensures { PutTo rest.old 0 (verdict_word finishes) result rest.new }
-{
-    if finishes {
-        rest[0] = 121;
-        rest[1] = 101;
-        rest[2] = 115;
-        return 3;
-    }
-    rest[0] = 110;
-    rest[1] = 111;
-    2
+    if finishes { b"yes" } else { b"no" }
 }
 
 // The verdict and a number at the front of the rest of the output, if they fit: how many bytes were written.
@@ -38,10 +19,11 @@ fn write_verdict(rest: &mut [u8], finishes: bool, n: usize) -> usize
     requires { n < 100000 }
     ensures { Emitted rest.old 0 (verdict_line finishes n) result rest.new }
 {
-    if rest.len() < verdict_length(finishes) + digits(n) + 2 {
+    let word = verdict_word(finishes);
+    if rest.len() < word.len() + digits(n) + 2 {
         return 0;
     }
-    let word = put_verdict(rest, finishes);
+    let word = put_word(rest, word);
     let end = put_field(rest, word, n);
     rest[end] = 10;
     end + 1

@@ -4,9 +4,6 @@ use borrow.Author.Rules.{rules}
 use Rattle.rules_laws.proofs.Messages.{few_messages}
 use Rattle.board.proofs.act.fits.Goals as goal
 
-pub messages_needed-needed-requires : goal.messages_needed-needed-requires
-messages_needed-needed-requires c = search rules
-
 pub overflow_add-result : goal.overflow_add-result
 overflow_add-result c = let a = c.args in search (rules, few_messages a.n.processors a.p)
 

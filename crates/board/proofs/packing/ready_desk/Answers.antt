@@ -1,11 +1,7 @@
 -- `ready_desk`: the desk of a ready task.
 use mathlib.Core.Path.{refl}
-use borrow.Author.Rules.{rules}
 use borrow.Author.Tests.{eq-eqb, ne_eqb}
 use Rattle.board.proofs.packing.ready_desk.Goals as goal
-
-pub low8-requires : goal.low8-requires
-low8-requires c = search rules
 
 pub returns-then-v-eq1 : goal.returns-then-v-eq1
 returns-then-v-eq1 c = rw (eq-eqb _ 1 c.if-v-eq1.true) c.low8.ensures

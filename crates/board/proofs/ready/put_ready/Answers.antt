@@ -3,15 +3,6 @@ use borrow.Author.Rules.{rules}
 use Rattle.board.proofs.Readies.{none_moved, left_joined}
 use Rattle.board.proofs.ready.put_ready.Goals as goal
 
-pub ready_desk-was-requires : goal.ready_desk-was-requires
-ready_desk-was-requires c = search rules
-
-pub ready_desk-is-requires : goal.ready_desk-is-requires
-ready_desk-is-requires c = search rules
-
-pub change-requires : goal.change-requires
-change-requires c = search rules
-
 pub change-requires-then-was-is : goal.change-requires-then-was-is
 change-requires-then-was-is c = (search rules, search rules, c.change.ensures.whole)
 

@@ -1,12 +1,8 @@
 -- `arrive` is what is done for the channels that the task receives on, and then for those that it sends on.
 use mathlib.Core.Path.{refl}
 use mathlib.Core.List.{[]}
-use borrow.Author.Rules.{rules}
 use Rattle.board.proofs.sweeps.Walking.{stored_next}
 use Rattle.board.proofs.sweeps.arrive.Goals as goal
-
-pub arrive_receiving-requires : goal.arrive_receiving-requires
-arrive_receiving-requires c = search rules
 
 pub arrive_sending-requires : goal.arrive_sending-requires
 arrive_sending-requires c =

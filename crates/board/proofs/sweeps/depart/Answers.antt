@@ -1,23 +1,13 @@
 use mathlib.Core.List.{[]}
 use native.Mathlib.Omega.{arith}
-use borrow.Author.Rules.{rules}
 use Rattle.board.proofs.sweeps.Walking.{stored_none, stored_next, walked_first, walked_next, walked_less, walked_end}
 use Rattle.board.proofs.sweeps.depart.Goals as goal
 use Rattle.board.proofs.sweeps.depart.Goals.{After-next_sent-c, At-loop-c}
-
-pub first_sent-c-requires : goal.first_sent-c-requires
-first_sent-c-requires c = search rules
 
 pub loop-c-init : goal.loop-c-init
 loop-c-init c =
     let s = c.before in
     (s.requires.4, walked_first s.requires.3.sending s.args.t s.requires.0 c.first_sent-c.ensures (λ f none heldprocessors heldnumbers notes. stored_none _ s.requires.4 none))
-
-pub depart_at-requires : goal.depart_at-requires
-depart_at-requires c = search rules
-
-pub next_sent-c-requires : goal.next_sent-c-requires
-next_sent-c-requires c = search rules
 
 -- where the loop stood before this channel
 abbrev looped : After-next_sent-c → At-loop-c

@@ -1,23 +1,13 @@
 use native.Mathlib.Omega.{arith}
-use borrow.Author.Rules.{rules}
 use Rattle.board.proofs.sweeps.Walking.{stored_none, stored_next, walked_first, walked_next, walked_less, walked_end}
 use Rattle.board.proofs.sweeps.Rules.{located_stored}
 use Rattle.board.proofs.sweeps.locate.Goals as goal
 use Rattle.board.proofs.sweeps.locate.Goals.{After-next_received-c, At-loop-c}
 
-pub first_received-c-requires : goal.first_received-c-requires
-first_received-c-requires c = search rules
-
 pub loop-c-init : goal.loop-c-init
 loop-c-init c =
     let s = c.before in
     walked_first s.requires.3.receiving s.args.t s.requires.0 c.first_received-c.ensures (λ f none heldprocessors heldnumbers notes board w. stored_none _ w none)
-
-pub put_hint-requires : goal.put_hint-requires
-put_hint-requires c = search rules
-
-pub next_received-c-requires : goal.next_received-c-requires
-next_received-c-requires c = search rules
 
 -- where the loop stood before this channel
 abbrev looped : After-next_received-c → At-loop-c

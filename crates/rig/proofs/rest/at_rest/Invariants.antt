@@ -8,7 +8,4 @@ use Rattle.rig.proofs.rest.Quiet.{stuck_after}
 use Rattle.rig.proofs.rest.at_rest.Given as goal
 
 abbrev pub invariant-loop-k : goal.invariant-loop-k
-invariant-loop-k l = (l.k ≤ l.count) × (below l.k (stuck_after l.count l.codes (tasks_on l.board)) ≡ true)
-
-abbrev pub decreases-loop-k : goal.decreases-loop-k
-decreases-loop-k l = l.count - l.k
+invariant-loop-k l = below l.k (stuck_after l.count l.codes (tasks_on l.board)) ≡ true

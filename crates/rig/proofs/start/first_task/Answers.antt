@@ -3,4 +3,4 @@ use borrow.Author.Rules.{rules}
 use Rattle.rig.proofs.start.first_task.Goals as goal
 
 pub returns : goal.returns
-returns c = simp (c.birth.ensures, c.unknown-nowhere.ensures)
+returns c = simp (c.birth.ensures, c.unknown.ensures)

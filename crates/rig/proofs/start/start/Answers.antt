@@ -7,19 +7,11 @@ use Rattle.rig.proofs.start.Tables.{few_ends}
 use Rattle.rig.proofs.start.start.Goals as goal
 
 pub build-requires : goal.build-requires
-build-requires c =
-    let s = c.before.before.before.before.before.before.before in
-    (refl, rw s.requires.0 (few_ends s.args.p s.requires.1))
+build-requires c = (refl, rw c.requires.0 (few_ends c.args.p c.requires.1))
 
 pub returns : goal.returns
 returns c =
-    let parents = c.before in
-    let tasks = parents.before.before in
-    let located = tasks.before.before.before.before in
-    let tables = located.before.before.before.before.before.before in
-    let built = tables.before in
-    let s = built.before.before.before.before.before.before.before.before in
-    let q = located.locate.ensures none none none zeros unborn_none.whole in
-    rw (c.no_messages-network.ensures, parents.start_parents-kept.ensures, parents.no_channels-channels.ensures, tasks.start_tasks-tasks.ensures, tables.no_tables-none.ensures)
-    (started_located s.args.processors s.args.p located.locate.new.hintprocessors located.locate.new.hintmoves
-    (rw (tables.no_tables-none.ensures, built.build.ensures.receivers_of_lem, s.requires.0) at q))
+    let blank = c.no_tables-tables.ensures in
+    let q = c.locate.ensures none none none zeros unborn_none.whole in
+    rw (c.no_messages.ensures, c.start_parents.ensures, c.no_channels.ensures, c.start_tasks.ensures, blank)
+    (started_located c.args.processors c.args.p c.locate.new.hintprocessors c.locate.new.hintmoves (rw (blank, c.build.ensures.receivers_of_lem, c.requires.0) at q))

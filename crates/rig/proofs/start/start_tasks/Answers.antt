@@ -16,4 +16,4 @@ unfolding task_stored task_in ready_sets ready_then inserted member
 one_ready = refl
 
 pub returns : goal.returns
-returns c = rw (c.first_task-first.ensures, c.unborn-none.ensures) (sym one_ready)
+returns c = rw (c.first_task.ensures, c.unborn-records.ensures) (sym one_ready)

@@ -3,4 +3,4 @@ use borrow.Author.Rules.{rules}
 use Rattle.rig.proofs.start.unborn.Goals as goal
 
 pub returns : goal.returns
-returns c = simp c.unknown-nowhere.ensures
+returns c = simp c.unknown.ensures

@@ -7,9 +7,6 @@ use Rattle.steps.proofs.message.deliver.Goals as goal
 pub enum_told-1 : goal.enum_told-1
 enum_told-1 c = search rules
 
-pub posted-requires : goal.posted-requires
-posted-requires c = search rules
-
 pub enum_told-in-Offered : goal.enum_told-in-Offered
 enum_told-in-Offered c = search rules
 

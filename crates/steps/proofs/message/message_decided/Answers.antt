@@ -36,9 +36,6 @@ enum_known-m c = search rules
 pub ended_decided-requires : goal.ended_decided-requires
 ended_decided-requires c = can_end c.requires c.in-Terminated.h c.in-Terminated.t c.in-Terminated.is
 
-pub posted-requires : goal.posted-requires
-posted-requires c = search rules
-
 pub returns-in-Offered : goal.returns-in-Offered
 returns-in-Offered c = c.offer_decided.ensures c.args.notes.now
 

@@ -5,7 +5,7 @@ use native.Mathlib.Nat.{lt_of_le_of_lt}
 use borrow.Author.Rules.{rules}
 use borrow.Author.Tests.{not-true, not-false}
 use Rattle.base.proofs.Tests.{within_high}
-use Rattle.rules.specs.declared.step.StepAnswer.{StepAnswer}
+use Rattle.rules.specs.Answers.{StepAnswer}
 use Rattle.rules.specs.Answers.{is_accepted}
 use Rattle.rules.specs.Numbers.{processor_id}
 use Rattle.rig_parts.specs.MoveVerdicts.{move_refusal}
@@ -27,15 +27,6 @@ asked c = sym (c.is_accepted.ensures ∙ ap is_accepted c.move_refusal-q.ensures
 accepted : (c : Else-not-is_accepted) → is_accepted (answer c.before.before.before) ≡ true
 accepted c = asked c.before ∙ not-false _ c.if-not-is_accepted.false-raw
 
-pub move_refusal-q-requires : goal.move_refusal-q-requires
-move_refusal-q-requires c = search rules
-
-pub is_accepted-requires : goal.is_accepted-requires
-is_accepted-requires c = search rules
-
-pub refused-requires : goal.refused-requires
-refused-requires c = search rules
-
 pub returns-then-not-is_accepted : goal.returns-then-not-is_accepted
 returns-then-not-is_accepted c =
     let n = c.before.before in
@@ -43,9 +34,6 @@ returns-then-not-is_accepted c =
 
 pub overflow_cast-e : goal.overflow_cast-e
 overflow_cast-e c = record { fits = lt_of_le_of_lt (within_high 1 _ _ (move_passed _ _ _ _ _ _ (accepted c)).processor) (search rules) }
-
-pub posted-requires : goal.posted-requires
-posted-requires c = search rules
 
 pub returns : goal.returns
 returns c = c.posted.ensures ∙ sym (ap act_of (move_accepted _ _ _ _ _ _ (accepted c.before)))

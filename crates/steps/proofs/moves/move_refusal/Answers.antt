@@ -83,27 +83,9 @@ elsewhere c = sym (there c.before) ∙ c.if-is_at.false
 unspent : (c : Else-x-eq9999) → eqb (found (from5 c)).moves 9999 ≡ false
 unspent c = ap (λ k. eqb k 9999) (sym (moves_are c.before.before)) ∙ ne_eqb _ _ c.if-x-eq9999.false
 
-pub wide8-requires : goal.wide8-requires
-wide8-requires c = search rules
-
-pub wide8-requires-2 : goal.wide8-requires-2
-wide8-requires-2 c = search rules
-
-pub is_within-requires : goal.is_within-requires
-is_within-requires c = search rules
-
 pub returns-then-not-is_within : goal.returns-then-not-is_within
 unfolding move_refusal
 returns-then-not-is_within c = rw (sym (numbered c.before) ∙ not-true _ c.if-not-is_within.true-raw) refl
-
-pub wide8-requires-3 : goal.wide8-requires-3
-wide8-requires-3 c = search rules
-
-pub wide16-requires : goal.wide16-requires
-wide16-requires c = search rules
-
-pub is_within-requires-2 : goal.is_within-requires-2
-is_within-requires-2 c = search rules
 
 pub returns-then-not-is_within-2 : goal.returns-then-not-is_within-2
 unfolding move_refusal
@@ -115,17 +97,11 @@ task_at-x-requires c = omega (arith, (from2 c).requires, within_high 1 (from2 c)
 pub overflow_cast-e : goal.overflow_cast-e
 overflow_cast-e c = record { fits = lt_of_le_of_lt (within_high 1 _ _ (to_processor c.before)) (narrow (from2 c.before)) }
 
-pub is_in-requires : goal.is_in-requires
-is_in-requires c = search rules
-
 pub returns-then-not-is_in : goal.returns-then-not-is_in
 unfolding move_refusal
 returns-then-not-is_in c =
     let s = fetched c.before in
     rw (in_count (second s.before), to_processor s, sym (readied c.before) ∙ not-true _ c.if-not-is_in.true-raw) refl
-
-pub is_at-requires : goal.is_at-requires
-is_at-requires c = search rules
 
 pub returns-then-is_at : goal.returns-then-is_at
 unfolding move_refusal

@@ -7,6 +7,7 @@ use native.Mathlib.Nat.{lt_of_le_of_lt}
 use native.Mathlib.Omega.{arith}
 use borrow.Author.Rules.{rules}
 use borrow.Author.Tests.{not-true, not-false}
+use Rattle.std.specs.Prelude.{Ok}
 use Rattle.base.specs.Choice.{within}
 use Rattle.base.proofs.Tests.{within_low, within_high}
 use Rattle.plan.specs.declared.TaskId.{TaskId}
@@ -14,7 +15,6 @@ use Rattle.rules.specs.declared.task.Task.{Task}
 use Rattle.rules.specs.Answers.{is_accepted}
 use Rattle.rules.specs.Numbers.{processor_id}
 use Rattle.rules.specs.Systems.{task_in}
-use Rattle.rig_parts.specs.declared.change.Verdict.TheVariants.{Accepted as Allowed}
 use Rattle.rig_parts.specs.MoveVerdicts.{move_change, move_refusal, judged_move}
 use Rattle.rig_parts.proofs.Passed.{MovePassed, move_passed}
 use Rattle.plan_index.specs.user_table.Users.{senders_of, receivers_of}
@@ -54,12 +54,6 @@ going users board n t to can said is holds =
       at_processor = can.processor p.task p.ready;
       low = omega (arith, can.counts p.task p.ready, p.unspent);
     }
-
-pub move_decided-r-requires : goal.move_decided-r-requires
-move_decided-r-requires c = search rules
-
-pub is_accepted-requires : goal.is_accepted-requires
-is_accepted-requires c = search rules
 
 pub returns-then-not-is_accepted : goal.returns-then-not-is_accepted
 returns-then-not-is_accepted c =
@@ -116,8 +110,8 @@ returns c =
     let e = processor_id a.to in
     let gone = c.point_parent.new.board in
     let judged = judged_move a.n.tasks a.n.processors (tasks_on a.board.now) a.n.used a.t e in
-    let v : judged ≡ Allowed (move_change a.t c.task_at-x.result e) =
-    move_accepted _ _ _ _ _ _ k.accepted ∙ ap (λ (z : Task). Allowed (move_change a.t z e)) (sym c.task_at-x.ensures) in
+    let v : judged ≡ Ok (move_change a.t c.task_at-x.result e) =
+    move_accepted _ _ _ _ _ _ k.accepted ∙ ap (λ (z : Task). Ok (move_change a.t z e)) (sym c.task_at-x.ensures) in
     λ op on notes.
     move_acted (senders_of a.users.now) (receivers_of a.users.now) a.hintprocessors.now a.hintmoves.now op on notes a.board.now c.put_task.new.board gone c.locate.new.hintprocessors c.locate.new.hintmoves c.depart.new.board a.t e
     c.task_at-x.result c.departure.result judged c.departure.ensures v c.put_task.ensures.1 c.put_task.ensures.2 c.put_task.ensures.3

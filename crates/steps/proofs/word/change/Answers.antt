@@ -5,12 +5,6 @@ use Rattle.rules.specs.Systems.{task_stored}
 use Rattle.board.specs.Lent.{tasks_on}
 use Rattle.steps.proofs.word.change.Goals as goal
 
-pub word_changed-y-requires : goal.word_changed-y-requires
-word_changed-y-requires c = search rules
-
-pub put_task-requires : goal.put_task-requires
-put_task-requires c = search rules
-
 pub returns : goal.returns
 returns c =
     let e = c.put_task.ensures in

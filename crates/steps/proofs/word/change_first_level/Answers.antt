@@ -6,9 +6,6 @@ use Rattle.board.specs.Lent.{tasks_on}
 use Rattle.steps.proofs.Words.{above_kept, standing_kept}
 use Rattle.steps.proofs.word.change_first_level.Goals as goal
 
-pub word_changed-y-requires : goal.word_changed-y-requires
-word_changed-y-requires c = search rules
-
 pub put_first_level-requires : goal.put_first_level-requires
 put_first_level-requires c =
     let p = c.requires in

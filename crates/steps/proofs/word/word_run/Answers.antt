@@ -84,23 +84,11 @@ returns-then-s-ne1 c = ((λ e. refl), (λ e. never e))
 pub returns-then-s-ne0 : goal.returns-then-s-ne0
 returns-then-s-ne0 c = ((λ e. refl), (λ e. never e))
 
-pub wide8-requires : goal.wide8-requires
-wide8-requires c = search rules
-
-pub wide8-requires-2 : goal.wide8-requires-2
-wide8-requires-2 c = search rules
-
-pub is_within-requires : goal.is_within-requires
-is_within-requires c = search rules
-
 pub returns-then-not-is_within : goal.returns-then-not-is_within
 returns-then-not-is_within c = ((λ e. refl), (λ e. never e))
 
 pub task_at-x-requires : goal.task_at-x-requires
 task_at-x-requires c = few c
-
-pub is_in-requires : goal.is_in-requires
-is_in-requires c = search rules
 
 pub returns-then-not-is_in : goal.returns-then-not-is_in
 returns-then-not-is_in c = ((λ e. refl), (λ e. never e))

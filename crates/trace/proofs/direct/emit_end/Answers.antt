@@ -1,5 +1,4 @@
 -- `emit_end` puts the last line behind what is filled, if it fits.
-use borrow.Author.Rules.{rules}
 use Rattle.trace.proofs.Emitting.{put_back}
 use Rattle.trace.proofs.direct.emit_end.Goals as goal
 

@@ -1,5 +1,4 @@
 -- `emit_over` puts the line of a marked task behind what is filled, if it fits.
-use borrow.Author.Rules.{rules}
 use Rattle.trace.proofs.Emitting.{put_back}
 use Rattle.trace.proofs.direct.emit_over.Goals as goal
 

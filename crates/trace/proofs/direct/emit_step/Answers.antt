@@ -1,5 +1,4 @@
 -- `emit_step` puts the line of a step behind what is filled, if it fits.
-use borrow.Author.Rules.{rules}
 use Rattle.trace.proofs.Emitting.{put_back}
 use Rattle.trace.proofs.direct.emit_step.Goals as goal
 

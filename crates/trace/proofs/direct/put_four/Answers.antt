@@ -2,7 +2,6 @@
 use Prim.Native.Nat.{◌/◌}
 use native.Mathlib.Omega.{arith}
 use Rattle.trace.proofs.Putting.{digits_are, put_digit}
-use borrow.Author.Rules.{rules}
 use Rattle.trace.proofs.direct.put_four.Goals as goal
 
 pub returns : goal.returns

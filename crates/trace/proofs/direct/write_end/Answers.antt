@@ -1,15 +1,10 @@
 -- `write_end` writes the last line at the front, if it fits.
-use mathlib.Core.Path.{◌≡◌, refl}
-use mathlib.Core.List.{◌∷◌, ◌++◌}
-use Prim.Native.Nat.{◌+◌, ◌≤◌, ◌<◌}
+use mathlib.Core.Path.{refl}
 use native.Mathlib.Omega.{arith}
-use lib.ListN.{length, length-set}
-use Rattle.rules.specs.Trace.{decimal}
-use Rattle.trace.specs.Lines.{end_word}
+use lib.ListN.{length-set}
 use Rattle.trace.proofs.Emitting.{fits_not}
 use Rattle.trace.proofs.Putting.{put_length, put_to_more, line_end}
 use Rattle.trace.proofs.Lines.{end_text_lem, end_length, flag_length}
-use borrow.Author.Rules.{rules}
 use Rattle.trace.proofs.direct.write_end.Goals as goal
 
 pub returns-then-rest-digits : goal.returns-then-rest-digits
@@ -19,30 +14,30 @@ returns-then-rest-digits c =
 
 pub put_field-answer-requires : goal.put_field-answer-requires
 put_field-answer-requires c =
-    let w = c.put_end-word.ensures in
+    let w = c.put_word-word.ensures in
     (omega (arith, c.flag.ensures.1), omega (arith, c.digits.ensures, flag_length c.args.quiet c.flag.ensures.0, w.end, put_length w.put))
 
 pub put_field-end-requires : goal.put_field-end-requires
 put_field-end-requires c =
-    let w = c.put_end-word.ensures in
+    let w = c.put_word-word.ensures in
     let f = c.put_field-answer.ensures in
     (c.requires, omega (arith, c.digits.ensures, flag_length c.args.quiet c.flag.ensures.0, w.end, f.end, put_length (put_to_more w f).put))
 
 pub bounds-rest-end : goal.bounds-rest-end
 bounds-rest-end c =
-    let w = c.put_end-word.ensures in
+    let w = c.put_word-word.ensures in
     let f = c.put_field-answer.ensures in
     let e = c.put_field-end.ensures in
     omega (arith, c.digits.ensures, flag_length c.args.quiet c.flag.ensures.0, w.end, f.end, e.end, put_length (put_to_more (put_to_more w f) e).put)
 
 pub shape_of-rest : goal.shape_of-rest
 shape_of-rest c =
-    simp length-set (put_length (put_to_more (put_to_more c.put_end-word.ensures c.put_field-answer.ensures) c.put_field-end.ensures).put)
+    simp length-set (put_length (put_to_more (put_to_more c.put_word-word.ensures c.put_field-answer.ensures) c.put_field-end.ensures).put)
 
 pub returns : goal.returns
 returns c =
     let a = c.args in
-    let w = c.put_end-word.ensures in
+    let w = c.put_word-word.ensures in
     let f = c.put_field-answer.ensures in
     let e = c.put_field-end.ensures in
     let one = flag_length a.quiet c.flag.ensures.0 in

@@ -1,28 +1,6 @@
 -- `arrive_sending_at` is the rule for one channel.
-use borrow.Author.Rules.{rules}
 use Rattle.board.proofs.sweeps.Rules.{newer_stored, older_stored}
 use Rattle.board.proofs.sweeps.arrival.arrive_sending_at.Goals as goal
-
-pub channel_index-k-requires : goal.channel_index-k-requires
-channel_index-k-requires c = search rules
-
-pub entry_beside-i-requires : goal.entry_beside-i-requires
-entry_beside-i-requires c = search rules
-
-pub travelling_entry-h-requires : goal.travelling_entry-h-requires
-travelling_entry-h-requires c = search rules
-
-pub unknown-none-requires : goal.unknown-none-requires
-unknown-none-requires c = search rules
-
-pub put_travelling_entry-requires : goal.put_travelling_entry-requires
-put_travelling_entry-requires c = search rules
-
-pub hint_entry-own-requires : goal.hint_entry-own-requires
-hint_entry-own-requires c = search rules
-
-pub put_hint_entry-requires : goal.put_hint_entry-requires
-put_hint_entry-requires c = search rules
 
 pub returns-then-own-h : goal.returns-then-own-h
 returns-then-own-h c =

@@ -25,5 +25,5 @@ note-requires c =
 pub returns : goal.returns
 returns c =
     let t = c.args.t in
-    let e = rw c.wide8.ensures at c.emit_over-written.ensures in
+    let e = c.emit_over-written.ensures in
     rw (mark c.task_at-x.ensures ∙ not-false _ c.if-not-x.false, c.note.ensures) (next_noted _ _ _ c.requires.1 c.if-progress-ne0.false c.requires.2 e (omega (arith, over_length t)))

@@ -9,22 +9,22 @@ use Rattle.run.proofs.file.last.emit_marks.Goals as goal
 
 pub loop-t-init : goal.loop-t-init
 unfolding mark_lines fold
-loop-t-init c = (omega arith, next_none _ _)
+loop-t-init c = next_none _ _
 
 pub emit_mark-requires : goal.emit_mark-requires
 emit_mark-requires c =
-    let lines = c.loop-t.invariant.1 in
+    let lines = c.loop-t.invariant in
     (omega arith, lines.long ∙ c.requires.1, lines.room c.requires.2)
 
 pub loop-t-preserved : goal.loop-t-preserved
 unfolding mark_lines fold
 loop-t-preserved c =
-    (omega arith, rw add-one (next_then c.loop-t.invariant.1 (rw add-one at c.emit_mark.ensures)))
+    rw add-one (next_then c.loop-t.invariant (rw add-one at c.emit_mark.ensures))
 
 pub shape_of-out : goal.shape_of-out
-shape_of-out c = c.loop-t.invariant.1.kept
+shape_of-out c = c.loop-t.invariant.kept
 
 pub returns : goal.returns
 returns c =
     let e : c.loop-t.t ≡ c.args.tasks = omega arith in
-    rw e at c.loop-t.invariant.1
+    rw e at c.loop-t.invariant

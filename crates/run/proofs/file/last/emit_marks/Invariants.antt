@@ -7,7 +7,4 @@ use Rattle.run.proofs.file.last.emit_marks.Given as goal
 
 abbrev pub invariant-loop-t : goal.invariant-loop-t
 invariant-loop-t l =
-    (l.t ≤ l.tasks) × LinesNext (mark_lines (tasks_on l.board) l.t) l.initial.progress l.initial.out l.progress l.out
-
-abbrev pub decreases-loop-t : goal.decreases-loop-t
-decreases-loop-t l = l.tasks - l.t
+    LinesNext (mark_lines (tasks_on l.board) l.t) l.initial.progress l.initial.out l.progress l.out

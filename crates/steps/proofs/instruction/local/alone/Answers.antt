@@ -10,12 +10,6 @@ use Rattle.board.specs.Lent.{lent}
 use Rattle.steps.proofs.instruction.Locals.{two_acted}
 use Rattle.steps.proofs.instruction.local.alone.Goals as goal
 
-pub put_task-requires : goal.put_task-requires
-put_task-requires c = search rules
-
-pub posted-requires : goal.posted-requires
-posted-requires c = search rules
-
 pub returns : goal.returns
 unfolding task_stored
 returns c ss rs hp hm op on notes d =

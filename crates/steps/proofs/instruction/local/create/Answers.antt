@@ -11,28 +11,10 @@ use Rattle.board.specs.Lent.{lent}
 use Rattle.steps.proofs.instruction.Locals.{two_acted}
 use Rattle.steps.proofs.instruction.local.create.Goals as goal
 
-pub create_rule-y-requires : goal.create_rule-y-requires
-create_rule-y-requires c = search rules
-
-pub birth-child-requires : goal.birth-child-requires
-birth-child-requires c = search rules
-
-pub put_task-requires : goal.put_task-requires
-put_task-requires c = search rules
-
-pub put_task-requires-2 : goal.put_task-requires-2
-put_task-requires-2 c = search rules
-
 pub point_parent-requires : goal.point_parent-requires
 point_parent-requires c =
     let can = c.requires.2 in
     (record { processor_low = can.processor_low; processor = can.processor; task = can.child }, c.put_task-2.ensures.0)
-
-pub locate-requires : goal.locate-requires
-locate-requires c = search rules
-
-pub posted-requires : goal.posted-requires
-posted-requires c = search rules
 
 pub returns : goal.returns
 returns c ss op on notes =

@@ -2,7 +2,7 @@
 use mathlib.Core.Path.{◌≡◌, refl, sym, ◌∙◌}
 use borrow.Author.Rules.{rules}
 use borrow.Author.Tests.{not-true, not-false}
-use Rattle.rig_parts.specs.declared.change.Verdict.TheVariants.{Accepted}
+use Rattle.std.specs.Prelude.{Ok}
 use Rattle.rig_parts.specs.RunVerdicts.{fitting_in}
 use Rattle.plan_index.specs.user_table.Users.{parents_of}
 use Rattle.board.specs.Lent.{lent, tasks_on, parents_on}
@@ -11,15 +11,6 @@ use Rattle.steps.specs.instruction.Locals.{finish_change}
 use Rattle.steps.proofs.instruction.Locals.{two_acted}
 use Rattle.steps.proofs.instruction.local.finish.Goals as goal
 
-pub finished-f-requires : goal.finished-f-requires
-finished-f-requires c = search rules
-
-pub fits-requires : goal.fits-requires
-fits-requires c = search rules
-
-pub refused-requires : goal.refused-requires
-refused-requires c = search rules
-
 pub returns-then-not-fits : goal.returns-then-not-fits
 returns-then-not-fits c ss rs hp hm op on notes =
     let a = c.args in
@@ -27,23 +18,14 @@ returns-then-not-fits c ss rs hp hm op on notes =
     let said = rw c.finished-f.ensures at c.fits.ensures in
     none_fits a.n.processors a.n.used k.scope {o = k.outcome} ss rs refl said k.sweep (not-true c.fits.result c.if-not-fits.true-raw) c.refused.ensures c.requires.0
 
-pub parent-u-requires : goal.parent-u-requires
-parent-u-requires c = search rules
-
 pub put_task-requires : goal.put_task-requires
 put_task-requires c =
     (rw c.parent-u.ensures c.requires.2.parent, c.requires.0)
-
-pub put_task-requires-2 : goal.put_task-requires-2
-put_task-requires-2 c = search rules
 
 pub put_parent-requires : goal.put_parent-requires
 put_parent-requires c =
     let can = c.requires.2 in
     (record { processor_low = can.processor_low; processor = can.processor; task = rw c.parent-u.ensures can.parent }, c.put_task-2.ensures.0)
-
-pub posted-requires : goal.posted-requires
-posted-requires c = search rules
 
 pub returns : goal.returns
 returns c ss rs hp hm op on notes =
@@ -54,7 +36,7 @@ returns c ss rs hp hm op on notes =
     let two = c.put_task-2.ensures in
     let put = c.put_parent in
     let said = rw c.finished-f.ensures at c.fits.ensures in
-    let v : fitting_in a.n.processors a.n.used k ≡ Accepted k = rw (sym said, not-false c.fits.result c.if-not-fits.false-raw) refl in
+    let v : fitting_in a.n.processors a.n.used k ≡ Ok k = rw (sym said, not-false c.fits.result c.if-not-fits.false-raw) refl in
     rw v
     (two_acted ss rs k.scope.sender a.t a.x.processor k.outcome.sender k.outcome.receiver k.outcome.posting k.sweep
     (lent hp hm op on notes a.board.now) (lent hp hm op on notes put.new.board)

@@ -4,20 +4,8 @@ use borrow.Author.Rules.{rules}
 use borrow.Author.Tests.{not-true, not-false}
 use Rattle.steps.proofs.instruction.local.finish_decided.Goals as goal
 
-pub finished-f-requires : goal.finished-f-requires
-finished-f-requires c = search rules
-
-pub fits-requires : goal.fits-requires
-fits-requires c = search rules
-
-pub refused-requires : goal.refused-requires
-refused-requires c = search rules
-
 pub returns-then-not-fits : goal.returns-then-not-fits
 returns-then-not-fits c = let said = sym (rw c.finished-f.ensures at c.fits.ensures) in c.refused.ensures ∙ rw (said, not-true c.fits.result c.if-not-fits.true-raw) refl
-
-pub posted-requires : goal.posted-requires
-posted-requires c = search rules
 
 pub returns : goal.returns
 returns c = let said = sym (rw c.finished-f.ensures at c.fits.ensures) in c.posted.ensures ∙ rw (said, not-false c.fits.result c.if-not-fits.false-raw, c.finished-f.ensures) refl

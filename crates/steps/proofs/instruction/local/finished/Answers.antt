@@ -3,9 +3,6 @@ use mathlib.Core.Path.{refl, ◌∙◌}
 use borrow.Author.Rules.{rules}
 use Rattle.steps.proofs.instruction.local.finished.Goals as goal
 
-pub parent-u-requires : goal.parent-u-requires
-parent-u-requires c = search rules
-
 pub task_at-a-requires : goal.task_at-a-requires
 task_at-a-requires c = rw c.parent-u.ensures c.requires.parent
 
@@ -13,9 +10,6 @@ pub parent_at-e-requires : goal.parent_at-e-requires
 parent_at-e-requires c =
     let can = c.requires in
     record { processor_low = can.processor_low; processor = can.processor; task = rw c.parent-u.ensures can.parent }
-
-pub finish_rule-requires : goal.finish_rule-requires
-finish_rule-requires c = search rules
 
 pub returns : goal.returns
 returns c = c.finish_rule.ensures ∙ rw (c.parent_at-e.ensures, c.task_at-a.ensures, c.parent-u.ensures) refl

@@ -4,6 +4,7 @@ use mathlib.Core.Bool.{true, false, not, ◌&&◌}
 use native.Mathlib.Omega.{arith}
 use borrow.Author.Rules.{rules}
 use borrow.Author.Tests.{eq-eqb, ne_eqb, not-true, not-false}
+use Rattle.std.specs.Prelude.{Ok}
 use Rattle.base.specs.Choice.{within}
 use Rattle.base.proofs.Tests.{within_low, within_high}
 use Rattle.plan.specs.declared.Instruction.{Instruction}
@@ -14,7 +15,6 @@ use Rattle.rules.specs.Tasks.{is_in, is_childless}
 use Rattle.rules.specs.Systems.{task_in}
 use Rattle.rig_parts.specs.Fetches.{instruction_in}
 use Rattle.board.specs.Lent.{tasks_on}
-use Rattle.steps.specs.declared.instruction.next.Next.TheVariants.{Runs}
 use Rattle.steps.specs.instruction.Nexts.{next_of}
 use Rattle.steps.proofs.instruction.Nexts.{no_task_lem, not_ready, with_children_lem, can_run_lem}
 use Rattle.steps.proofs.instruction.next.next_of.Goals as goal
@@ -46,7 +46,7 @@ next_is : (c : After-instruction_in-i) → c.instruction_in-i.result ≡ next c.
 next_is c = rw c.task_at-x.ensures at c.instruction_in-i.ensures
 
 -- what is found where no test refuses
-runs : (c : After-instruction_in-i) → is_finish (next c.before.before.before.before) && not (is_childless (task c.before.before.before.before)) ≡ false → Runs c.task_at-x.result c.instruction_in-i.result
+runs : (c : After-instruction_in-i) → is_finish (next c.before.before.before.before) && not (is_childless (task c.before.before.before.before)) ≡ false → Ok (c.task_at-x.result, c.instruction_in-i.result)
     ≡ next_of c.args.codes.now c.args.count (tasks_on c.args.board.now) c.args.t
 runs c e =
     let a = c.args in
@@ -63,15 +63,6 @@ finish_is c = kind_is c.before.before ∙ eq-eqb c.instruction_in-i.result.opcod
 childless_is : (c : After-is_childless) → c.is_childless.result ≡ is_childless (task c.before.before.before.before.before.before.before)
 childless_is c = rw c.task_at-x.ensures at c.is_childless.ensures
 
-pub wide8-requires : goal.wide8-requires
-wide8-requires c = search rules
-
-pub wide8-requires-2 : goal.wide8-requires-2
-wide8-requires-2 c = search rules
-
-pub is_within-requires : goal.is_within-requires
-is_within-requires c = search rules
-
 pub returns-then-not-is_within : goal.returns-then-not-is_within
 returns-then-not-is_within c =
     let a = c.args in
@@ -79,9 +70,6 @@ returns-then-not-is_within c =
 
 pub task_at-x-requires : goal.task_at-x-requires
 task_at-x-requires c = omega (arith, c.requires.few, within_high 1 c.args.count c.args.t.0 (counted c))
-
-pub is_in-requires : goal.is_in-requires
-is_in-requires c = search rules
 
 pub returns-then-not-is_in : goal.returns-then-not-is_in
 returns-then-not-is_in c =
@@ -96,9 +84,6 @@ instruction_in-i-requires c =
     let p = c.requires.place a.t w (ready c) in
     let e = c.task_at-x.ensures in
     (within_low 1 a.count a.t.0 w, omega (arith, c.requires.few, within_high 1 a.count a.t.0 w), rw e (within_low 1 64 x.pc p), rw e (within_high 1 64 x.pc p))
-
-pub is_childless-requires : goal.is_childless-requires
-is_childless-requires c = search rules
 
 pub returns-then-not-is_childless : goal.returns-then-not-is_childless
 returns-then-not-is_childless c =

@@ -12,15 +12,6 @@ use Rattle.rig_parts.specs.declared.sweep.Sweep.TheVariants.{Nothing}
 use Rattle.rules.specs.Systems.{task_in}
 use Rattle.steps.proofs.instruction.receive.receive.Goals as goal
 
-pub receive_outcome-o-requires : goal.receive_outcome-o-requires
-receive_outcome-o-requires c = search rules
-
-pub fits-requires : goal.fits-requires
-fits-requires c = search rules
-
-pub refused-requires : goal.refused-requires
-refused-requires c = search rules
-
 pub returns-then-not-fits : goal.returns-then-not-fits
 returns-then-not-fits c =
     let s = c.args in
@@ -31,14 +22,8 @@ returns-then-not-fits c =
     (receive_kept s.codes.now s.numbers.now (senders_of s.users.now) s.notes.now s.board.now s.t s.c g.at.channel_low hp hm op on c.receive_outcome-o.ensures)
     c.fits.ensures Nothing (not-true c.fits.result c.if-not-fits.true-raw) c.refused.ensures c.requires.0
 
-pub sender-u-requires : goal.sender-u-requires
-sender-u-requires c = search rules
-
 pub put_task-requires : goal.put_task-requires
 put_task-requires c = (rw c.sender-u.ensures c.requires.1.receivable.sender, c.requires.0)
-
-pub put_task-requires-2 : goal.put_task-requires-2
-put_task-requires-2 c = search rules
 
 pub put_note-requires : goal.put_note-requires
 put_note-requires c =
@@ -51,9 +36,6 @@ put_note-requires c =
 
 pub put_channel-requires : goal.put_channel-requires
 put_channel-requires c = let g = c.requires.1.receivable.at in (g.channel_low, g.channel, c.put_task-2.ensures.0)
-
-pub accepted-requires : goal.accepted-requires
-accepted-requires c = search rules
 
 pub returns : goal.returns
 returns c =

@@ -8,12 +8,6 @@ use Rattle.steps.proofs.instruction.Receiving.{receive_kept}
 use borrow.Author.Rules.{rules}
 use Rattle.steps.proofs.instruction.receive.receive_decided.Goals as goal
 
-pub receive_outcome-o-requires : goal.receive_outcome-o-requires
-receive_outcome-o-requires c = search rules
-
-pub fitted-requires : goal.fitted-requires
-fitted-requires c = search rules
-
 pub returns : goal.returns
 returns c =
     let s = c.args in

@@ -6,32 +6,14 @@ use Rattle.steps.proofs.instruction.Receiving.{receive_fetched}
 use borrow.Author.Rules.{rules}
 use Rattle.steps.proofs.instruction.receive.receive_outcome.Goals as goal
 
-pub task_at-b-requires : goal.task_at-b-requires
-task_at-b-requires c = search rules
-
-pub sender-u-requires : goal.sender-u-requires
-sender-u-requires c = search rules
-
 pub task_at-a-requires : goal.task_at-a-requires
 task_at-a-requires c = rw c.sender-u.ensures c.requires.sender
 
 pub note_at-noted-requires : goal.note_at-noted-requires
 note_at-noted-requires c = rw c.task_at-b.ensures c.requires.at
 
-pub channel_at-channel-requires : goal.channel_at-channel-requires
-channel_at-channel-requires c = search rules
-
 pub is_on-sending-requires : goal.is_on-sending-requires
 is_on-sending-requires c = (rw c.sender-u.ensures c.requires.sender, rw (c.task_at-a.ensures, c.sender-u.ensures) c.requires.sender_place)
-
-pub unknown-hint-requires : goal.unknown-hint-requires
-unknown-hint-requires c = search rules
-
-pub no_offer-held-requires : goal.no_offer-held-requires
-no_offer-held-requires c = search rules
-
-pub cell_of-cell-requires : goal.cell_of-cell-requires
-cell_of-cell-requires c = search rules
 
 pub last_number-w-requires : goal.last_number-w-requires
 last_number-w-requires c = (rw c.sender-u.ensures c.requires.sender, rw (c.task_at-a.ensures, c.sender-u.ensures) c.requires.sender_place)

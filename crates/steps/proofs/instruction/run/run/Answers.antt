@@ -4,12 +4,13 @@ use mathlib.Core.List.{List}
 use Prim.Native.Nat.{ℕ, ◌≤◌}
 use native.Mathlib.Omega.{arith}
 use borrow.Author.Rules.{rules}
+use Rattle.std.specs.Prelude.{Ok, Err}
 use Rattle.plan.specs.declared.ProcessorId.{ProcessorId}
 use Rattle.plan.specs.declared.TaskId.{TaskId}
 use Rattle.plan.specs.declared.Instruction.{Instruction}
 use Rattle.plan.specs.Kinds.{op_create, op_send, op_receive}
 use Rattle.rules.specs.declared.task.Task.{Task}
-use Rattle.rig_parts.specs.declared.change.Verdict.{Verdict}
+use Rattle.rig_parts.specs.Answers.{Verdict}
 use Rattle.plan_index.specs.user_table.Users.{senders_of, receivers_of}
 use Rattle.rig_parts.proofs.BoundsParts.{used_few}
 use Rattle.board.specs.declared.act.Act.{Act}
@@ -17,8 +18,7 @@ use Rattle.board.specs.declared.act.Size.{Size}
 use Rattle.board.specs.Lent.{Lent, lent, tasks_of, kept_of}
 use Rattle.board.specs.Acted.{Acted}
 use Rattle.board.specs.Rigs.{RigOn, facts_in}
-use Rattle.steps.specs.declared.instruction.next.Next.{Next}
-use Rattle.steps.specs.declared.instruction.next.Next.TheVariants.{Refused, Runs}
+use Rattle.steps.specs.instruction.Nexts.{Next}
 use Rattle.steps.specs.instruction.Nexts.{next_of}
 use Rattle.steps.specs.instruction.Locals.{alone_verdict}
 use Rattle.steps.proofs.instruction.Refusals.{placed}
@@ -32,7 +32,7 @@ done senders receivers before {u} {v} {r} {after} e d = subst (λ (z : Verdict).
 
 -- the ready task, and its next instruction, where that is found
 going : {codes numbers users : List ℕ} {n : Size} {l : Lent} → RigOn codes numbers users n l → (t : TaskId) {k : Next} {x : Task} {i : Instruction}
-    → k ≡ next_of codes n.tasks (tasks_of l) t → k ≡ Runs x i
+    → k ≡ next_of codes n.tasks (tasks_of l) t → k ≡ Ok (x, i)
     → ReadyWith (facts_in n.tasks codes numbers users) n.processors (tasks_of l) (kept_of l) n.used t x i
 going {codes} {numbers} {users} {n} {l} rig t {k} {x} {i} said is =
     ready_with (facts_in n.tasks codes numbers users) n.processors (tasks_of l) (kept_of l) n.used t rig.parts x i (sym said ∙ is)
@@ -50,59 +50,56 @@ next_of-found-requires c = placed c.requires.parts
 pub enum_known-found : goal.enum_known-found
 enum_known-found c = search rules
 
-pub refused-requires : goal.refused-requires
-refused-requires c = search rules
-
-pub enum_known-found-in-Runs-1 : goal.enum_known-found-in-Runs-1
-enum_known-found-in-Runs-1 c = search rules
+pub enum_known-found-in-Ok-1 : goal.enum_known-found-in-Ok-1
+enum_known-found-in-Ok-1 c = search rules
 
 pub overflow_cast-u : goal.overflow_cast-u
-overflow_cast-u c = omega (arith, argument_few (going c.requires c.args.t c.next_of-found.ensures c.in-Runs.is) op_create c.in-1.is refl)
+overflow_cast-u c = omega (arith, argument_few (going c.requires c.args.t c.next_of-found.ensures c.in-Ok.is) op_create c.in-1.is refl)
 
 pub create-requires : goal.create-requires
-create-requires c = (c.requires.whole, c.requires.indexed, create_can (going c.requires c.args.t c.next_of-found.ensures c.in-Runs.is) c.in-1.is)
+create-requires c = (c.requires.whole, c.requires.indexed, create_can (going c.requires c.args.t c.next_of-found.ensures c.in-Ok.is) c.in-1.is)
 
 pub sync_rule-y-requires : goal.sync_rule-y-requires
-sync_rule-y-requires c = place_few (going c.requires c.args.t c.next_of-found.ensures c.in-Runs.is)
+sync_rule-y-requires c = place_few (going c.requires c.args.t c.next_of-found.ensures c.in-Ok.is)
 
 pub alone-requires : goal.alone-requires
-alone-requires c = (task_few (going c.requires c.args.t c.next_of-found.ensures c.in-Runs.is), c.requires.whole)
+alone-requires c = (task_few (going c.requires c.args.t c.next_of-found.ensures c.in-Ok.is), c.requires.whole)
 
 pub finish-requires : goal.finish-requires
-finish-requires c = (c.requires.whole, used_few c.requires.parts, finish_can (going c.requires c.args.t c.next_of-found.ensures c.in-Runs.is))
+finish-requires c = (c.requires.whole, used_few c.requires.parts, finish_can (going c.requires c.args.t c.next_of-found.ensures c.in-Ok.is))
 
 pub overflow_cast-c : goal.overflow_cast-c
-overflow_cast-c c = omega (arith, argument_few (going c.requires c.args.t c.next_of-found.ensures c.in-Runs.is) op_send c.in-4.is refl)
+overflow_cast-c c = omega (arith, argument_few (going c.requires c.args.t c.next_of-found.ensures c.in-Ok.is) op_send c.in-4.is refl)
 
 pub send-requires : goal.send-requires
-send-requires c = (c.requires.whole, sends_can (going c.requires c.args.t c.next_of-found.ensures c.in-Runs.is) c.in-4.is)
+send-requires c = (c.requires.whole, sends_can (going c.requires c.args.t c.next_of-found.ensures c.in-Ok.is) c.in-4.is)
 
 pub overflow_cast-c-in-5 : goal.overflow_cast-c-in-5
-overflow_cast-c-in-5 c = omega (arith, argument_few (going c.requires c.args.t c.next_of-found.ensures c.in-Runs.is) op_receive c.in-5.is refl)
+overflow_cast-c-in-5 c = omega (arith, argument_few (going c.requires c.args.t c.next_of-found.ensures c.in-Ok.is) op_receive c.in-5.is refl)
 
 pub receive-requires : goal.receive-requires
-receive-requires c = (c.requires.whole, receives_can (going c.requires c.args.t c.next_of-found.ensures c.in-Runs.is) c.in-5.is)
+receive-requires c = (c.requires.whole, receives_can (going c.requires c.args.t c.next_of-found.ensures c.in-Ok.is) c.in-5.is)
 
 pub set_rule-y-requires : goal.set_rule-y-requires
-set_rule-y-requires c = place_few (going c.requires c.args.t c.next_of-found.ensures c.in-Runs.is)
+set_rule-y-requires c = place_few (going c.requires c.args.t c.next_of-found.ensures c.in-Ok.is)
 
 pub alone-requires-in-6 : goal.alone-requires-in-6
-alone-requires-in-6 c = (task_few (going c.requires c.args.t c.next_of-found.ensures c.in-Runs.is), c.requires.whole)
+alone-requires-in-6 c = (task_few (going c.requires c.args.t c.next_of-found.ensures c.in-Ok.is), c.requires.whole)
 
 pub add_rule-y-requires : goal.add_rule-y-requires
-add_rule-y-requires c = place_few (going c.requires c.args.t c.next_of-found.ensures c.in-Runs.is)
+add_rule-y-requires c = place_few (going c.requires c.args.t c.next_of-found.ensures c.in-Ok.is)
 
 pub alone-requires-in_default : goal.alone-requires-in_default
-alone-requires-in_default c = (task_few (going c.requires c.args.t c.next_of-found.ensures c.in-Runs.is), c.requires.whole)
+alone-requires-in_default c = (task_few (going c.requires c.args.t c.next_of-found.ensures c.in-Ok.is), c.requires.whole)
 
-pub returns-in-Refused : goal.returns-in-Refused
-returns-in-Refused c =
+pub returns-in-Err : goal.returns-in-Err
+returns-in-Err c =
     let a = c.args in
     let ss = senders_of a.users.now in
     let rs = receivers_of a.users.now in
     let f = facts_in a.n.tasks a.codes.now a.numbers.now a.users.now in
     let l = lent a.hintprocessors.now a.hintmoves.now a.heldprocessors.now a.heldnumbers.now a.notes.now a.board.now in
-    done ss rs l (next_judged f a.n.processors (tasks_of l) (kept_of l) a.n.used a.t (Refused c.in-Refused.q) (sym c.next_of-found.ensures ∙ c.in-Refused.is))
+    done ss rs l (next_judged f a.n.processors (tasks_of l) (kept_of l) a.n.used a.t (Err c.in-Err.e) (sym c.next_of-found.ensures ∙ c.in-Err.is))
     (record { whole = c.requires.whole; act = c.refused.ensures; tasks = refl; store = refl; parents = refl })
 
 pub returns-in-1 : goal.returns-in-1
@@ -111,15 +108,15 @@ returns-in-1 c =
     let ss = senders_of a.users.now in
     let rs = receivers_of a.users.now in
     done ss rs (lent a.hintprocessors.now a.hintmoves.now a.heldprocessors.now a.heldnumbers.now a.notes.now a.board.now)
-    (create_judged (going c.requires c.args.t c.next_of-found.ensures c.in-Runs.is) c.in-1.is) (c.create.ensures ss a.heldprocessors.now a.heldnumbers.now a.notes.now)
+    (create_judged (going c.requires c.args.t c.next_of-found.ensures c.in-Ok.is) c.in-1.is) (c.create.ensures ss a.heldprocessors.now a.heldnumbers.now a.notes.now)
 
 pub returns-in-2 : goal.returns-in-2
 returns-in-2 c =
     let a = c.args in
     let ss = senders_of a.users.now in
     let rs = receivers_of a.users.now in
-    alone_done ss rs a.hintprocessors.now a.hintmoves.now a.heldprocessors.now a.heldnumbers.now a.notes.now a.board.now a.t c.in-Runs.x
-    (sync_judged (going c.requires c.args.t c.next_of-found.ensures c.in-Runs.is) c.in-2.is) c.sync_rule-y.ensures c.alone.ensures
+    alone_done ss rs a.hintprocessors.now a.hintmoves.now a.heldprocessors.now a.heldnumbers.now a.notes.now a.board.now a.t c.in-Ok.x
+    (sync_judged (going c.requires c.args.t c.next_of-found.ensures c.in-Ok.is) c.in-2.is) c.sync_rule-y.ensures c.alone.ensures
 
 pub returns-in-3 : goal.returns-in-3
 returns-in-3 c =
@@ -127,7 +124,7 @@ returns-in-3 c =
     let ss = senders_of a.users.now in
     let rs = receivers_of a.users.now in
     done ss rs (lent a.hintprocessors.now a.hintmoves.now a.heldprocessors.now a.heldnumbers.now a.notes.now a.board.now)
-    (finish_judged (going c.requires c.args.t c.next_of-found.ensures c.in-Runs.is) c.in-3.is)
+    (finish_judged (going c.requires c.args.t c.next_of-found.ensures c.in-Ok.is) c.in-3.is)
     (c.finish.ensures ss rs a.hintprocessors.now a.hintmoves.now a.heldprocessors.now a.heldnumbers.now a.notes.now)
 
 pub returns-in-4 : goal.returns-in-4
@@ -136,7 +133,7 @@ returns-in-4 c =
     let ss = senders_of a.users.now in
     let rs = receivers_of a.users.now in
     done ss rs (lent a.hintprocessors.now a.hintmoves.now a.heldprocessors.now a.heldnumbers.now a.notes.now a.board.now)
-    (sends_judged (going c.requires c.args.t c.next_of-found.ensures c.in-Runs.is) c.in-4.is) (c.send.ensures ss a.notes.now)
+    (sends_judged (going c.requires c.args.t c.next_of-found.ensures c.in-Ok.is) c.in-4.is) (c.send.ensures ss a.notes.now)
 
 pub returns-in-5 : goal.returns-in-5
 returns-in-5 c =
@@ -144,7 +141,7 @@ returns-in-5 c =
     let ss = senders_of a.users.now in
     let rs = receivers_of a.users.now in
     done ss rs (lent a.hintprocessors.now a.hintmoves.now a.heldprocessors.now a.heldnumbers.now a.notes.now a.board.now)
-    (receives_judged (going c.requires c.args.t c.next_of-found.ensures c.in-Runs.is) c.in-5.is)
+    (receives_judged (going c.requires c.args.t c.next_of-found.ensures c.in-Ok.is) c.in-5.is)
     (c.receive.ensures rs a.hintprocessors.now a.hintmoves.now a.heldprocessors.now a.heldnumbers.now)
 
 pub returns-in-6 : goal.returns-in-6
@@ -152,14 +149,14 @@ returns-in-6 c =
     let a = c.args in
     let ss = senders_of a.users.now in
     let rs = receivers_of a.users.now in
-    alone_done ss rs a.hintprocessors.now a.hintmoves.now a.heldprocessors.now a.heldnumbers.now a.notes.now a.board.now a.t c.in-Runs.x
-    (set_judged (going c.requires c.args.t c.next_of-found.ensures c.in-Runs.is) c.in-6.is) c.set_rule-y.ensures c.alone-in-6.ensures
+    alone_done ss rs a.hintprocessors.now a.hintmoves.now a.heldprocessors.now a.heldnumbers.now a.notes.now a.board.now a.t c.in-Ok.x
+    (set_judged (going c.requires c.args.t c.next_of-found.ensures c.in-Ok.is) c.in-6.is) c.set_rule-y.ensures c.alone-in-6.ensures
 
 pub returns-in_default : goal.returns-in_default
 returns-in_default c =
     let a = c.args in
     let ss = senders_of a.users.now in
     let rs = receivers_of a.users.now in
-    let other : (k : ℕ) → 1 ≤ k → k ≤ 6 → c.in-Runs.i.opcode ≡ k → ⊥ = λ k l h e. omega (arith, c.in_default.in_default-own) in
-    alone_done ss rs a.hintprocessors.now a.hintmoves.now a.heldprocessors.now a.heldnumbers.now a.notes.now a.board.now a.t c.in-Runs.x
-    (add_judged (going c.requires c.args.t c.next_of-found.ensures c.in-Runs.is) other) c.add_rule-y.ensures c.alone-in_default.ensures
+    let other : (k : ℕ) → 1 ≤ k → k ≤ 6 → c.in-Ok.i.opcode ≡ k → ⊥ = λ k l h e. omega (arith, c.in_default.in_default-own) in
+    alone_done ss rs a.hintprocessors.now a.hintmoves.now a.heldprocessors.now a.heldnumbers.now a.notes.now a.board.now a.t c.in-Ok.x
+    (add_judged (going c.requires c.args.t c.next_of-found.ensures c.in-Ok.is) other) c.add_rule-y.ensures c.alone-in_default.ensures

@@ -13,15 +13,6 @@ use Rattle.rig_parts.specs.declared.sweep.Sweep.TheVariants.{Nothing}
 use Rattle.rules.specs.Systems.{task_in}
 use Rattle.steps.proofs.instruction.send.send.Goals as goal
 
-pub send_outcome-o-requires : goal.send_outcome-o-requires
-send_outcome-o-requires c = search rules
-
-pub fits-requires : goal.fits-requires
-fits-requires c = search rules
-
-pub refused-requires : goal.refused-requires
-refused-requires c = search rules
-
 pub returns-then-not-fits : goal.returns-then-not-fits
 returns-then-not-fits c =
     let s = c.args in
@@ -31,12 +22,6 @@ returns-then-not-fits c =
     none_fits s.n.processors s.n.used k senders (receivers_of s.users.now)
     (send_noted s.codes.now s.numbers.now (receivers_of s.users.now) s.hintprocessors.now s.hintmoves.now s.heldprocessors.now s.heldnumbers.now s.board.now s.t s.c g.at.channel_low notes c.send_outcome-o.ensures)
     c.fits.ensures Nothing (not-true c.fits.result c.if-not-fits.true-raw) c.refused.ensures c.requires.0
-
-pub receiver-u-requires : goal.receiver-u-requires
-receiver-u-requires c = search rules
-
-pub put_task-requires : goal.put_task-requires
-put_task-requires c = search rules
 
 pub put_task-requires-2 : goal.put_task-requires-2
 put_task-requires-2 c = (rw c.receiver-u.ensures c.requires.1.sendable.receiver, c.put_task.ensures.0)
@@ -51,9 +36,6 @@ put_held-requires c =
 
 pub put_channel-requires : goal.put_channel-requires
 put_channel-requires c = let g = c.requires.1.sendable.at in (g.channel_low, g.channel, c.put_task-2.ensures.0)
-
-pub accepted-requires : goal.accepted-requires
-accepted-requires c = search rules
 
 pub returns : goal.returns
 returns c =

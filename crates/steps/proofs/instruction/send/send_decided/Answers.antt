@@ -8,12 +8,6 @@ use Rattle.steps.proofs.instruction.Sending.{send_noted}
 use borrow.Author.Rules.{rules}
 use Rattle.steps.proofs.instruction.send.send_decided.Goals as goal
 
-pub send_outcome-o-requires : goal.send_outcome-o-requires
-send_outcome-o-requires c = search rules
-
-pub fitted-requires : goal.fitted-requires
-fitted-requires c = search rules
-
 pub returns : goal.returns
 returns c =
     let s = c.args in

@@ -12,9 +12,6 @@ use Rattle.steps.proofs.message.advert.advert.Goals as goal
 pub enum_known-m : goal.enum_known-m
 enum_known-m c = search rules
 
-pub posted-requires : goal.posted-requires
-posted-requires c = search rules
-
 pub advert_outcome-o-requires : goal.advert_outcome-o-requires
 advert_outcome-o-requires c = rw c.in-Advert.is at c.requires
 
@@ -23,9 +20,6 @@ put_note-requires c = (advert_bounded c.requires.1.holds.holds.holds.holds c.in-
 
 pub put_channel-requires : goal.put_channel-requires
 put_channel-requires c = let b = advert_bounded c.requires.1.holds.holds.holds.holds c.in-Advert.is in (b.cell.channel_low, b.cell.channel, b.whole)
-
-pub accepted-requires : goal.accepted-requires
-accepted-requires c = search rules
 
 pub returns : goal.returns
 returns c =

@@ -10,23 +10,11 @@ use Rattle.steps.proofs.message.advert.advert_outcome.Goals as goal
 pub enum_known-m : goal.enum_known-m
 enum_known-m c = search rules
 
-pub unopened-requires : goal.unopened-requires
-unopened-requires c = search rules
-
 pub note_at-noted-requires : goal.note_at-noted-requires
 note_at-noted-requires c = (advert_bounded c.requires.1.holds.holds.holds.holds c.in-Advert.is).cell
 
 pub channel_at-channel-requires : goal.channel_at-channel-requires
 channel_at-channel-requires c = let b = advert_bounded c.requires.1.holds.holds.holds.holds c.in-Advert.is in (b.cell.channel_low, b.cell.channel)
-
-pub unknown-unknown-requires : goal.unknown-unknown-requires
-unknown-unknown-requires c = search rules
-
-pub no_offer-none-requires : goal.no_offer-none-requires
-no_offer-none-requires c = search rules
-
-pub cell_of-cell-requires : goal.cell_of-cell-requires
-cell_of-cell-requires c = search rules
 
 pub at_receiver-x-requires : goal.at_receiver-x-requires
 at_receiver-x-requires c = let b = advert_bounded c.requires.1.holds.holds.holds.holds c.in-Advert.is in (b.cell.channel, b.receiver, b.receiver_place)

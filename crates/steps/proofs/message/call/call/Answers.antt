@@ -14,9 +14,6 @@ use Rattle.steps.proofs.message.call.call.Goals as goal
 pub enum_known-m : goal.enum_known-m
 enum_known-m c = search rules
 
-pub posted-requires : goal.posted-requires
-posted-requires c = search rules
-
 pub call_outcome-o-requires : goal.call_outcome-o-requires
 call_outcome-o-requires c = rw c.in-ReadyToReceive.is at c.requires
 
@@ -28,9 +25,6 @@ put_task-requires c = let b = call_bounded c.requires.1.holds.holds.holds c.in-R
 
 pub put_hint-requires : goal.put_hint-requires
 put_hint-requires c = (call_bounded c.requires.1.holds.holds.holds c.in-ReadyToReceive.is).cell
-
-pub accepted-requires : goal.accepted-requires
-accepted-requires c = search rules
 
 pub returns : goal.returns
 returns c =

@@ -10,9 +10,6 @@ use Rattle.steps.proofs.message.call.call_outcome.Goals as goal
 pub enum_known-m : goal.enum_known-m
 enum_known-m c = search rules
 
-pub unopened-requires : goal.unopened-requires
-unopened-requires c = search rules
-
 pub sender-u-requires : goal.sender-u-requires
 sender-u-requires c = (call_bounded c.requires.1.holds.holds.holds c.in-ReadyToReceive.is).cell.channel
 
@@ -24,18 +21,6 @@ is_on-sending-requires c = let b = call_bounded c.requires.1.holds.holds.holds c
 
 pub hint_at-hint-requires : goal.hint_at-hint-requires
 hint_at-hint-requires c = (call_bounded c.requires.1.holds.holds.holds c.in-ReadyToReceive.is).cell
-
-pub no_cell-none-requires : goal.no_cell-none-requires
-no_cell-none-requires c = search rules
-
-pub with_hint-cell-requires : goal.with_hint-cell-requires
-with_hint-cell-requires c = search rules
-
-pub no_task-nobody-requires : goal.no_task-nobody-requires
-no_task-nobody-requires c = search rules
-
-pub call-requires : goal.call-requires
-call-requires c = search rules
 
 pub returns : goal.returns
 returns c =

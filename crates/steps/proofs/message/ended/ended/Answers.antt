@@ -18,9 +18,6 @@ put_parent-requires c =
     let can = c.requires.1 in
     (record { processor_low = can.processor_low; processor = can.processor; task = rw c.parent-u.ensures can.parent }, c.put_task.ensures.0)
 
-pub posted-requires : goal.posted-requires
-posted-requires c = search rules
-
 pub returns : goal.returns
 returns c =
     let s = c.args in

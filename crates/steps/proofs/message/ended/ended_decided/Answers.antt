@@ -6,9 +6,6 @@ use Rattle.steps.proofs.message.ended.ended_decided.Goals as goal
 pub ended_outcome-o-requires : goal.ended_outcome-o-requires
 ended_outcome-o-requires c = c.requires
 
-pub posted-requires : goal.posted-requires
-posted-requires c = search rules
-
 pub returns : goal.returns
 returns c =
     let s = c.args in

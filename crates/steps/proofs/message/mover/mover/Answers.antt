@@ -8,17 +8,8 @@ use Rattle.steps.proofs.message.mover.mover.Goals as goal
 pub enum_known-m : goal.enum_known-m
 enum_known-m c = search rules
 
-pub posted-requires : goal.posted-requires
-posted-requires c = search rules
-
 pub task_at-a-requires : goal.task_at-a-requires
 task_at-a-requires c = (mover_within c.requires.1.holds.holds c.in-Migration.d c.in-Migration.t c.in-Migration.is).0
-
-pub is_in-requires : goal.is_in-requires
-is_in-requires c = search rules
-
-pub posted-requires-then-not-is_in : goal.posted-requires-then-not-is_in
-posted-requires-then-not-is_in c = search rules
 
 pub returns-then-not-is_in : goal.returns-then-not-is_in
 returns-then-not-is_in c =
@@ -30,17 +21,8 @@ returns-then-not-is_in c =
 pub parent_at-e-requires : goal.parent_at-e-requires
 parent_at-e-requires c = let n = mover_within c.requires.1.holds.holds c.in-Migration.d c.in-Migration.t c.in-Migration.is in record { processor_low = n.1; processor = n.2; task = n.0 }
 
-pub arrival-here-requires : goal.arrival-here-requires
-arrival-here-requires c = search rules
-
-pub without_children-y-requires : goal.without_children-y-requires
-without_children-y-requires c = search rules
-
 pub put_task-requires : goal.put_task-requires
 put_task-requires c = ((mover_within c.requires.1.holds.holds c.in-Migration.d c.in-Migration.t c.in-Migration.is).0, c.requires.1.holds.holds.rig.whole)
-
-pub arrival_parent-entry-requires : goal.arrival_parent-entry-requires
-arrival_parent-entry-requires c = search rules
 
 pub put_parent-requires : goal.put_parent-requires
 put_parent-requires c =
@@ -51,9 +33,6 @@ pub arrive-requires : goal.arrive-requires
 arrive-requires c =
     let n = mover_within c.requires.1.holds.holds c.in-Migration.d c.in-Migration.t c.in-Migration.is in
     (n.0, n.1, n.2, c.requires.1.holds.holds.rig.indexed, c.put_parent.ensures.0)
-
-pub posted-requires-2 : goal.posted-requires-2
-posted-requires-2 c = search rules
 
 pub returns : goal.returns
 returns c =

@@ -13,9 +13,6 @@ use Rattle.steps.proofs.message.offer.offer.Goals as goal
 pub enum_known-m : goal.enum_known-m
 enum_known-m c = search rules
 
-pub posted-requires : goal.posted-requires
-posted-requires c = search rules
-
 pub offer_outcome-o-requires : goal.offer_outcome-o-requires
 offer_outcome-o-requires c = rw c.in-Offered.is at c.requires
 
@@ -24,9 +21,6 @@ put_held-requires c = (offer_bounded c.requires.1.holds c.in-Offered.is).cell
 
 pub put_channel-requires : goal.put_channel-requires
 put_channel-requires c = let b = offer_bounded c.requires.1.holds c.in-Offered.is in (b.cell.channel_low, b.cell.channel, b.whole)
-
-pub accepted-requires : goal.accepted-requires
-accepted-requires c = search rules
 
 pub returns : goal.returns
 returns c =

@@ -10,9 +10,6 @@ use Rattle.steps.proofs.message.offer.offer_outcome.Goals as goal
 pub enum_known-m : goal.enum_known-m
 enum_known-m c = search rules
 
-pub unopened-requires : goal.unopened-requires
-unopened-requires c = search rules
-
 pub hint_at-hint-requires : goal.hint_at-hint-requires
 hint_at-hint-requires c = (offer_bounded c.requires.1.holds c.in-Offered.is).cell
 
@@ -21,9 +18,6 @@ held_at-held-requires c = (offer_bounded c.requires.1.holds c.in-Offered.is).cel
 
 pub channel_at-channel-requires : goal.channel_at-channel-requires
 channel_at-channel-requires c = let b = offer_bounded c.requires.1.holds c.in-Offered.is in (b.cell.channel_low, b.cell.channel)
-
-pub cell_of-cell-requires : goal.cell_of-cell-requires
-cell_of-cell-requires c = search rules
 
 pub at_receiver-x-requires : goal.at_receiver-x-requires
 at_receiver-x-requires c = let b = offer_bounded c.requires.1.holds c.in-Offered.is in (b.cell.channel, b.receiver, b.receiver_place)

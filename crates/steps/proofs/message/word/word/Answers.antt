@@ -16,9 +16,6 @@ use Rattle.steps.proofs.message.word.word.Goals as goal
 pub enum_known-m : goal.enum_known-m
 enum_known-m c = search rules
 
-pub posted-requires : goal.posted-requires
-posted-requires c = search rules
-
 pub word_outcome-o-requires : goal.word_outcome-o-requires
 word_outcome-o-requires c = rw c.in-Data.is at c.requires
 
@@ -30,9 +27,6 @@ put_task-requires c = let b = word_bounded c.requires.1.holds.holds.holds.holds.
 
 pub put_channel-requires : goal.put_channel-requires
 put_channel-requires c = let b = word_bounded c.requires.1.holds.holds.holds.holds.holds c.in-Data.is in (b.cell.channel_low, b.cell.channel, c.put_task.ensures.0)
-
-pub accepted-requires : goal.accepted-requires
-accepted-requires c = search rules
 
 pub returns : goal.returns
 returns c =

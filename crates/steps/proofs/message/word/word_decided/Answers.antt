@@ -5,12 +5,6 @@ use Rattle.steps.proofs.message.Sites.{opening}
 use borrow.Author.Rules.{rules}
 use Rattle.steps.proofs.message.word.word_decided.Goals as goal
 
-pub word_outcome-o-requires : goal.word_outcome-o-requires
-word_outcome-o-requires c = search rules
-
-pub accepted-requires : goal.accepted-requires
-accepted-requires c = search rules
-
 pub returns : goal.returns
 returns c =
     let s = c.args in

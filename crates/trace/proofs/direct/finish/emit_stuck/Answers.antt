@@ -1,5 +1,4 @@
 -- `emit_stuck` puts a stuck task and the task it depends on behind what is filled, if they fit.
-use borrow.Author.Rules.{rules}
 use Rattle.trace.proofs.Emitting.{put_back}
 use Rattle.trace.proofs.direct.finish.emit_stuck.Goals as goal
 

@@ -1,5 +1,4 @@
 -- `emit_verdict` puts the verdict and a number behind what is filled, if they fit.
-use borrow.Author.Rules.{rules}
 use Rattle.trace.proofs.Emitting.{put_back}
 use Rattle.trace.proofs.direct.finish.emit_verdict.Goals as goal
 
