@@ -8,9 +8,9 @@ use native.Mathlib.Omega.{arith}
 use native.Mathlib.Decide.{ℕ_discrete}
 use lib.Dec.{eqb, leb}
 use borrow.Author.Tests.{lt-ltb, ne_eqb, eq-eqb, le-leb}
+use Rattle.std.specs.Prelude.{Ok}
 use Rattle.base.specs.Range.{fold, joined}
 use Rattle.base.proofs.Tests.{and_both}
-use Rattle.plan.specs.declared.PlanAnswer.TheVariants.{Accepted}
 use Rattle.plan.specs.Files.{file_programs, start_answer}
 use Rattle.plan.specs.Programs.{programs, canonical}
 use Rattle.plan.specs.Refusals.{plan_answer}
@@ -33,11 +33,11 @@ abbrev start : System
 start = start_of 3 chase_plan
 
 -- the plan
-pub plan_accepted : start_answer 3 chase_plan ≡ Accepted
+pub plan_accepted : start_answer 3 chase_plan ≡ Ok tt
 unfolding evaluated chase_plan
 plan_accepted = refl
 
-meaning_accepted : plan_answer (programs (canonical (file_programs chase_plan))) ≡ Accepted
+meaning_accepted : plan_answer (programs (canonical (file_programs chase_plan))) ≡ Ok tt
 unfolding evaluated chase_plan
 meaning_accepted = refl
 

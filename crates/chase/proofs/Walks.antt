@@ -6,12 +6,12 @@ use Prim.Native.Nat.{ℕ, ◌+◌, ◌*◌}
 use native.Mathlib.Nat.{add-mul, zero-mul, zero-add}
 use native.Mathlib.Omega.{arith}
 use lib.Dec.{eqb}
+use Rattle.std.specs.Prelude.{Ok}
 use Rattle.base.specs.Choice.{pick}
 use Rattle.base.specs.Lists.{every}
 use Rattle.base.proofs.Tests.{and_both, every_append}
 use Rattle.plan.specs.declared.ChannelId.{ChannelId}
 use Rattle.rules.specs.declared.step.Step.{Step}
-use Rattle.rules.specs.declared.step.StepAnswer.TheVariants.{Accepted}
 use Rattle.rules.specs.declared.step.Report.{Report}
 use Rattle.rules.specs.declared.system.System.{System}
 use Rattle.rules.specs.Numbers.{same_channel}
@@ -49,7 +49,7 @@ after r s = completed (performed r s)
 
 -- a step that is accepted, where 9 does not refuse; it hands on the chased offer or not, and no other
 pub record Leads (r : System) (s : Step) (f : Bool) : Type 0 where
-  pub answer : ruled_answer r s ≡ Accepted
+  pub answer : ruled_answer r s ≡ Ok tt
   pub handed : (c : ChannelId) (w : ℕ) → hands_on r s c w ≡ f && is_chased c w
 
 -- steps that are all accepted, lead from r to q, and forward the chased offer f times, and no other
@@ -65,7 +65,7 @@ unfolding steps_by every forwards_of
 stays r z = record { accepted = refl; to = refl; forwarded = λ c w. sym (zero-mul (once c w)); fine = z }
 
 -- an accepted delivery that hands on forwards
-forwards_handed : (r : System) (s : Step) (c : ChannelId) (w : ℕ) → step_answer r s ≡ Accepted → forwards c w r s ≡ hands_on r s c w
+forwards_handed : (r : System) (s : Step) (c : ChannelId) (w : ℕ) → step_answer r s ≡ Ok tt → forwards c w r s ≡ hands_on r s c w
 unfolding forwards
 forwards_handed r s c w a = rw a refl
 
@@ -79,7 +79,7 @@ count_one false false = refl
 pub leads : (r : System) (s : Step) (f : Bool) → Fine r → Leads r s f → Walks r (s ∷ []) (after r s) (pick f 1 0)
 unfolding steps_by every forwards_of step_answer
 leads r s f z l =
-    let a : step_answer r s ≡ Accepted = rw z.sound l.answer in
+    let a : step_answer r s ≡ Ok tt = rw z.sound l.answer in
     let e : step r s ≡ accepted (performed r s) = step_accepted r s a in
     let fine : Fine (step r s).system = record { shaped = step_shaped r s z.shaped; sound = step_kept r s z.shaped z.sound } in
     record {

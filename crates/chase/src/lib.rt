@@ -10,31 +10,34 @@ ghost use Rattle.chase.specs.Outcomes.{ChaseMeets};
 
 use output::{put_plan, put_steps};
 
-// What is answered; specs/Outcomes gives the number of each. A written chase says how many bytes of steps there are.
+// Why a chase is not written; specs/Outcomes gives the number of each.
 #[derive(Clone, Copy)]
-pub enum ChaseAnswer {
-    Written(usize),
+pub enum ChaseRefusal {
     TooMany,
     OutputShort,
 }
 
 // The plan and the steps of a chase with m forwards, into the lent outputs: 32 bytes, and 4 for each of
-// 3 m + 11 steps. A refused call leaves both outputs as they were.
-pub fn write_chase<'a>(m: u64, plan: &'a mut [u8], steps: &'a mut [u8]) -> ChaseAnswer
+// 3 m + 11 steps. The answer is the number of bytes of steps. A refused call leaves both outputs as they were.
+pub fn write_chase<'a>(
+    m: u64,
+    plan: &'a mut [u8],
+    steps: &'a mut [u8],
+) -> Result<usize, ChaseRefusal>
     ensures { ChaseMeets m plan.old steps.old result plan.new steps.new }
 {
     if 500 < m {
-        return ChaseAnswer::TooMany;
+        return Err(ChaseRefusal::TooMany);
     }
     let n = m as usize;
     if plan.len() < 32 {
-        return ChaseAnswer::OutputShort;
+        return Err(ChaseRefusal::OutputShort);
     }
     let size = 12 * n + 44;
     if steps.len() < size {
-        return ChaseAnswer::OutputShort;
+        return Err(ChaseRefusal::OutputShort);
     }
     put_plan(plan);
     put_steps(steps, n);
-    ChaseAnswer::Written(size)
+    Ok(size)
 }

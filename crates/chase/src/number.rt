@@ -20,29 +20,11 @@ fn capped(n: u32) -> u16
 fn read_byte(x: Number, b: u8) -> Number
     ensures { result ≡ read_byte x b }
 {
-    if !x.more {
-        return Number {
-            value: x.value,
-            more: false,
-        };
+    if !x.more || b < b'0' || b'9' < b {
+        return Number { more: false, ..x };
     }
-    if b < 48 {
-        return Number {
-            value: x.value,
-            more: false,
-        };
-    }
-    if 57 < b {
-        return Number {
-            value: x.value,
-            more: false,
-        };
-    }
-    let value = capped(10 * (x.value as u32) + (b as u32 - 48));
-    Number {
-        value: value,
-        more: true,
-    }
+    let value = capped(10 * (x.value as u32) + (b - b'0') as u32);
+    Number { value, more: true }
 }
 
 // More bytes.
@@ -50,11 +32,8 @@ pub fn read_on(x: Number, bytes: &[u8]) -> Number
     ensures { result ≡ read_on x bytes.now }
 {
     let mut x = x;
-    let mut i: usize = 0;
-    while i < bytes.len() {
-        let b = bytes[i];
-        x = read_byte(x, b);
-        i += 1;
+    for b in bytes {
+        x = read_byte(x, *b);
     }
     x
 }

@@ -1,5 +1,5 @@
 // The plan and the steps of a chase, put into a lent output.
-ghost use Rattle.std.specs.Prelude.{◌≡◌, [], ◌∷◌, ◌+◌, ◌*◌, ◌≤◌, ◌<◌, length, get_or};
+ghost use Rattle.std.specs.Prelude.{◌≡◌, ◌+◌, ◌*◌, ◌≤◌, length};
 ghost use Rattle.base.specs.Range.{joined};
 ghost use Rattle.rules.specs.Steps.{run_step, deliver_step, move_step};
 ghost use Rattle.plan_write.specs.output.Output.{overlay};
@@ -14,24 +14,12 @@ const PLAN: [u8; 32] = [
     0,
 ];
 
-// The plan's byte at a place.
-fn plan_byte(k: usize) -> u8
-    requires { k < 32 }
-    ensures { result ≡ get_or chase_plan k 0 }
-{
-    PLAN[k]
-}
-
 // The plan, put at the front of the output.
 pub fn put_plan(out: &mut [u8])
     requires { 32 ≤ length out.old }
     ensures { out.new ≡ overlay out.old 0 chase_plan }
 {
-    let mut k: usize = 0;
-    while k < 32 {
-        out[k] = plan_byte(k);
-        k += 1;
-    }
+    out[..32].copy_from_slice(&PLAN);
 }
 
 // A run of a task, a delivery of the first letter, a move of task 2 to a desk.
@@ -40,7 +28,7 @@ fn run(task: u8) -> Step
 {
     Step {
         kind: 1,
-        task: task,
+        task,
         number: 0,
     }
 }
@@ -75,14 +63,14 @@ fn put_step(out: &mut [u8], at: usize, s: Step)
     put_word(out, at + 2, s.number);
 }
 
-// Three steps one behind the other.
-fn put_three(out: &mut [u8], at: usize, first: Step, second: Step, third: Step)
-    requires { at + 12 ≤ length out.old }
-    ensures { out.new ≡ overlay out.old at (step_file (first ∷ second ∷ third ∷ [])) }
+// Steps put one behind the other at a place of the output.
+fn put_all(out: &mut [u8], at: usize, steps: &[Step])
+    requires { at + 4 * length steps.now ≤ length out.old }
+    ensures { out.new ≡ overlay out.old at (step_file steps.now) }
 {
-    put_step(out, at, first);
-    put_step(out, at + 4, second);
-    put_step(out, at + 8, third);
+    for (k, s) in steps.iter().enumerate() {
+        put_step(out, at + 4 * k, *s);
+    }
 }
 
 // The m rounds, behind the first three steps.
@@ -90,13 +78,11 @@ fn put_rounds(out: &mut [u8], m: usize)
     requires { (m ≤ 500) × (12 + 12 * m ≤ length out.old) }
     ensures { out.new ≡ overlay out.old 12 (step_file (joined m round)) }
 {
-    let mut k: usize = 0;
-    while k < m {
+    let next = deliver();
+    for k in 0..m {
         let desk = 2 + (k + 1) % 2;
         let there = move_to(desk as u16);
-        let next = deliver();
-        put_three(out, 12 + 12 * k, next, there, next);
-        k += 1;
+        put_all(out, 12 + 12 * k, &[next, there, next]);
     }
 }
 
@@ -108,10 +94,11 @@ fn put_ending(out: &mut [u8], at: usize)
     let next = deliver();
     let receiver = run(2);
     let sender = run(1);
-    put_three(out, at, next, receiver, next);
-    put_three(out, at + 12, next, next, receiver);
-    put_step(out, at + 24, next);
-    put_step(out, at + 28, sender);
+    put_all(
+        out,
+        at,
+        &[next, receiver, next, next, next, receiver, next, sender],
+    );
 }
 
 // All steps, put at the front of the output.
@@ -121,7 +108,7 @@ pub fn put_steps(out: &mut [u8], m: usize)
 {
     let sender = run(1);
     let away = move_to(2);
-    put_three(out, 0, sender, away, sender);
+    put_all(out, 0, &[sender, away, sender]);
     put_rounds(out, m);
     put_ending(out, 12 + 12 * m);
 }

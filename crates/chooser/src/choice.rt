@@ -3,7 +3,6 @@ ghost use Rattle.chooser.specs.Choices.{ChooseMeets};
 
 use dispatch::choose::file::choose_file;
 use driver::{packed, run_number};
-use run::file::run::Outcome;
 
 // Choose: the dispatchers of the desks are called in turn from the start of a plan file until the rig is at rest, and the steps that
 // they choose are written into the lent output as a step file. The number of the answer, and 256 times the number of bytes that are
@@ -11,9 +10,6 @@ use run::file::run::Outcome;
 pub fn mortarsedge_choose<'a>(processors: u32, plan: &'a [u8], out: &'a mut [u8]) -> u64
     ensures { ChooseMeets processors plan.now out.old result out.new }
 {
-    let o: Outcome = choose_file(processors, plan, out);
-    let answer = o.answer;
-    let number = run_number(answer);
-    let filled = o.filled;
-    packed(number, filled)
+    let o = choose_file(processors, plan, out);
+    packed(run_number(o.answer), o.filled)
 }

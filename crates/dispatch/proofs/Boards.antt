@@ -6,6 +6,7 @@ use Prim.Native.Nat.{ℕ, ◌+◌, ◌-◌, ◌≤◌, ◌<◌}
 use native.Mathlib.Omega.{arith}
 use lib.ListN.{length, set, get_or, length-set}
 use borrow.Author.Tests.{eq-eqb, ne_eqb}
+use Rattle.std.specs.Prelude.{Ok}
 use Rattle.base.proofs.Tests.{within_low, within_high, within_both}
 use Rattle.plan.specs.declared.ProcessorId.{ProcessorId}
 use Rattle.rules.specs.declared.message.Network.{Network}
@@ -26,8 +27,7 @@ use Rattle.rules_laws.proofs.Dispatch.{last_few, choosing_ok}
 use Rattle.rules_sound.proofs.Kept.{step_kept}
 use Rattle.rules_sound.proofs.Sound.{sound}
 use Rattle.rules_sound.proofs.Frames.{tasks_few}
-use Rattle.rig_parts.specs.declared.change.Verdict.{Verdict}
-use Rattle.rig_parts.specs.declared.change.Verdict.TheVariants.{Accepted}
+use Rattle.rig_parts.specs.Answers.{Verdict}
 use Rattle.rig_parts.specs.Facts.{Facts, facts_of}
 use Rattle.rig_parts.specs.Openings.{opened_in}
 use Rattle.rig_parts.specs.declared.turn.Turn.{Turn}
@@ -153,7 +153,7 @@ module _ {codes numbers users : List ℕ} {size : Size} {k : Network} {l : Lent}
     unfolding position_of
     position_is = rw (within_both 1 k.used (place + 1) (omega arith) (omega arith)) refl
 
-    pub delivered_posts : {act : Act} → act ≡ act_of (Accepted (opened_in given (tasks_of l) (kept_of l) (get_or k.slots place no_slot).message))
+    pub delivered_posts : {act : Act} → act ≡ act_of (Ok (opened_in given (tasks_of l) (kept_of l) (get_or k.slots place no_slot).message))
         → (j : ℕ) → place + j ≡ k.used - 1 → {z : Network} → z ≡ holding k.used (shifted k.slots place j)
         → {w : Slot} → w.message ≡ message_of act.posting 0 → {u : ℕ} → u ≡ rounds_of 1 act.posting
         → holding (k.used - 1 + u) (set z.slots (k.used - 1) w) ≡ enqueued_all (dequeued k (place + 1)) (messages_of size.processors act.posting)
@@ -163,14 +163,14 @@ module _ {codes numbers users : List ℕ} {size : Size} {k : Network} {l : Lent}
         (subst (λ (i : ℕ). z ≡ holding k.used (shifted k.slots i j)) (sym back) moved) w u
 
     pub on_delivery : {act : Act} {k' : Network} {l' : Lent}
-        → Acted (senders_of users) (receivers_of users) (Accepted (opened_in given (tasks_of l) (kept_of l) (get_or k.slots place no_slot).message)) l act l'
+        → Acted (senders_of users) (receivers_of users) (Ok (opened_in given (tasks_of l) (kept_of l) (get_or k.slots place no_slot).message)) l act l'
         → k' ≡ enqueued_all (dequeued k (place + 1)) (messages_of size.processors act.posting)
         → On codes numbers users size k' l' last (step r (deliver_step (place + 1))).system
     unfolding message_at
     on_delivery {act} {k'} {l'} a e =
         on_turn (deliver_step (place + 1)) a.whole
         (delivered_made given size.processors k (deliver_step (place + 1)) l l' act (place + 1) position_is (λ z. omega (arith, z))
-        (subst (λ (i : ℕ). Acted (senders_of users) (receivers_of users) (Accepted (opened_in given (tasks_of l) (kept_of l) (get_or k.slots i no_slot).message)) l act l') (sym back) a) e)
+        (subst (λ (i : ℕ). Acted (senders_of users) (receivers_of users) (Ok (opened_in given (tasks_of l) (kept_of l) (get_or k.slots i no_slot).message)) l act l') (sym back) a) e)
 
   -- a task was run: there is room for its letters, which stand last
   module _ (t : ℕ) where

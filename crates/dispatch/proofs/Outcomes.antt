@@ -10,15 +10,15 @@ use lib.Dec.{leb}
 use lib.ListN.{length, take, drop, take-append-drop}
 use lib.Seq.{length-take-le, drop-append-le}
 use borrow.Author.Tests.{leb-true, le-leb, lt-leb}
+use Rattle.std.specs.Prelude.{Ok, Err}
 use Rattle.base.specs.Choice.{pick, within}
 use Rattle.base.proofs.Tests.{and_left}
-use Rattle.plan.specs.declared.PlanAnswer.{PlanAnswer}
-use Rattle.plan.specs.declared.PlanAnswer.TheVariants.{Accepted, Refused}
+use Rattle.plan.specs.Answers.{PlanAnswer}
 use Rattle.plan.specs.declared.Refusal.{Refusal}
 use Rattle.plan.specs.declared.Refusal.TheVariants.{BadProcessors}
 use Rattle.plan.specs.Files.{file_answer, start_answer}
-use Rattle.rules.specs.declared.step.RunAnswer.{RunAnswer}
-use Rattle.rules.specs.declared.step.RunAnswer.TheVariants.{Traced, Unstarted, OutputShort}
+use Rattle.rules.specs.Answers.{RunAnswer}
+use Rattle.rules.specs.declared.step.RunRefusal.TheVariants.{Unstarted, OutputShort}
 use Rattle.rules.specs.declared.system.System.{System}
 use Rattle.rules.specs.Steps.{quiescent}
 use Rattle.rules.specs.StepFiles.{start_of, text, written_after}
@@ -29,10 +29,10 @@ use Rattle.dispatch.specs.Boards.{Ended}
 
 -- what is written is within the room
 room_after : (a : PlanAnswer) (lines : List (List ℕ)) (room : ℕ) (q : Bool) → length (written_after (chosen_answer a (leb (length (text lines)) room && q)) lines room) ≤ room
-room_after (Refused a) lines room q = omega arith
-room_after Accepted lines room q = go (leb (length (text lines)) room) q (leb-true (length (text lines)) room)
+room_after (Err a) lines room q = omega arith
+room_after (Ok tt) lines room q = go (leb (length (text lines)) room) q (leb-true (length (text lines)) room)
   where
-    go : (b c : Bool) → (b ≡ true → length (text lines) ≤ room) → length (written_after (pick (b && c) Traced OutputShort) lines room) ≤ room
+    go : (b c : Bool) → (b ≡ true → length (text lines) ≤ room) → length (written_after (pick (b && c) (Ok tt) (Err OutputShort)) lines room) ≤ room
     go true true f = f refl
     go true false f = fitting_room room lines
     go false c f = fitting_room room lines
@@ -47,21 +47,21 @@ both_same false b c f = refl
 
 module _ (n : ℕ) (p o : List ℕ) where
   -- refusals 1 to 6
-  unstarted : (a : Refusal) → start_answer n p ≡ Refused a → Chooses n p (length o) o (Unstarted a) 0 o
+  unstarted : (a : Refusal) → start_answer n p ≡ Err a → Chooses n p (length o) o (Err (Unstarted a)) 0 o
   unfolding choose_answer choose_text
   unstarted a e = record { answered = rw e refl; count = rw e refl; bytes = rw e refl }
 
-  pub processors_refused : within 1 6 n ≡ false → Chooses n p (length o) o (Unstarted BadProcessors) 0 o
+  pub processors_refused : within 1 6 n ≡ false → Chooses n p (length o) o (Err (Unstarted BadProcessors)) 0 o
   unfolding start_answer
   processors_refused d = unstarted BadProcessors (rw d refl)
 
-  pub file_refused : within 1 6 n ≡ true → (a : Refusal) → file_answer p ≡ Refused a → Chooses n p (length o) o (Unstarted a) 0 o
+  pub file_refused : within 1 6 n ≡ true → (a : Refusal) → file_answer p ≡ Err a → Chooses n p (length o) o (Err (Unstarted a)) 0 o
   unfolding start_answer
   file_refused d a e = unstarted a (rw d e)
 
-  module _ (d : within 1 6 n ≡ true) (a : file_answer p ≡ Accepted) {r : System} (q : r ≡ start_of n p) {filled : ℕ} {whole rest : Bool} {after : List ℕ}
+  module _ (d : within 1 6 n ≡ true) (a : file_answer p ≡ Ok tt) {r : System} (q : r ≡ start_of n p) {filled : ℕ} {whole rest : Bool} {after : List ℕ}
       (h : Ended (called 12006 r 0) o filled whole rest after) where
-    begun : start_answer n p ≡ Accepted
+    begun : start_answer n p ≡ Ok tt
     unfolding start_answer
     begun = rw d a
 
@@ -76,14 +76,14 @@ module _ (n : ℕ) (p o : List ℕ) where
     all_is : whole && rest ≡ leb (length (text (chosen_lines n p))) (length o) && quiescent (chosen_from n p).system
     all_is = both_same whole rest (quiescent (chosen_from n p).system) chosen.rests ∙ ap (λ b. b && quiescent (chosen_from n p).system) written.all
 
-    pub chosen_all : whole && rest ≡ true → Chooses n p (length o) o Traced filled after
+    pub chosen_all : whole && rest ≡ true → Chooses n p (length o) o (Ok tt) filled after
     unfolding choose_answer choose_text
     chosen_all e =
         let t = sym all_is ∙ e in
         let l = written_filled (rw (and_left whole rest e) at written) in
         record { answered = rw (begun, t) refl; count = rw (begun, t) l.end; bytes = rw (begun, t) l.bytes }
 
-    pub chosen_short : whole && rest ≡ false → Chooses n p (length o) o OutputShort filled after
+    pub chosen_short : whole && rest ≡ false → Chooses n p (length o) o (Err OutputShort) filled after
     unfolding choose_answer choose_text
     chosen_short e =
         let t = sym all_is ∙ e in

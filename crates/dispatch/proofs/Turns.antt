@@ -5,12 +5,12 @@ use Prim.Native.Nat.{ℕ, ◌-◌, ◌≤◌}
 use native.Mathlib.Omega.{arith}
 use lib.Dec.{eqb}
 use lib.ListN.{set}
+use Rattle.std.specs.Prelude.{None}
+use Rattle.std.specs.Prelude.{Ok}
 use Rattle.base.proofs.Choices.{pick_cases}
 use Rattle.base.proofs.Tests.{within_low, within_high}
 use borrow.Author.Tests.{eq-eqb, ne_eqb}
 use Rattle.plan.specs.declared.ProcessorId.{ProcessorId}
-use Rattle.rules.specs.declared.dispatch.Turn.TheVariants.{Skipped}
-use Rattle.rules.specs.declared.step.StepAnswer.TheVariants.{Accepted}
 use Rattle.rules.specs.declared.system.System.{System}
 use Rattle.rules.specs.Numbers.{processor_ok}
 use Rattle.rules.specs.Networks.{messages}
@@ -28,7 +28,7 @@ use Rattle.dispatch.specs.declared.Turned.{Turned as Record}
 use Rattle.dispatch.specs.Turns.{TurnedBy, MadeBy}
 
 module _ (r : System) (d : ProcessorId) where
-  pub no_delivery : earliest d (messages r.network) ≡ 0 → TurnedBy (delivery_turn r d) (record { turn = Skipped; system = r })
+  pub no_delivery : earliest d (messages r.network) ≡ 0 → TurnedBy (delivery_turn r d) (record { turn = None; system = r })
   unfolding delivery_turn
   no_delivery e = rw (eq-eqb (earliest d (messages r.network)) 0 e) (record { turn = refl; system = refl })
 
@@ -36,7 +36,7 @@ module _ (r : System) (d : ProcessorId) where
   unfolding delivery_turn
   some_delivery e ne q m = rw (ne_eqb (earliest d (messages r.network)) 0 (λ z. ne (e ∙ z))) (rw e at m)
 
-  pub no_run : choice r d ≡ 0 → TurnedBy (run_turn r d) (record { turn = Skipped; system = r })
+  pub no_run : choice r d ≡ 0 → TurnedBy (run_turn r d) (record { turn = None; system = r })
   unfolding run_turn
   no_run e = rw (eq-eqb (choice r d) 0 e) (record { turn = refl; system = refl })
 
@@ -46,7 +46,7 @@ module _ (r : System) (d : ProcessorId) where
 
 -- both turns
 pub together : (r : System) (d : ProcessorId) (a b : Record) → TurnedBy (delivery_turn r d) a → TurnedBy (run_turn a.system d) b
-    → record { answer = Accepted; delivery = a.turn; run = b.turn; system = b.system } ≡ ruled_dispatch r d
+    → record { answer = Ok tt; delivery = a.turn; run = b.turn; system = b.system } ≡ ruled_dispatch r d
 unfolding ruled_dispatch
 together r d a b p q = rw (p.turn, q.turn, q.system, p.system) refl
 

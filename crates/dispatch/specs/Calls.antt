@@ -1,12 +1,11 @@
 -- Calls at the desks in turn until the rig is at rest, and the steps that they choose, as a step file in a lent output.
-use Rattle.std.specs.Prelude.{◌≡◌, Bool, ◌&&◌, List, [], ◌∷◌, ◌++◌, map, ℕ, zero, suc, ◌+◌, leb, ltb, length, drop}
+use Rattle.std.specs.Prelude.{◌≡◌, Bool, ◌&&◌, List, [], ◌∷◌, ◌++◌, map, ℕ, zero, suc, ◌+◌, leb, ltb, length, drop, Ok, Err}
 use Rattle.base.specs.Choice.{pick}
-use Rattle.plan.specs.declared.PlanAnswer.{PlanAnswer}
-use Rattle.plan.specs.declared.PlanAnswer.TheVariants.{Accepted, Refused}
+use Rattle.plan.specs.Answers.{PlanAnswer}
 use Rattle.plan.specs.Files.{start_answer}
 use Rattle.rules.specs.declared.step.Step.{Step}
-use Rattle.rules.specs.declared.step.RunAnswer.{RunAnswer}
-use Rattle.rules.specs.declared.step.RunAnswer.TheVariants.{Traced, Unstarted, OutputShort}
+use Rattle.rules.specs.Answers.{RunAnswer}
+use Rattle.rules.specs.declared.step.RunRefusal.TheVariants.{Unstarted, OutputShort}
 use Rattle.rules.specs.declared.system.System.{System}
 use Rattle.rules.specs.Numbers.{processor_id}
 use Rattle.rules.specs.Steps.{quiescent}
@@ -48,8 +47,8 @@ room_in out = pick (leb (length out) 8000) (length out) 8000
 
 -- 1 to 6 as at start; 20 where the steps do not all fit in so many bytes, or do not bring the rig to rest
 abbrev pub chosen_answer : PlanAnswer → Bool → RunAnswer
-chosen_answer (Refused a) all = Unstarted a
-chosen_answer Accepted all = pick all Traced OutputShort
+chosen_answer (Err a) all = Err (Unstarted a)
+chosen_answer (Ok tt) all = pick all (Ok tt) (Err OutputShort)
 
 unfoldable pub choose_answer : ℕ → List ℕ → ℕ → RunAnswer
 choose_answer n p room = chosen_answer (start_answer n p) (leb (length (text (chosen_lines n p))) room && quiescent (chosen_from n p).system)

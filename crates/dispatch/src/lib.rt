@@ -15,15 +15,15 @@ ghost use Rattle.dispatch.specs.Turns.{TurnedBy, MadeBy};
 
 use mail::earliest;
 use plan::ProcessorId;
-use rules::dispatch::{Dispatched, Turn};
-use rules::step::{Step, StepAnswer};
+use rules::dispatch::Dispatched;
+use rules::step::{Report, Step, StepRefusal};
 use rules::system::System;
 use task_rules::ready::next_ready;
 
 // A step that a call makes, or none, and the rig then.
 #[derive(Clone, Copy)]
 pub struct Turned {
-    pub turn: Turn,
+    pub turn: Option<(Step, Report)>,
     pub system: System,
 }
 
@@ -32,12 +32,9 @@ fn made(r: System, s: Step) -> Turned
     ensures { MadeBy r s result }
 {
     let q = rig_step::step(r, s);
-    let report = q.report;
-    let system = q.system;
-    let turn = Turn::Made(s, report);
     Turned {
-        turn: turn,
-        system: system,
+        turn: Some((s, q.report)),
+        system: q.system,
     }
 }
 
@@ -46,12 +43,10 @@ fn delivery_turn(r: System, d: ProcessorId) -> Turned
     requires { r.network.used ≤ 256 }
     ensures { TurnedBy (delivery_turn r d) result }
 {
-    let network = r.network;
-    let p = earliest(network, d);
+    let p = earliest(r.network, d);
     if p == 0 {
-        let none = Turn::Skipped;
         return Turned {
-            turn: none,
+            turn: None,
             system: r,
         };
     }
@@ -77,15 +72,12 @@ fn run_turn(r: System, d: ProcessorId) -> Turned
     requires { (1 ≤ d.0) × (d.0 ≤ 6) × (r.plan.tasks ≤ 64) × (chosen_at r d ≤ 64) }
     ensures { TurnedBy (run_turn r d) result }
 {
-    let p = r.plan;
-    let k = base::wide8(d.0) - 1;
+    let k = d.0 as usize - 1;
     let last = r.chosen[k];
-    let tasks = r.tasks;
-    let t = next_ready(p.tasks, last, tasks.ready[k]);
+    let t = next_ready(r.plan.tasks, last, r.tasks.ready[k]);
     if t == 0 {
-        let none = Turn::Skipped;
         return Turned {
-            turn: none,
+            turn: None,
             system: r,
         };
     }
@@ -98,15 +90,13 @@ fn run_turn(r: System, d: ProcessorId) -> Turned
 }
 
 // A refused call makes no step and gives the rig back.
-fn undispatched(r: System, a: StepAnswer) -> Dispatched
+fn undispatched(r: System, a: Result<(), StepRefusal>) -> Dispatched
     ensures { result ≡ undispatched r a }
 {
-    let none = Turn::Skipped;
-    let nothing = Turn::Skipped;
     Dispatched {
         answer: a,
-        delivery: none,
-        run: nothing,
+        delivery: None,
+        run: None,
         system: r,
     }
 }
@@ -116,21 +106,17 @@ pub fn dispatch(r: System, d: ProcessorId) -> Dispatched
     ensures { result ≡ dispatched r d }
 {
     if !rig_check::system::system_ok(r) {
-        return undispatched(r, StepAnswer::BadSystem);
+        return undispatched(r, Err(StepRefusal::BadSystem));
     }
-    if !base::is_within(1, base::wide8(r.processors), base::wide8(d.0)) {
-        return undispatched(r, StepAnswer::NoProcessor);
+    if !(1..=r.processors).contains(&d.0) {
+        return undispatched(r, Err(StepRefusal::NoProcessor));
     }
     let a = delivery_turn(r, d);
-    let delivered = a.system;
-    let b = run_turn(delivered, d);
-    let delivery = a.turn;
-    let run = b.turn;
-    let after = b.system;
+    let b = run_turn(a.system, d);
     Dispatched {
-        answer: StepAnswer::Accepted,
-        delivery: delivery,
-        run: run,
-        system: after,
+        answer: Ok(()),
+        delivery: a.turn,
+        run: b.turn,
+        system: b.system,
     }
 }

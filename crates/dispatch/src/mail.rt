@@ -6,7 +6,6 @@ ghost use Rattle.dispatch.specs.Letters.{is_for};
 
 use plan::ProcessorId;
 use rules::message::{Message, Network};
-use task_rules::state::same_processor;
 
 // The desk that a letter is addressed to.
 fn addressee(m: Message) -> ProcessorId
@@ -27,7 +26,7 @@ fn addressee(m: Message) -> ProcessorId
 pub fn is_for(m: Message, d: ProcessorId) -> bool
     ensures { result ≡ is_for d m }
 {
-    same_processor(addressee(m), d)
+    addressee(m) == d
 }
 
 // The position from 1 of the earliest letter for desk d, or 0 where there is none.
@@ -35,16 +34,10 @@ pub fn earliest(n: Network, d: ProcessorId) -> u16
     requires { n.used ≤ 256 }
     ensures { result ≡ earliest d (messages n) }
 {
-    let end = n.used;
-    let mut k: u16 = 0;
-    while base::wide16(k) < end {
-        let at = base::wide16(k);
-        let slot = n.slots[at];
-        let m = slot.message;
-        if is_for(m, d) {
-            return k + 1;
+    for k in 0..n.used {
+        if is_for(n.slots[k].message, d) {
+            return (k + 1) as u16;
         }
-        k = k + 1;
     }
     0
 }

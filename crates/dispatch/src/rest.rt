@@ -16,29 +16,20 @@ fn can_run(r: System, t: u8) -> bool
         task: t,
         number: 0,
     };
-    let q = rig_step::step(r, s);
-    let report = q.report;
-    let answer = report.answer;
-    is_accepted(answer)
+    is_accepted(rig_step::step(r, s).report.answer)
 }
 
 // The mail is empty, and no task can run.
 pub fn rests(r: System) -> bool
     ensures { result ≡ quiescent r }
 {
-    let network = r.network;
-    if network.used != 0 {
+    if r.network.used != 0 {
         return false;
     }
-    let p = r.plan;
-    let end = p.tasks;
-    let mut t: u8 = 0;
-    while t < end {
-        let next = t + 1;
-        if can_run(r, next) {
+    for k in 0..r.plan.tasks {
+        if can_run(r, k + 1) {
             return false;
         }
-        t = next;
     }
     true
 }

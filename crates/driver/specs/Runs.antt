@@ -1,9 +1,8 @@
 -- The exported run: its answer, the output then, and demand 3 of the run whose lines are written.
-use Rattle.std.specs.Prelude.{◌≡◌, ◌≢◌, List, [], ◌∷◌, ◌++◌, ℕ, ◌+◌, ◌*◌, ◌≤◌, length, drop}
-use Rattle.plan.specs.declared.PlanAnswer.TheVariants.{Accepted}
+use Rattle.std.specs.Prelude.{◌≡◌, ◌≢◌, List, [], ◌∷◌, ◌++◌, ℕ, ◌+◌, ◌*◌, ◌≤◌, length, drop, Ok, Err}
 use Rattle.plan.specs.Files.{file_programs, start_answer}
 use Rattle.plan.specs.Programs.{canonical}
-use Rattle.rules.specs.declared.step.RunAnswer.TheVariants.{Traced, OutputShort}
+use Rattle.rules.specs.declared.step.RunRefusal.TheVariants.{OutputShort}
 use Rattle.rules.specs.Answers.{run_number}
 use Rattle.rules.specs.Trace.{step_lines, over_lines, end_line}
 use Rattle.rules.specs.StepFiles.{file_steps, text, run_file_answer, run_file_text, run_file_output}
@@ -33,6 +32,6 @@ trace_text n p b =
 pub record RunMeets (n : ℕ) (p b before : List ℕ) (r : ℕ) (after : List ℕ) : Type 0 where
   pub outcome : r ≡ run_outcome n p b before
   pub bytes : after ≡ run_file_output n p b before
-  pub room : enough ≤ length before → run_file_answer n p b before ≢ OutputShort
-  pub demand_3 : start_answer n p ≡ Accepted → Demand3 n (canonical (file_programs p)) (file_steps b)
-  pub lines : run_file_answer n p b before ≡ Traced → after ≡ trace_text n p b ++ drop (length (trace_text n p b)) before
+  pub room : enough ≤ length before → run_file_answer n p b before ≢ Err OutputShort
+  pub demand_3 : start_answer n p ≡ Ok tt → Demand3 n (canonical (file_programs p)) (file_steps b)
+  pub lines : run_file_answer n p b before ≡ Ok tt → after ≡ trace_text n p b ++ drop (length (trace_text n p b)) before

@@ -10,29 +10,28 @@ ghost use Rattle.rules.specs.Answers.{run_number};
 ghost use Rattle.driver.specs.Runs.{packed, enough, RunMeets};
 
 use plan::Refusal;
-use rules::step::RunAnswer;
+use rules::step::RunRefusal;
 use run::file::run::run_file;
 
 // Plan check: whether a plan file can be started on this many desks. 0, or the number of the refusal.
 pub fn mortarsedge_plan_check(processors: u32, plan: &[u8]) -> u32
     ensures { result ≡ start_number processors plan.now }
 {
-    if !base::is_within(1, 6, processors as usize) {
+    if !(1..=6).contains(&processors) {
         return Refusal::BadProcessors.number();
     }
-    let answer = plan_file::check_plan(plan);
-    answer.number()
+    plan::answer_number(plan_file::check_plan(plan))
 }
 
 // The number of a run's answer.
-pub fn run_number(a: RunAnswer) -> u32
+pub fn run_number(a: Result<(), RunRefusal>) -> u32
     ensures { (result ≡ run_number a) × (result ≤ 23) }
 {
     match a {
-        RunAnswer::Traced => 0,
-        RunAnswer::Unstarted(r) => r.number(),
-        RunAnswer::BadSteps => 8,
-        RunAnswer::OutputShort => 20,
+        Ok(()) => 0,
+        Err(RunRefusal::Unstarted(r)) => r.number(),
+        Err(RunRefusal::BadSteps) => 8,
+        Err(RunRefusal::OutputShort) => 20,
     }
 }
 
@@ -55,8 +54,5 @@ pub fn mortarsedge_run<'a>(
     ensures { RunMeets processors plan.now steps.now out.old result out.new }
 {
     let o = run_file(processors, plan, steps, out);
-    let answer = o.answer;
-    let number = run_number(answer);
-    let filled = o.filled;
-    packed(number, filled)
+    packed(run_number(o.answer), o.filled)
 }

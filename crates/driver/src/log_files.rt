@@ -20,6 +20,5 @@ fn logs_packed(a: LogsAnswer) -> u64
 pub fn mortarsedge_logs<'a>(sent: &'a [u8], received: &'a [u8]) -> u64
     ensures { result ≡ logs_outcome sent.now received.now }
 {
-    let answer = logs::check_logs(sent, received);
-    logs_packed(answer)
+    logs_packed(logs::check_logs(sent, received))
 }

@@ -7,11 +7,11 @@ use native.Mathlib.Omega.{arith}
 use lib.Dec.{eqb}
 use lib.ListN.{length}
 use borrow.Author.Tests.{eqb-true, le-leb}
+use Rattle.std.specs.Prelude.{Ok}
 use Rattle.base.specs.Choice.{pick}
 use Rattle.base.proofs.Sums.{sum_at_most}
 use Rattle.base.proofs.Tests.{below_all}
 use Rattle.plan.specs.declared.Plan.{Plan}
-use Rattle.plan.specs.declared.PlanAnswer.TheVariants.{Accepted as PlanAccepted}
 use Rattle.plan.specs.Layout.{count_of, total_of}
 use Rattle.plan.specs.Programs.{programs}
 use Rattle.plan.specs.Refusals.{plan_answer}
@@ -19,7 +19,6 @@ use Rattle.plan_laws.proofs.Canonical.{fits}
 use Rattle.rules.specs.declared.task.Task.{Task}
 use Rattle.rules.specs.declared.message.Network.{Network}
 use Rattle.rules.specs.declared.step.Step.{Step}
-use Rattle.rules.specs.declared.step.StepAnswer.TheVariants.{Accepted}
 use Rattle.rules.specs.declared.system.System.{System}
 use Rattle.rules.specs.Answers.{is_accepted}
 use Rattle.rules.specs.Numbers.{task_id}
@@ -30,13 +29,12 @@ use Rattle.rules.specs.Sound.{system_ok}
 use Rattle.rules_laws.specs.Shapes.{Shaped}
 use Rattle.rules_laws.proofs.Messages.{few_messages}
 use Rattle.rules_laws.proofs.Shapes.{started_processors, steps_processors}
-use Rattle.rules_laws.proofs.Steps.{ruled_step_lem, step_answer_lem}
+use Rattle.rules_laws.proofs.Steps.{accepted_is, ruled_step_lem, step_answer_lem}
 use Rattle.plan_index.specs.user_table.Users.{senders_of, receivers_of}
 use Rattle.rig_parts.specs.declared.kept.Kept.{Kept as KeptParts}
 use Rattle.rig_parts.specs.declared.turn.Turn.{Turn}
 use Rattle.rig_parts.specs.declared.change.Change.{Change}
-use Rattle.rig_parts.specs.declared.change.Verdict.{Verdict}
-use Rattle.rig_parts.specs.declared.change.Verdict.TheVariants.{Accepted as Allowed}
+use Rattle.rig_parts.specs.Answers.{Verdict}
 use Rattle.rig_parts.specs.Facts.{Facts, facts_of, kept_in, PartsOf}
 use Rattle.rig_parts.specs.RunVerdicts.{fitting_in, ran_in, run_refusal, judged_run}
 use Rattle.rig_parts.specs.Fetches.{instruction_in}
@@ -65,7 +63,7 @@ unfolding steps_by
 steps_more r [] s = refl
 steps_more r (x ∷ ss) s = steps_more (step r x).system ss s
 
-runs_more : (r : System) (ss : List Step) (s : Step) → is_run s ≡ true → step_answer (steps r ss).system s ≡ Accepted
+runs_more : (r : System) (ss : List Step) (s : Step) → is_run s ≡ true → step_answer (steps r ss).system s ≡ Ok tt
     → accepted_of is_run r (ss ++ (s ∷ [])) ≡ accepted_of is_run r ss + 1
 unfolding steps_by accepted_of
 runs_more r [] s run e = rw (run, e) refl
@@ -145,11 +143,11 @@ module _ {codes numbers users : List ℕ} {count : ℕ} {l : Lent} {p : Plan} {s
     abbrev change : Change
     change = ran_in f (tasks_of l) (kept_of l) (task_id t) (instruction_in codes (task_id t) (task_in (tasks_of l) (task_id t)).pc)
 
-    allowed : judged_run f 1 (tasks_of l) (kept_of l) 0 (task_id t) ≡ Allowed change
+    allowed : judged_run f 1 (tasks_of l) (kept_of l) 0 (task_id t) ≡ Ok change
     unfolding judged_run
     allowed =
         let m = length (messages_of 1 change.outcome.posting) in
-        rw (can, le-leb (0 + m) 256 (omega (arith, few_messages 1 change.outcome.posting))) refl
+        rw (accepted_is (run_refusal codes count (tasks_of l) (task_id t)) can, le-leb (0 + m) 256 (omega (arith, few_messages 1 change.outcome.posting))) refl
 
     -- a run of it, carried out
     module _ {r : Act} {l' : Lent}
@@ -157,7 +155,7 @@ module _ {codes numbers users : List ℕ} {count : ℕ} {l : Lent} {p : Plan} {s
       abbrev run : Step
       run = run_step t
 
-      turns : settled (senders_of users) (receivers_of users) 1 (Allowed change) (tasks_of l) rig.network (kept_of l) ≡ parts_of (step rig run)
+      turns : settled (senders_of users) (receivers_of users) 1 (Ok change) (tasks_of l) rig.network (kept_of l) ≡ parts_of (step rig run)
       unfolding turn_of well_formed
       turns =
           ap (λ (v : Verdict). settled (senders_of users) (receivers_of users) 1 v (tasks_of l) rig.network (kept_of l)) (sym allowed)
@@ -165,9 +163,9 @@ module _ {codes numbers users : List ℕ} {count : ℕ} {l : Lent} {p : Plan} {s
           ∙ rig_turn whole_rig run ∙ ap parts_of (ruled_step_lem rig run sound)
 
       left : turned (report_of r) (tasks_of l') (enqueued_all rig.network (messages_of 1 r.posting)) (kept_of l') ≡ parts_of (step rig run)
-      left = acted_turn (senders_of users) (receivers_of users) 1 rig.network l l' r (Allowed change) (rw allowed at acted) ∙ turns
+      left = acted_turn (senders_of users) (receivers_of users) 1 rig.network l l' r (Ok change) (rw allowed at acted) ∙ turns
 
-      yes_to_it : step_answer rig run ≡ Accepted
+      yes_to_it : step_answer rig run ≡ Ok tt
       unfolding carried_out
       yes_to_it = sym (step_answer_lem rig run) ∙ sym (ap (λ (z : Turn). z.report.answer) turns)
 

@@ -5,12 +5,12 @@ use mathlib.Core.List.{List, [], ◌∷◌, ◌++◌, map, map-append}
 use Prim.Native.Nat.{ℕ, zero, suc, ◌+◌, ◌*◌, ◌≤◌, ◌<◌}
 use native.Mathlib.Omega.{arith}
 use lib.ListN.{length, length-append}
+use Rattle.std.specs.Prelude.{Ok}
 use Rattle.base.specs.Choice.{pick}
 use Rattle.base.specs.Range.{fold, joined}
 use Rattle.base.proofs.Choices.{pick_either}
 use Rattle.base.proofs.Sums.{sum_at_most}
 use Rattle.plan.specs.declared.Plan.{Plan}
-use Rattle.plan.specs.declared.PlanAnswer.TheVariants.{Accepted}
 use Rattle.plan.specs.declared.TaskId.{TaskId}
 use Rattle.plan.specs.Kinds.{op_send, op_receive}
 use Rattle.plan.specs.Layout.{count_of}
@@ -67,7 +67,7 @@ list_short r few (suc n) l =
     rw (map-append stuck_line front last, text_append (map stuck_line front) (map stuck_line last))
     (omega (arith, length-append (text (map stuck_line front)) (text (map stuck_line last)), list_short r few n (omega arith), one))
 
-module _ (n : ℕ) (p : Plan) (ss : List Step) (some : 1 ≤ n) (few : n ≤ 6) (a : plan_answer (programs p) ≡ Accepted) where
+module _ (n : ℕ) (p : Plan) (ss : List Step) (some : 1 ≤ n) (few : n ≤ 6) (a : plan_answer (programs p) ≡ Ok tt) where
   abbrev rig : System
   rig = (from n p ss).system
 

@@ -1,14 +1,13 @@
 -- The check of a plan file: its answer, and what the lent output holds then.
-use Rattle.std.specs.Prelude.{◌≡◌, Bool, List, ◌++◌, ℕ, ◌+◌, ◌*◌, ◌≤◌, leb, length, drop}
+use Rattle.std.specs.Prelude.{◌≡◌, Bool, List, ◌++◌, ℕ, ◌+◌, ◌*◌, ◌≤◌, leb, length, drop, Ok, Err}
 use Rattle.base.specs.Choice.{pick}
 use Rattle.plan.specs.declared.Plan.{Plan}
-use Rattle.plan.specs.declared.PlanAnswer.TheVariants.{Accepted, Refused}
 use Rattle.plan.specs.declared.Refusal.{Refusal}
 use Rattle.plan.specs.Files.{file_programs, file_answer}
 use Rattle.plan.specs.Programs.{canonical}
 use Rattle.rules.specs.declared.step.Step.{Step}
-use Rattle.rules.specs.declared.step.RunAnswer.{RunAnswer}
-use Rattle.rules.specs.declared.step.RunAnswer.TheVariants.{Traced, Unstarted, OutputShort}
+use Rattle.rules.specs.Answers.{RunAnswer}
+use Rattle.rules.specs.declared.step.RunRefusal.TheVariants.{Unstarted, OutputShort}
 use Rattle.rules.specs.Finish.{finish_lines}
 use Rattle.rules.specs.StepFiles.{text, fitting}
 use Rattle.rig_parts.specs.Facts.{Facts}
@@ -43,14 +42,14 @@ plan_of b = canonical (file_programs b)
 
 -- lines are answered so, and as many bytes of the output are filled with the longest beginning of whole lines that fits
 pub record Reported (lines : List (List ℕ)) (before : List ℕ) (answer : RunAnswer) (filled : ℕ) (after : List ℕ) : Type 0 where
-  pub answered : answer ≡ pick (leb (length (text lines)) (length before)) Traced OutputShort
+  pub answered : answer ≡ pick (leb (length (text lines)) (length before)) (Ok tt) (Err OutputShort)
   pub count : filled ≡ length (fitting (length before) lines)
   pub bytes : after ≡ fitting (length before) lines ++ drop (length (fitting (length before) lines)) before
 
 -- the check of file b: "2 to 6 as at start", and the output is untouched; else the verdict, the number and the list are those of the rig that
 -- every list to rest leaves, on one desk and on any; and one desk does come to rest
 pub record FinishFile (b before : List ℕ) (answer : RunAnswer) (filled : ℕ) (after : List ℕ) : Type 0 where
-  pub refused : (r : Refusal) → file_answer b ≡ Refused r → (answer ≡ Unstarted r) × (filled ≡ 0) × (after ≡ before)
-  pub finished : file_answer b ≡ Accepted → (n : ℕ) (ss : List Step) → 1 ≤ n → n ≤ 6 → RestsOn n (plan_of b) ss
+  pub refused : (r : Refusal) → file_answer b ≡ Err r → (answer ≡ Err (Unstarted r)) × (filled ≡ 0) × (after ≡ before)
+  pub finished : file_answer b ≡ Ok tt → (n : ℕ) (ss : List Step) → 1 ≤ n → n ≤ 6 → RestsOn n (plan_of b) ss
       → Reported (lines_after n (plan_of b) ss) before answer filled after
-  pub rests : file_answer b ≡ Accepted → ComesToRest (plan_of b)
+  pub rests : file_answer b ≡ Ok tt → ComesToRest (plan_of b)

@@ -1,7 +1,6 @@
 -- The run of a plan on one desk to rest.
-use Rattle.std.specs.Prelude.{◌≡◌, List, [], ℕ}
+use Rattle.std.specs.Prelude.{◌≡◌, List, [], ℕ, Ok}
 use Rattle.plan.specs.declared.Plan.{Plan}
-use Rattle.plan.specs.declared.PlanAnswer.TheVariants.{Accepted}
 use Rattle.plan.specs.Programs.{programs}
 use Rattle.plan.specs.Refusals.{plan_answer}
 use Rattle.rules.specs.declared.step.Step.{Step}
@@ -15,7 +14,7 @@ use Rattle.claim.specs.Work.{work_of}
 
 -- what is lent is the one-desk rig of plan p after the list ss, which has so many accepted runs
 pub record After (codes numbers users : List ℕ) (count : ℕ) (l : Lent) (p : Plan) (ss : List Step) (work : ℕ) : Type 0 where
-  pub accepted : plan_answer (programs p) ≡ Accepted
+  pub accepted : plan_answer (programs p) ≡ Ok tt
   pub derived : facts_in count codes numbers users ≡ facts_of p
   pub indexed : Indexed users
   pub whole : Whole l.board

@@ -71,10 +71,8 @@ pub fn answer<'a>(
     );
     let mut progress = [0usize; 2];
     emit_answer(out, &mut progress, codes, &users, &board, count, work);
-    let filled = progress[0];
-    let whole = progress[1] == 0;
     Answered {
-        filled: filled,
-        whole: whole,
+        filled: progress[0],
+        whole: progress[1] == 0,
     }
 }

@@ -3,10 +3,10 @@ ghost use Rattle.std.specs.Prelude.{◌≡◌};
 ghost use Rattle.finish.specs.Files.{FinishFile};
 
 use crate::answer::answer;
-use plan::PlanAnswer;
+use plan::Refusal;
 use plan_file::opening::open;
 use plan_index::ends::numbers::put_numbers;
-use rules::step::RunAnswer;
+use rules::step::RunRefusal;
 use run::file::run::Outcome;
 
 // 2 to 6 as at start; then the lines, as many as fit, and 20 if they do not all fit.
@@ -18,16 +18,14 @@ pub fn finish_file<'a>(plan: &'a [u8], out: &'a mut [u8]) -> Outcome
     let mut senders = [0u8; 129];
     let mut receivers = [0u8; 129];
     let opened = open(plan, &mut codes, &mut parents, &mut senders, &mut receivers);
-    let checked = opened.answer;
-    match checked {
-        PlanAnswer::Refused(a) => Outcome {
-            answer: RunAnswer::Unstarted(a),
+    match opened.answer {
+        Err(a) => Outcome {
+            answer: Err(RunRefusal::Unstarted(a)),
             filled: 0,
         },
-        PlanAnswer::Accepted => {
-            let lengths = opened.lengths;
+        Ok(()) => {
             let mut numbers = [0u8; 4096];
-            put_numbers(opened.tasks, &lengths, &codes, &mut numbers);
+            put_numbers(opened.tasks, &opened.lengths, &codes, &mut numbers);
             let d = answer(
                 opened.tasks,
                 &codes,
@@ -37,16 +35,15 @@ pub fn finish_file<'a>(plan: &'a [u8], out: &'a mut [u8]) -> Outcome
                 &parents,
                 out,
             );
-            let filled = d.filled;
             if d.whole {
                 return Outcome {
-                    answer: RunAnswer::Traced,
-                    filled: filled,
+                    answer: Ok(()),
+                    filled: d.filled,
                 };
             }
             Outcome {
-                answer: RunAnswer::OutputShort,
-                filled: filled,
+                answer: Err(RunRefusal::OutputShort),
+                filled: d.filled,
             }
         }
     }

@@ -22,8 +22,7 @@ fn emit_first<'a>(out: &'a mut [u8], progress: &'a mut [usize; 2], all: bool, wo
     if progress[1] != 0 {
         return;
     }
-    let filled = progress[0];
-    let written = emit_verdict(out, filled, all, work);
+    let written = emit_verdict(out, progress[0], all, work);
     note(progress, written);
 }
 
@@ -49,8 +48,7 @@ fn emit_task<'a>(
         return;
     }
     let u = depends_on(codes, users, TaskId(t), x);
-    let filled = progress[0];
-    let written = emit_stuck(out, filled, base::wide8(t), base::wide8(u.0));
+    let written = emit_stuck(out, progress[0], t as usize, u.0 as usize);
     note(progress, written);
 }
 
@@ -68,10 +66,8 @@ fn emit_list<'a>(
     ensures { LinesNext (stuck_lines_in codes.now (senders_of users.now) (receivers_of users.now) (tasks_on board.now) count)
         progress.old out.old progress.new out.new }
 {
-    let mut t: u8 = 0;
-    while t < count {
-        t += 1;
-        emit_task(out, progress, codes, users, board, t);
+    for k in 0..count {
+        emit_task(out, progress, codes, users, board, k + 1);
     }
 }
 

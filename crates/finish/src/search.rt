@@ -6,21 +6,18 @@ ghost use Rattle.finish.specs.Searches.{Found};
 
 use board::Board;
 use plan::TaskId;
-use steps::instruction::refusal::{is_accepted, run_refusal};
+use steps::instruction::refusal::run_refusal;
 
 // A task of low + 1 to high that can run; 0 if there is none.
 fn search<'a>(codes: &'a [u32; 4096], board: &'a Board, count: u8, low: u8, high: u8) -> u8
     requires { (Placed count (tasks_on board.now)) × (low ≤ high) × (high ≤ 64) }
     ensures { Found codes.now count (tasks_on board.now) low high result }
 {
-    let mut k = low;
-    while k < high {
+    for k in low..high {
         let t = k + 1;
-        let q = run_refusal(codes, board, count, TaskId(t));
-        if is_accepted(q) {
+        if run_refusal(codes, board, count, TaskId(t)).is_ok() {
             return t;
         }
-        k = t;
     }
     0
 }

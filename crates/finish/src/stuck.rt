@@ -12,29 +12,23 @@ use plan::{ChannelId, TaskId};
 use plan_index::user_table::users;
 use rules::task::{Task, TaskState};
 use task_rules::children::has_child;
-use task_rules::state::is_in;
 
 // A task that is born and not done.
 pub fn is_stuck(x: Task) -> bool
     ensures { result ≡ is_stuck x }
 {
-    if is_in(x, TaskState::Unborn) {
-        return false;
-    }
-    !is_in(x, TaskState::Done)
+    x.state != TaskState::Unborn && x.state != TaskState::Done
 }
 
 // The lowest living child of a task; 0 if it has none.
 pub fn lowest_child(x: Task) -> u8
     ensures { result ≡ lowest 64 x.children }
 {
-    let mut k: u8 = 0;
-    while k < 64 {
+    for k in 0..64 {
         let t = k + 1;
         if has_child(x, TaskId(t)) {
             return t;
         }
-        k = t;
     }
     0
 }
@@ -53,15 +47,11 @@ pub fn depends_on<'a>(codes: &'a [u32; 4096], users: &'a [u8; 1024], t: TaskId, 
     requires { Dependent codes.now t x }
     ensures { result ≡ depends_in codes.now (senders_of users.now) (receivers_of users.now) t x }
 {
-    if is_in(x, TaskState::Sending) {
-        let c = last_channel(codes, t, x);
-        return users::receiver(users, c);
+    match x.state {
+        TaskState::Sending => users::receiver(users, last_channel(codes, t, x)),
+        TaskState::Receiving => users::sender(users, last_channel(codes, t, x)),
+        _ => TaskId(lowest_child(x)),
     }
-    if is_in(x, TaskState::Receiving) {
-        let c = last_channel(codes, t, x);
-        return users::sender(users, c);
-    }
-    TaskId(lowest_child(x))
 }
 
 // Whether no task of 1 to `count` is stuck.
@@ -69,14 +59,11 @@ pub fn finishes(board: &Board, count: u8) -> bool
     requires { count ≤ 64 }
     ensures { result ≡ finishes_in (tasks_on board.now) count }
 {
-    let mut k: u8 = 0;
-    while k < count {
-        let t = k + 1;
-        let x = task_at(board, TaskId(t));
+    for k in 0..count {
+        let x = task_at(board, TaskId(k + 1));
         if is_stuck(x) {
             return false;
         }
-        k = t;
     }
     true
 }

@@ -7,12 +7,13 @@ use Prim.Native.Nat.{ℕ, ◌+◌, ◌<◌, ◌≤◌}
 use native.Mathlib.Omega.{arith}
 use lib.ListN.{length}
 use borrow.Author.Tests.{le-leb}
+use Rattle.std.specs.Prelude.{Ok, Err}
 use Rattle.base.specs.Choice.{pick, within}
 use Rattle.base.proofs.Tests.{within_low}
 use Rattle.plan.specs.declared.TaskId.{TaskId}
 use Rattle.plan.specs.declared.ProcessorId.{ProcessorId}
-use Rattle.rules.specs.declared.step.StepAnswer.{StepAnswer}
-use Rattle.rules.specs.declared.step.StepAnswer.TheVariants.{Accepted, BadSystem, NoTask, NotReady, FinishWithChildren, NetworkFull, NoMessage, NoProcessor, AlreadyThere, MoveWithChildren, MovesSpent, BadStep}
+use Rattle.rules.specs.Answers.{StepAnswer}
+use Rattle.rules.specs.declared.step.StepRefusal.TheVariants.{BadSystem, NoTask, NotReady, FinishWithChildren, NetworkFull, NoMessage, NoProcessor, AlreadyThere, MoveWithChildren, MovesSpent, BadStep}
 use Rattle.rules.specs.declared.system.System.{System}
 use Rattle.rules.specs.declared.system.TaskTable.{TaskTable}
 use Rattle.rules.specs.Numbers.{task_id, processor_id}
@@ -28,8 +29,7 @@ use Rattle.rules_laws.proofs.Messages.{few_messages}
 use Rattle.rules_sound.proofs.Sound.{sound}
 use Rattle.network.specs.Positions.{position_of}
 use Rattle.rig_parts.specs.declared.change.Change.{Change}
-use Rattle.rig_parts.specs.declared.change.Verdict.{Verdict}
-use Rattle.rig_parts.specs.declared.change.Verdict.TheVariants.{Accepted as Allowed}
+use Rattle.rig_parts.specs.Answers.{Verdict}
 use Rattle.rig_parts.specs.Answers.{unless_refused, verdict_of}
 use Rattle.rig_parts.specs.declared.kept.Kept.{Kept}
 use Rattle.rig_parts.specs.Effects.{ran_of}
@@ -46,21 +46,21 @@ use Rattle.panel.specs.Counted.{RunsAs, delivery_of, DeliversAs, MovesAs, Lends}
 
 -- what is said of a verdict by an answer
 said_of : (k : Change) (a : StepAnswer) → (act_of (verdict_of k a)).answer ≡ a
-said_of k Accepted = refl
-said_of k BadSystem = refl
-said_of k NoTask = refl
-said_of k NotReady = refl
-said_of k FinishWithChildren = refl
-said_of k NetworkFull = refl
-said_of k NoMessage = refl
-said_of k NoProcessor = refl
-said_of k AlreadyThere = refl
-said_of k MoveWithChildren = refl
-said_of k MovesSpent = refl
-said_of k BadStep = refl
+said_of k (Ok tt) = refl
+said_of k (Err BadSystem) = refl
+said_of k (Err NoTask) = refl
+said_of k (Err NotReady) = refl
+said_of k (Err FinishWithChildren) = refl
+said_of k (Err NetworkFull) = refl
+said_of k (Err NoMessage) = refl
+said_of k (Err NoProcessor) = refl
+said_of k (Err AlreadyThere) = refl
+said_of k (Err MoveWithChildren) = refl
+said_of k (Err MovesSpent) = refl
+said_of k (Err BadStep) = refl
 
 -- with fewer than 250 letters in the mail there is room for what a rule posts
-roomy : (n used : ℕ) → n ≤ 6 → used < 250 → (k : Change) → fitting_in n used k ≡ Allowed k
+roomy : (n used : ℕ) → n ≤ 6 → used < 250 → (k : Change) → fitting_in n used k ≡ Ok k
 roomy n used few room k =
     let m = length (messages_of n k.outcome.posting) in
     rw (le-leb (used + m) 256 (omega (arith, few_messages n k.outcome.posting))) refl
@@ -98,17 +98,17 @@ module _ (used p : ℕ) {q : ℕ} (at : q ≡ position_of used (deliver_step p))
   unfolding position_of
   found b e = at ∙ rw e refl
 
-  pub delivery_none : q ≡ 0 → NoMessage ≡ delivery_of used p
+  pub delivery_none : q ≡ 0 → (Err NoMessage) ≡ delivery_of used p
   delivery_none none = go (within 1 used p) refl
     where
-      go : (b : Bool) → within 1 used p ≡ b → NoMessage ≡ delivery_of used p
+      go : (b : Bool) → within 1 used p ≡ b → (Err NoMessage) ≡ delivery_of used p
       go true e = absurd (omega (arith, found true e, within_low 1 used p e))
       go false e = rw e refl
 
-  pub delivery_some : q ≢ 0 → Accepted ≡ delivery_of used p
+  pub delivery_some : q ≢ 0 → (Ok tt) ≡ delivery_of used p
   delivery_some some = go (within 1 used p) refl
     where
-      go : (b : Bool) → within 1 used p ≡ b → Accepted ≡ delivery_of used p
+      go : (b : Bool) → within 1 used p ≡ b → (Ok tt) ≡ delivery_of used p
       go true e = rw e refl
       go false e = absurd (some (found false e))
 

@@ -6,13 +6,13 @@ use Prim.Native.Nat.{ℕ, zero, suc, ◌+◌, ◌<◌, ◌≤◌}
 use native.Mathlib.Numerals.{add-one}
 use native.Mathlib.Omega.{arith}
 use native.Mathlib.Decide.{ℕ_discrete}
-use lib.ListN.{length, get_or, set, replicate, length-set}
+use lib.ListN.{get_or, replicate, length-set}
 use lib.Seq.{get_or-set_same, get_or-set_other}
 use Rattle.base.specs.Range.{fold, joined}
 use Rattle.base.specs.Lists.{table}
 use Rattle.base.proofs.Tables.{table_more}
 use Rattle.rules.specs.declared.step.Step.{Step}
-use Rattle.rules.specs.declared.step.StepAnswer.{StepAnswer}
+use Rattle.rules.specs.Answers.{StepAnswer}
 use Rattle.rules.specs.declared.system.System.{System}
 use Rattle.rules.specs.Answers.{step_number}
 use Rattle.rules.specs.Steps.{step_answer}

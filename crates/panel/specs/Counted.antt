@@ -1,9 +1,9 @@
 -- Counts that grow by steps, and what is lent for the steps' answers to be those of a rig.
-use Rattle.std.specs.Prelude.{◌≡◌, true, List, ◌++◌, ℕ, ◌≤◌, get_or, length}
+use Rattle.std.specs.Prelude.{◌≡◌, true, List, ◌++◌, ℕ, ◌≤◌, get_or, length, Ok, Err}
 use Rattle.base.specs.Choice.{unless, within}
 use Rattle.rules.specs.declared.step.Step.{Step}
-use Rattle.rules.specs.declared.step.StepAnswer.{StepAnswer}
-use Rattle.rules.specs.declared.step.StepAnswer.TheVariants.{Accepted, NoMessage}
+use Rattle.rules.specs.Answers.{StepAnswer}
+use Rattle.rules.specs.declared.step.StepRefusal.TheVariants.{NoMessage}
 use Rattle.rules.specs.declared.system.System.{System}
 use Rattle.rules.specs.declared.system.TaskTable.{TaskTable}
 use Rattle.rules.specs.Numbers.{task_id, processor_id}
@@ -34,7 +34,7 @@ RunsAs f n l r = (t : ℕ) → (act_of (judged_run f n.processors (tasks_of l) (
 
 -- 14, unless the mail has a letter at position p
 abbrev pub delivery_of : ℕ → ℕ → StepAnswer
-delivery_of used p = unless (within 1 used p) NoMessage Accepted
+delivery_of used p = unless (within 1 used p) (Err NoMessage) (Ok tt)
 
 -- and deliveries, of so many letters
 abbrev pub DeliversAs : ℕ → System → Type 0

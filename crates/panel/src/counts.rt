@@ -16,7 +16,7 @@ use board::Board;
 use board::act::Size;
 use network::position;
 use plan::TaskId;
-use rules::step::{Step, StepAnswer};
+use rules::step::{Step, StepRefusal};
 use steps::instruction::refusal::run_refusal;
 use steps::instruction::run::run_decided;
 use steps::moves::move_refusal;
@@ -59,60 +59,59 @@ fn none() -> Tally
 }
 
 // One step more got this answer.
-fn more(q: Tally, a: StepAnswer) -> Tally
+fn more(q: Tally, a: Result<(), StepRefusal>) -> Tally
     requires { Few 65534 (counts_of q) }
     ensures { counts_of result ≡ raised (counts_of q) (step_number a) }
 {
-    let mut q = q;
     match a {
-        StepAnswer::Accepted => {
-            q.accepted = q.accepted + 1;
-            q
-        }
-        StepAnswer::BadSystem => {
-            q.system = q.system + 1;
-            q
-        }
-        StepAnswer::NoTask => {
-            q.task = q.task + 1;
-            q
-        }
-        StepAnswer::NotReady => {
-            q.ready = q.ready + 1;
-            q
-        }
-        StepAnswer::FinishWithChildren => {
-            q.finish = q.finish + 1;
-            q
-        }
-        StepAnswer::NetworkFull => {
-            q.full = q.full + 1;
-            q
-        }
-        StepAnswer::NoMessage => {
-            q.message = q.message + 1;
-            q
-        }
-        StepAnswer::NoProcessor => {
-            q.processor = q.processor + 1;
-            q
-        }
-        StepAnswer::AlreadyThere => {
-            q.there = q.there + 1;
-            q
-        }
-        StepAnswer::MoveWithChildren => {
-            q.children = q.children + 1;
-            q
-        }
-        StepAnswer::MovesSpent => {
-            q.spent = q.spent + 1;
-            q
-        }
-        StepAnswer::BadStep => {
-            q.step = q.step + 1;
-            q
-        }
+        Ok(()) => Tally {
+            accepted: q.accepted + 1,
+            ..q
+        },
+        Err(StepRefusal::BadSystem) => Tally {
+            system: q.system + 1,
+            ..q
+        },
+        Err(StepRefusal::NoTask) => Tally {
+            task: q.task + 1,
+            ..q
+        },
+        Err(StepRefusal::NotReady) => Tally {
+            ready: q.ready + 1,
+            ..q
+        },
+        Err(StepRefusal::FinishWithChildren) => Tally {
+            finish: q.finish + 1,
+            ..q
+        },
+        Err(StepRefusal::NetworkFull) => Tally {
+            full: q.full + 1,
+            ..q
+        },
+        Err(StepRefusal::NoMessage) => Tally {
+            message: q.message + 1,
+            ..q
+        },
+        Err(StepRefusal::NoProcessor) => Tally {
+            processor: q.processor + 1,
+            ..q
+        },
+        Err(StepRefusal::AlreadyThere) => Tally {
+            there: q.there + 1,
+            ..q
+        },
+        Err(StepRefusal::MoveWithChildren) => Tally {
+            children: q.children + 1,
+            ..q
+        },
+        Err(StepRefusal::MovesSpent) => Tally {
+            spent: q.spent + 1,
+            ..q
+        },
+        Err(StepRefusal::BadStep) => Tally {
+            step: q.step + 1,
+            ..q
+        },
     }
 }
 
@@ -150,7 +149,7 @@ fn run_answer<'a>(
     board: &'a Board,
     n: Size,
     t: u8,
-) -> StepAnswer
+) -> Result<(), StepRefusal>
     requires { RigOn codes.now numbers.now users.now n
         (lent hintprocessors.now hintmoves.now heldprocessors.now heldnumbers.now notes.now board.now) }
     ensures { let l = lent hintprocessors.now hintmoves.now heldprocessors.now heldnumbers.now notes.now board.now in
@@ -159,7 +158,7 @@ fn run_answer<'a>(
     if n.used < 250 {
         return run_refusal(codes, board, n.tasks, TaskId(t));
     }
-    let act = run_decided(
+    run_decided(
         codes,
         numbers,
         users,
@@ -171,8 +170,8 @@ fn run_answer<'a>(
         board,
         n,
         TaskId(t),
-    );
-    act.answer
+    )
+    .answer
 }
 
 // The runs of tasks 1 to T.
@@ -198,9 +197,7 @@ fn count_runs<'a>(
         → CountsMore r (runs n.tasks) (counts_of before) (counts_of result)) }
 {
     let mut q = before;
-    let mut k: u8 = 0;
-    while k < n.tasks {
-        let t = k + 1;
+    for k in 0..n.tasks {
         let a = run_answer(
             codes,
             numbers,
@@ -212,15 +209,14 @@ fn count_runs<'a>(
             notes,
             board,
             n,
-            t,
+            k + 1,
         );
         q = more(q, a);
-        k = t;
     }
     q
 }
 // What a delivery at position p would be answered, of so many letters: only its position is asked.
-fn delivery_answer(used: usize, p: u16) -> StepAnswer
+fn delivery_answer(used: usize, p: u16) -> Result<(), StepRefusal>
     ensures { result ≡ delivery_of used p }
 {
     let s = Step {
@@ -229,9 +225,9 @@ fn delivery_answer(used: usize, p: u16) -> StepAnswer
         number: p,
     };
     if position(used, s) == 0 {
-        return StepAnswer::NoMessage;
+        return Err(StepRefusal::NoMessage);
     }
-    StepAnswer::Accepted
+    Ok(())
 }
 
 // The deliveries at 1 to 256.
@@ -241,12 +237,8 @@ fn count_deliveries(used: usize, before: Tally) -> Tally
         × ((r : System) → DeliversAs used r → CountsMore r (deliveries 256) (counts_of before) (counts_of result)) }
 {
     let mut q = before;
-    let mut k: usize = 0;
-    while k < 256 {
-        let p = k + 1;
-        let a = delivery_answer(used, p as u16);
-        q = more(q, a);
-        k = p;
+    for k in 0..256 {
+        q = more(q, delivery_answer(used, k + 1));
     }
     q
 }
@@ -258,12 +250,9 @@ fn count_moves_of(board: &Board, n: Size, t: u8, before: Tally) -> Tally
         × ((r : System) → MovesAs (tasks_on board.now) n r → CountsMore r (moves_of t n.processors) (counts_of before) (counts_of result)) }
 {
     let mut q = before;
-    let mut k: u8 = 0;
-    while k < n.processors {
+    for k in 0..n.processors {
         let d = k + 1;
-        let a = move_refusal(board, n, TaskId(t), d as u16);
-        q = more(q, a);
-        k = d;
+        q = more(q, move_refusal(board, n, TaskId(t), d as u16));
     }
     q
 }
@@ -275,11 +264,8 @@ fn count_moves(board: &Board, n: Size, before: Tally) -> Tally
         → CountsMore r (moves n.tasks n.processors) (counts_of before) (counts_of result) }
 {
     let mut q = before;
-    let mut k: u8 = 0;
-    while k < n.tasks {
-        let t = k + 1;
-        q = count_moves_of(board, n, t, q);
-        k = t;
+    for k in 0..n.tasks {
+        q = count_moves_of(board, n, k + 1, q);
     }
     q
 }

@@ -8,19 +8,19 @@ ghost use Rattle.panel.specs.Files.{PanelOf, PanelFile};
 use crate::counts::counts_on;
 use board::act::Size;
 use board::sweeps::locate;
-use plan::{PlanAnswer, ProcessorId, Refusal, TaskId};
+use plan::{ProcessorId, Refusal, TaskId};
 use plan_file::opening::open;
 use plan_index::ends::numbers::put_numbers;
 use plan_index::user_table::users::build;
 use rig::start::{no_messages, no_tables, start_board};
 use rules::channel::Hint;
-use rules::step::RunAnswer;
+use rules::step::RunRefusal;
 use run::all_steps::run_steps;
 
 // The answer, and the counts where it is accepted.
 #[derive(Clone, Copy)]
 pub struct Shown {
-    pub answer: RunAnswer,
+    pub answer: Result<(), RunRefusal>,
     pub counts: [u16; 27],
 }
 
@@ -67,7 +67,7 @@ fn counts_after<'a>(
     );
     let size = Size {
         tasks: count,
-        processors: processors,
+        processors,
         used: 0,
     };
     let network = no_messages();
@@ -91,7 +91,7 @@ fn counts_after<'a>(
     );
     let n = Size {
         tasks: count,
-        processors: processors,
+        processors,
         used: after.used,
     };
     counts_on(
@@ -109,11 +109,11 @@ fn counts_after<'a>(
 }
 
 // A refused file has no count.
-fn refused(answer: RunAnswer) -> Shown
+fn refused(answer: Result<(), RunRefusal>) -> Shown
     ensures { result.answer ≡ answer }
 {
     Shown {
-        answer: answer,
+        answer,
         counts: [0u16; 27],
     }
 }
@@ -122,24 +122,22 @@ fn refused(answer: RunAnswer) -> Shown
 pub fn panel_file<'a>(processors: u32, plan: &'a [u8], steps: &'a [u8]) -> Shown
     ensures { PanelFile processors plan.now steps.now result.answer result.counts }
 {
-    if !base::is_within(1, 6, processors as usize) {
-        return refused(RunAnswer::Unstarted(Refusal::BadProcessors));
+    if !(1..=6).contains(&processors) {
+        return refused(Err(RunRefusal::Unstarted(Refusal::BadProcessors)));
     }
     let mut codes = [0u32; 4096];
     let mut parents = [0u8; 129];
     let mut senders = [0u8; 129];
     let mut receivers = [0u8; 129];
     let opened = open(plan, &mut codes, &mut parents, &mut senders, &mut receivers);
-    let answer = opened.answer;
-    match answer {
-        PlanAnswer::Refused(a) => refused(RunAnswer::Unstarted(a)),
-        PlanAnswer::Accepted => {
+    match opened.answer {
+        Err(a) => refused(Err(RunRefusal::Unstarted(a))),
+        Ok(()) => {
             if !run::file::run::steps_ok(steps) {
-                return refused(RunAnswer::BadSteps);
+                return refused(Err(RunRefusal::BadSteps));
             }
-            let lengths = opened.lengths;
             let mut numbers = [0u8; 4096];
-            put_numbers(opened.tasks, &lengths, &codes, &mut numbers);
+            put_numbers(opened.tasks, &opened.lengths, &codes, &mut numbers);
             let counts = counts_after(
                 opened.tasks,
                 &codes,
@@ -151,8 +149,8 @@ pub fn panel_file<'a>(processors: u32, plan: &'a [u8], steps: &'a [u8]) -> Shown
                 steps,
             );
             Shown {
-                answer: RunAnswer::Traced,
-                counts: counts,
+                answer: Ok(()),
+                counts,
             }
         }
     }

@@ -24,11 +24,7 @@ use rules::system::{Store, System};
 fn is_countable(r: System) -> bool
     ensures { result ≡ countable r }
 {
-    let p = r.plan;
-    base::both(
-        base::is_within(1, 64, base::wide8(p.tasks)),
-        base::is_within(1, 6, base::wide8(r.processors)),
-    )
+    (1..=64).contains(&r.plan.tasks) && (1..=6).contains(&r.processors)
 }
 
 // All steps of a panel of m tasks and n desks under 9 alone.
@@ -47,50 +43,33 @@ fn ruled(r: System) -> [u16; 27]
     requires { (system_ok r ≡ true) × (Shaped r) }
     ensures { result ≡ tallied r (panel_steps r.plan.tasks r.processors) }
 {
-    let plan = r.plan;
-    let e = plan_index::ends::derive(plan);
-    let count = plan.tasks;
-    let codes = plan.codes;
-    let numbers = e.numbers;
-    let senders = e.senders;
-    let receivers = e.receivers;
-    let parents = e.parents;
+    let e = plan_index::ends::derive(r.plan);
     let mut users = [0u8; 1024];
-    build(&senders, &receivers, &parents, &mut users);
-    let tables = r.tables;
-    let channels = r.channels;
+    build(&e.senders, &e.receivers, &e.parents, &mut users);
     let store = Store {
-        tables: tables,
-        channels: channels,
+        tables: r.tables,
+        channels: r.channels,
     };
-    let family = r.parents;
     let kept = Kept {
-        store: store,
-        parents: family,
+        store,
+        parents: r.parents,
     };
-    let tasks = r.tasks;
     let mut board = [0u64; 1094];
-    rig_step::put::put_rig(&mut board, tasks, kept);
-    let hintprocessors = tables.hintprocessors;
-    let hintmoves = tables.hintmoves;
-    let heldprocessors = tables.heldprocessors;
-    let heldnumbers = tables.heldnumbers;
-    let notes = tables.notes;
-    let network = r.network;
+    rig_step::put::put_rig(&mut board, r.tasks, kept);
     let n = Size {
-        tasks: count,
+        tasks: r.plan.tasks,
         processors: r.processors,
-        used: network.used,
+        used: r.network.used,
     };
     counts_on(
-        &codes,
-        &numbers,
+        &r.plan.codes,
+        &e.numbers,
         &users,
-        &hintprocessors,
-        &hintmoves,
-        &heldprocessors,
-        &heldnumbers,
-        &notes,
+        &r.tables.hintprocessors,
+        &r.tables.hintmoves,
+        &r.tables.heldprocessors,
+        &r.tables.heldnumbers,
+        &r.tables.notes,
         &board,
         n,
     )
@@ -104,8 +83,7 @@ pub fn panel(r: System) -> [u16; 27]
         return [0u16; 27];
     }
     if !rig_step::passes(r) {
-        let p = r.plan;
-        return all_nine(p.tasks, r.processors);
+        return all_nine(r.plan.tasks, r.processors);
     }
     ruled(r)
 }

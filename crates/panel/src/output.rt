@@ -6,10 +6,7 @@ pub fn put_counts(out: &mut [u32], counts: [u16; 27])
     requires { 27 ≤ length out.old }
     ensures { out.new ≡ counts ++ drop 27 out.old }
 {
-    let mut k: usize = 0;
-    while k < 27 {
-        let c = counts[k];
-        out[k] = c as u32;
-        k += 1;
+    for k in 0..27 {
+        out[k] = counts[k] as u32;
     }
 }

@@ -6,15 +6,15 @@ use native.Mathlib.Omega.{arith}
 use lib.Dec.{leb}
 use lib.ListN.{length}
 use borrow.Author.Tests.{leb-true}
+use Rattle.std.specs.Prelude.{Ok, Err}
 use Rattle.base.specs.Choice.{unless}
-use Rattle.chase.specs.declared.ChaseAnswer.{ChaseAnswer}
-use Rattle.chase.specs.declared.ChaseAnswer.TheVariants.{Written, TooMany, OutputShort}
+use Rattle.chase.specs.declared.ChaseRefusal.TheVariants.{TooMany, OutputShort}
 use Rattle.chase.specs.Construction.{chase_plan, chase_file}
-use Rattle.chase.specs.Outcomes.{chase_answer}
+use Rattle.chase.specs.Outcomes.{ChaseAnswer, chase_answer}
 use Rattle.chase.proofs.Files.{length_chase_file}
 use Rattle.planner.specs.Chases.{chase_size, longest_chase}
 
-after_tests : (a b : Bool) (n : ℕ) → (a ≡ true → n ≤ longest_chase) → chase_size (unless a TooMany (unless b OutputShort (Written n))) ≤ longest_chase
+after_tests : (a b : Bool) (n : ℕ) → (a ≡ true → n ≤ longest_chase) → chase_size (unless a (Err TooMany) (unless b (Err OutputShort) (Ok n))) ≤ longest_chase
 after_tests true true n h = h refl
 after_tests true false n h = omega arith
 after_tests false b n h = omega arith

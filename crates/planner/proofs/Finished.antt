@@ -6,12 +6,12 @@ use Prim.Native.Nat.{ℕ, ◌≤◌}
 use native.Mathlib.Omega.{arith}
 use lib.Dec.{leb}
 use lib.ListN.{length}
+use Rattle.std.specs.Prelude.{Ok, Err}
 use Rattle.base.specs.Choice.{pick}
-use Rattle.plan.specs.declared.PlanAnswer.{PlanAnswer}
-use Rattle.plan.specs.declared.PlanAnswer.TheVariants.{Accepted, Refused}
+use Rattle.plan.specs.Answers.{PlanAnswer}
 use Rattle.plan.specs.Files.{file_answer}
-use Rattle.rules.specs.declared.step.RunAnswer.{RunAnswer}
-use Rattle.rules.specs.declared.step.RunAnswer.TheVariants.{Traced, OutputShort}
+use Rattle.rules.specs.Answers.{RunAnswer}
+use Rattle.rules.specs.declared.step.RunRefusal.TheVariants.{OutputShort}
 use Rattle.rules.specs.Answers.{run_number}
 use Rattle.rules.specs.StepFiles.{text}
 use Rattle.run.proofs.file.Outcomes.{plan_ok}
@@ -22,7 +22,7 @@ use Rattle.driver.specs.Runs.{packed, enough}
 use Rattle.planner.specs.Finish.{FinishMeets}
 
 -- the number of what is said
-said_number : (b : Bool) → run_number (pick b Traced OutputShort) ≡ pick b 0 20
+said_number : (b : Bool) → run_number (pick b (Ok tt) (Err OutputShort)) ≡ pick b 0 20
 said_number true = refl
 said_number false = refl
 
@@ -32,8 +32,8 @@ module _ (p before : List ℕ) {answer : RunAnswer} {filled : ℕ} {after : List
   filled_few = go (file_answer p) refl
     where
       go : (a : PlanAnswer) → file_answer p ≡ a → filled ≤ enough
-      go (Refused a) e = omega (arith, (f.refused a e).1)
-      go Accepted e =
+      go (Err a) e = omega (arith, (f.refused a e).1)
+      go (Ok tt) e =
           let rest = f.rests e in
           let said = f.finished e 1 rest.list (omega arith) (omega arith) rest.rests in
           let lines = lines_after 1 (plan_of p) rest.list in

@@ -1,8 +1,6 @@
 -- The exported converter: its answer, the output then, that what is written is accepted by plan check, and that it gives the same words.
-use Rattle.std.specs.Prelude.{◌≡◌, ◌≢◌, List, ◌++◌, ℕ, ◌+◌, ◌*◌, ◌≤◌, length, take, drop}
-use Rattle.plan.specs.declared.PlanAnswer.TheVariants.{Accepted}
-use Rattle.plan.specs.declared.WriteAnswer.{WriteAnswer}
-use Rattle.plan.specs.declared.WriteAnswer.TheVariants.{Written, Unwritten}
+use Rattle.std.specs.Prelude.{◌≡◌, ◌≢◌, List, ◌++◌, ℕ, ◌+◌, ◌*◌, ◌≤◌, length, take, drop, Ok, Err}
+use Rattle.plan.specs.Answers.{WriteAnswer}
 use Rattle.plan.specs.declared.Refusal.TheVariants.{OutputShort}
 use Rattle.plan.specs.Answers.{write_number, write_size}
 use Rattle.plan.specs.Files.{file_answer}
@@ -28,8 +26,8 @@ convert_outcome b out = write_packed (convert_answer b out)
 pub record ConvertMeets (b before : List ℕ) (r : ℕ) (after : List ℕ) : Type 0 where
   pub result : r ≡ convert_outcome b before
   pub bytes : after ≡ convert_output b before
-  pub room : longest_plan ≤ length before → convert_answer b before ≢ Unwritten OutputShort
-  pub accepted : (n : ℕ) → convert_answer b before ≡ Written n → file_answer (take n after) ≡ Accepted
-  pub as_it_is : file_answer b ≡ Accepted → length b ≤ length before → after ≡ b ++ drop (length b) before
+  pub room : longest_plan ≤ length before → convert_answer b before ≢ Err OutputShort
+  pub accepted : (n : ℕ) → convert_answer b before ≡ Ok n → file_answer (take n after) ≡ Ok tt
+  pub as_it_is : file_answer b ≡ Ok tt → length b ≤ length before → after ≡ b ++ drop (length b) before
   -- what is claimed of plans with repeats, of this file
-  pub same : repeats_answer b ≡ Accepted → RepeatsWritten b
+  pub same : repeats_answer b ≡ Ok tt → RepeatsWritten b

@@ -4,16 +4,16 @@ ghost use Rattle.plan.specs.Answers.{write_size};
 ghost use Rattle.planner.specs.Converts.{longest_plan, write_packed, ConvertMeets};
 
 use convert::convert;
-use plan::WriteAnswer;
+use plan::Refusal;
 
 // The number of the answer, and 256 times the number of bytes that are written.
-fn write_packed(a: WriteAnswer) -> u64
+fn write_packed(a: Result<usize, Refusal>) -> u64
     requires { write_size a ≤ longest_plan }
     ensures { result ≡ write_packed a }
 {
     match a {
-        WriteAnswer::Written(n) => 256 * (n as u64),
-        WriteAnswer::Unwritten(r) => r.number() as u64,
+        Ok(n) => 256 * (n as u64),
+        Err(r) => r.number() as u64,
     }
 }
 
@@ -22,6 +22,5 @@ fn write_packed(a: WriteAnswer) -> u64
 pub fn mortarsedge_convert<'a>(plan: &'a [u8], out: &'a mut [u8]) -> u64
     ensures { ConvertMeets plan.now out.old result out.new }
 {
-    let answer = convert(plan, out);
-    write_packed(answer)
+    write_packed(convert(plan, out))
 }

@@ -10,8 +10,5 @@ pub fn mortarsedge_finish<'a>(plan: &'a [u8], out: &'a mut [u8]) -> u64
     ensures { FinishMeets plan.now out.old result out.new }
 {
     let o = finish_file(plan, out);
-    let answer = o.answer;
-    let number = run_number(answer);
-    let filled = o.filled;
-    packed(number, filled)
+    packed(run_number(o.answer), o.filled)
 }

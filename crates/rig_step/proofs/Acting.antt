@@ -5,13 +5,13 @@ use mathlib.Core.Bool.{true}
 use mathlib.Core.List.{List}
 use Prim.Native.Nat.{ℕ}
 use native.Mathlib.Omega.{arith}
+use Rattle.std.specs.Prelude.{Ok}
 use Rattle.rules.specs.declared.message.Message.{Message}
 use Rattle.rules.specs.declared.message.Network.{Network}
 use Rattle.rules.specs.declared.step.Report.{Report}
 use Rattle.rules.specs.declared.step.Step.{Step}
 use Rattle.rules.specs.Networks.{message_at, enqueued_all, messages_of}
 use Rattle.rules.specs.Sound.{message_ok}
-use Rattle.rig_parts.specs.declared.change.Verdict.TheVariants.{Accepted}
 use Rattle.rig_parts.specs.declared.turn.Turn.{Turn}
 use Rattle.rig_parts.specs.Facts.{Facts}
 use Rattle.rig_parts.specs.Openings.{opened_in}
@@ -71,7 +71,7 @@ module _ (codes numbers users : List ℕ) (n : Size) (m : Message) (x : Step) (l
       let there : p ≢ 0 = λ e. some (same ∙ e) in
       let letter : m ≡ message_at k p = d some ∙ ap (message_at k) same in
       let a =
-      subst (λ (z : Message). Acted (senders_of users) (receivers_of users) (Accepted (opened_in given (tasks_of l) (kept_of l) z)) l r l') letter (o n.tasks numbers) in
+      subst (λ (z : Message). Acted (senders_of users) (receivers_of users) (Ok (opened_in given (tasks_of l) (kept_of l) z)) l r l') letter (o n.tasks numbers) in
       turned_on a.whole
       (delivered_made given n.processors k x l l' r p refl there a (ap (λ (z : Network). enqueued_all z (messages_of n.processors r.posting)) (less_some k p there)))
 

@@ -1,8 +1,9 @@
 -- A rig taken apart beside what is derived of its plan, and put together after a step.
 use mathlib.Core.Path.{◌≡◌, refl}
 use mathlib.Core.Bool.{true, false}
+use Rattle.std.specs.Prelude.{Err}
 use Rattle.rules.specs.declared.step.Step.{Step}
-use Rattle.rules.specs.declared.step.StepAnswer.TheVariants.{BadSystem}
+use Rattle.rules.specs.declared.step.StepRefusal.TheVariants.{BadSystem}
 use Rattle.rules.specs.declared.system.System.{System}
 use Rattle.rules.specs.Sound.{system_ok}
 use Rattle.rules.specs.Steps.{step_answer, refused, answered, step}
@@ -16,7 +17,7 @@ use Rattle.rig_parts.proofs.Whole.{put_together, step_together}
 use Rattle.rig_parts.proofs.Rigs.{own_parts}
 
 -- a rig that 9 refuses
-pub bad_system : (r : System) (x : Step) → system_ok r ≡ false → refused r BadSystem ≡ step r x
+pub bad_system : (r : System) (x : Step) → system_ok r ≡ false → refused r (Err BadSystem) ≡ step r x
 unfolding step step_answer answered
 bad_system r x h = rw h refl
 

@@ -1,7 +1,6 @@
 // One step on what is lent, whose mail is not: the letter that it delivers is given, and what it posts is returned. The numbers of the
 // sends are derived where the step asks for them: by a run that is no set and no add.
 ghost use Rattle.std.specs.Prelude.{◌≡◌};
-ghost use Rattle.plan.specs.declared.PlanAnswer.TheVariants.{Accepted};
 ghost use Rattle.plan.specs.Programs.{programs};
 ghost use Rattle.plan.specs.Refusals.{plan_answer};
 ghost use Rattle.plan_value.specs.Slots.{plan_in};
@@ -34,7 +33,7 @@ fn numbered<'a>(
     n: Size,
     s: Step,
 ) -> Act
-    requires { (plan_answer (programs (plan_in n.tasks lengths.now codes.now)) ≡ Accepted)
+    requires { (plan_answer (programs (plan_in n.tasks lengths.now codes.now)) ≡ Ok tt)
         × RigOn codes.now (numbers_of n.tasks lengths.now codes.now) users.now n
         (lent hintprocessors.old hintmoves.old heldprocessors.old heldnumbers.old notes.old board.old) }
     ensures { OtherDone codes.now (numbers_of n.tasks lengths.now codes.now) users.now n s
@@ -73,7 +72,7 @@ fn other_on<'a>(
     n: Size,
     s: Step,
 ) -> Act
-    requires { (plan_answer (programs (plan_in n.tasks lengths.now codes.now)) ≡ Accepted)
+    requires { (plan_answer (programs (plan_in n.tasks lengths.now codes.now)) ≡ Ok tt)
         × RigOn codes.now (numbers_of n.tasks lengths.now codes.now) users.now n
         (lent hintprocessors.old hintmoves.old heldprocessors.old heldnumbers.old notes.old board.old) }
     ensures { OtherDone codes.now (numbers_of n.tasks lengths.now codes.now) users.now n s
@@ -117,7 +116,7 @@ pub fn act_on<'a>(
     letter: Message,
     s: Step,
 ) -> Act
-    requires { (plan_answer (programs (plan_in n.tasks lengths.now codes.now)) ≡ Accepted)
+    requires { (plan_answer (programs (plan_in n.tasks lengths.now codes.now)) ≡ Ok tt)
         × Acts codes.now (numbers_of n.tasks lengths.now codes.now) users.now n
         (lent hintprocessors.old hintmoves.old heldprocessors.old heldnumbers.old notes.old board.old)
         letter s }

@@ -18,23 +18,19 @@ ghost use Rattle.rules.specs.Steps.{step, refused};
 ghost use Rattle.rules_laws.specs.Shapes.{Shaped};
 
 use rig_parts::kept::Kept;
-use rules::rule::Received;
-use rules::step::{Report, Step, StepAnswer, Stepped};
+use rules::step::{Report, Step, StepRefusal, Stepped};
 use rules::system::{Store, System};
 use turn::turn;
 
 // A refused step gives the rig back.
-fn refused(r: System, a: StepAnswer) -> Stepped
+fn refused(r: System, a: Result<(), StepRefusal>) -> Stepped
     ensures { result ≡ refused r a }
 {
     let report = Report {
         answer: a,
-        received: Received::Nothing,
+        received: None,
     };
-    Stepped {
-        report: report,
-        system: r,
-    }
+    Stepped { report, system: r }
 }
 
 // Whether 9 does not refuse a rig; a rig's arrays have their sizes.
@@ -49,55 +45,40 @@ pub fn step(r: System, s: Step) -> Stepped
     ensures { result ≡ step r s }
 {
     if !passes(r) {
-        return refused(r, StepAnswer::BadSystem);
+        return refused(r, Err(StepRefusal::BadSystem));
     }
-    let plan = r.plan;
-    let e = plan_index::ends::derive(plan);
-    let count = plan.tasks;
-    let codes = plan.codes;
-    let numbers = e.numbers;
-    let senders = e.senders;
-    let receivers = e.receivers;
-    let parents = e.parents;
-    let processors = r.processors;
-    let tables = r.tables;
-    let channels = r.channels;
+    let e = plan_index::ends::derive(r.plan);
     let store = Store {
-        tables: tables,
-        channels: channels,
+        tables: r.tables,
+        channels: r.channels,
     };
-    let family = r.parents;
     let kept = Kept {
-        store: store,
-        parents: family,
+        store,
+        parents: r.parents,
     };
-    let tasks = r.tasks;
-    let network = r.network;
     let t = turn(
-        count, &codes, &numbers, &senders, &receivers, &parents, processors, tasks, network, kept,
+        r.plan.tasks,
+        &r.plan.codes,
+        &e.numbers,
+        &e.senders,
+        &e.receivers,
+        &e.parents,
+        r.processors,
+        r.tasks,
+        r.network,
+        kept,
         s,
     );
-    let report = t.report;
-    let after = t.tasks;
-    let network = t.network;
-    let left = t.kept;
-    let now_store = left.store;
-    let now_tables = now_store.tables;
-    let now_channels = now_store.channels;
-    let now_parents = left.parents;
-    let chosen = r.chosen;
     let system = System {
-        processors: processors,
-        plan: plan,
-        tasks: after,
-        tables: now_tables,
-        channels: now_channels,
-        parents: now_parents,
-        network: network,
-        chosen: chosen,
+        tasks: t.tasks,
+        tables: t.kept.store.tables,
+        channels: t.kept.store.channels,
+        parents: t.kept.parents,
+        network: t.network,
+        ..r
     };
     Stepped {
-        report: report,
-        system: system,
+        report: t.report,
+        system,
     }
 }

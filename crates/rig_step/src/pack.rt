@@ -16,21 +16,19 @@ fn channel_of(channels: Channels, k: usize) -> Channel
     requires { k < 128 }
     ensures { result ≡ read_channel channels k }
 {
-    let offering = ProcessorId(channels.carriedprocessors[k]);
     let carried = Offer {
-        processor: offering,
+        processor: ProcessorId(channels.carriedprocessors[k]),
         number: channels.carriednumbers[k],
     };
-    let toward = ProcessorId(channels.travellingprocessors[k]);
     let travelling = Hint {
-        processor: toward,
+        processor: ProcessorId(channels.travellingprocessors[k]),
         moves: channels.travellingmoves[k],
     };
     Channel {
         granted: channels.granted[k],
         awaiting: channels.awaiting[k],
-        carried: carried,
-        travelling: travelling,
+        carried,
+        travelling,
     }
 }
 
@@ -39,12 +37,8 @@ fn put_records(board: &mut Board, records: [Task; 64])
     requires { Whole board.old }
     ensures { (Whole board.new) × (records_on board.new ≡ records) × (channels_on board.new ≡ channels_on board.old) }
 {
-    let mut k: u8 = 0;
-    while k < 64 {
-        let at = base::wide8(k);
-        let x = records[at];
-        put_task(board, TaskId(k + 1), x);
-        k += 1;
+    for k in 0..64 {
+        put_task(board, TaskId(k + 1), records[k as usize]);
     }
 }
 
@@ -54,12 +48,8 @@ fn put_sets(board: &mut Board, ready: [u64; 6])
     ensures { (Whole board.new) × (ready_on board.new ≡ ready) × (records_on board.new ≡ records_on board.old)
         × (channels_on board.new ≡ channels_on board.old) }
 {
-    let mut k: u8 = 0;
-    while k < 6 {
-        let at = base::wide8(k);
-        let s = ready[at];
-        put_set(board, ProcessorId(k + 1), s);
-        k += 1;
+    for k in 0..6 {
+        put_set(board, ProcessorId(k + 1), ready[k as usize]);
     }
 }
 
@@ -68,10 +58,8 @@ pub fn put_tasks(board: &mut Board, tasks: TaskTable)
     requires { Whole board.old }
     ensures { (Whole board.new) × (tasks_on board.new ≡ tasks) × (channels_on board.new ≡ channels_on board.old) }
 {
-    let records = tasks.records;
-    let ready = tasks.ready;
-    put_records(board, records);
-    put_sets(board, ready);
+    put_records(board, tasks.records);
+    put_sets(board, tasks.ready);
 }
 
 // The board's channels become these.
@@ -79,11 +67,9 @@ pub fn put_channels(board: &mut Board, channels: Channels)
     requires { Whole board.old }
     ensures { (Whole board.new) × (channels_on board.new ≡ channels) × (tasks_on board.new ≡ tasks_on board.old) }
 {
-    let mut k: u8 = 0;
-    while k < 128 {
-        let y = channel_of(channels, base::wide8(k));
+    for k in 0..128 {
+        let y = channel_of(channels, k as usize);
         put_channel(board, ChannelId(k + 1), y);
-        k += 1;
     }
 }
 
@@ -93,12 +79,9 @@ fn records_on(board: &Board) -> [Task; 64]
 {
     let first = task_at(board, TaskId(1));
     let mut records = [first; 64];
-    let mut k: u8 = 0;
-    while k < 64 {
+    for k in 0..64 {
         let x = task_at(board, TaskId(k + 1));
-        let at = base::wide8(k);
-        records[at] = x;
-        k += 1;
+        records[k as usize] = x;
     }
     records
 }
@@ -108,12 +91,9 @@ fn sets_on(board: &Board) -> [u64; 6]
     ensures { result ≡ ready_on board.now }
 {
     let mut ready = [0u64; 6];
-    let mut k: u8 = 0;
-    while k < 6 {
+    for k in 0..6 {
         let s = ready_at(board, ProcessorId(k + 1));
-        let at = base::wide8(k);
-        ready[at] = s;
-        k += 1;
+        ready[k as usize] = s;
     }
     ready
 }
@@ -122,11 +102,9 @@ fn sets_on(board: &Board) -> [u64; 6]
 pub fn tasks_on(board: &Board) -> TaskTable
     ensures { result ≡ tasks_on board.now }
 {
-    let records = records_on(board);
-    let ready = sets_on(board);
     TaskTable {
-        records: records,
-        ready: ready,
+        records: records_on(board),
+        ready: sets_on(board),
     }
 }
 
@@ -140,29 +118,23 @@ pub fn channels_on(board: &Board) -> Channels
     let mut carriednumbers = [0u8; 128];
     let mut travellingprocessors = [0u8; 128];
     let mut travellingmoves = [0u16; 128];
-    let mut k: u8 = 0;
-    while k < 128 {
+    for k in 0..128 {
         let y = channel_at(board, ChannelId(k + 1));
-        let at = base::wide8(k);
+        let at = k as usize;
         granted[at] = y.granted;
         awaiting[at] = y.awaiting;
-        let carried = y.carried;
-        let offering = carried.processor;
-        carriedprocessors[at] = offering.0;
-        carriednumbers[at] = carried.number;
-        let travelling = y.travelling;
-        let toward = travelling.processor;
-        travellingprocessors[at] = toward.0;
-        travellingmoves[at] = travelling.moves;
-        k += 1;
+        carriedprocessors[at] = y.carried.processor.0;
+        carriednumbers[at] = y.carried.number;
+        travellingprocessors[at] = y.travelling.processor.0;
+        travellingmoves[at] = y.travelling.moves;
     }
     Channels {
-        granted: granted,
-        awaiting: awaiting,
-        carriedprocessors: carriedprocessors,
-        carriednumbers: carriednumbers,
-        travellingprocessors: travellingprocessors,
-        travellingmoves: travellingmoves,
+        granted,
+        awaiting,
+        carriedprocessors,
+        carriednumbers,
+        travellingprocessors,
+        travellingmoves,
     }
 }
 
@@ -171,13 +143,12 @@ fn parent_of(parents: Parents, k: usize) -> ParentEntry
     requires { k < 384 }
     ensures { result ≡ read_parent parents k }
 {
-    let toward = ProcessorId(parents.hintprocessors[k]);
     let hint = Hint {
-        processor: toward,
+        processor: ProcessorId(parents.hintprocessors[k]),
         moves: parents.hintmoves[k],
     };
     ParentEntry {
-        hint: hint,
+        hint,
         held: parents.held[k],
     }
 }
@@ -204,11 +175,9 @@ pub fn put_parents(board: &mut Board, parents: Parents)
     ensures { (Whole board.new) × (parents_on board.new ≡ parents) × (tasks_on board.new ≡ tasks_on board.old)
         × (channels_on board.new ≡ channels_on board.old) }
 {
-    let mut k: u16 = 0;
-    while k < 384 {
-        let e = parent_of(parents, base::wide16(k));
+    for k in 0..384 {
+        let e = parent_of(parents, k as usize);
         put_parent(board, desk_after(k), task_after(k), e);
-        k += 1;
     }
 }
 
@@ -219,20 +188,16 @@ pub fn parents_on(board: &Board) -> Parents
     let mut hintprocessors = [0u8; 384];
     let mut hintmoves = [0u16; 384];
     let mut held = [0u64; 384];
-    let mut k: u16 = 0;
-    while k < 384 {
+    for k in 0..384 {
         let e = parent_at(board, desk_after(k), task_after(k));
-        let at = base::wide16(k);
-        let hint = e.hint;
-        let toward = hint.processor;
-        hintprocessors[at] = toward.0;
-        hintmoves[at] = hint.moves;
+        let at = k as usize;
+        hintprocessors[at] = e.hint.processor.0;
+        hintmoves[at] = e.hint.moves;
         held[at] = e.held;
-        k += 1;
     }
     Parents {
-        hintprocessors: hintprocessors,
-        hintmoves: hintmoves,
-        held: held,
+        hintprocessors,
+        hintmoves,
+        held,
     }
 }

@@ -14,9 +14,6 @@ pub fn put_rig(board: &mut Board, tasks: TaskTable, kept: Kept)
         × (parents_on board.new ≡ kept.parents) }
 {
     put_tasks(board, tasks);
-    let store = kept.store;
-    let channels = store.channels;
-    put_channels(board, channels);
-    let family = kept.parents;
-    put_parents(board, family);
+    put_channels(board, kept.store.channels);
+    put_parents(board, kept.parents);
 }

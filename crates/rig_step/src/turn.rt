@@ -45,8 +45,7 @@ fn decided<'a>(
 {
     let p = position(n.used, s);
     if p != 0 {
-        let slot = network.slots[p - 1];
-        let m = slot.message;
+        let m = network.slots[p - 1].message;
         let r = message_decided(
             codes,
             users,
@@ -58,11 +57,9 @@ fn decided<'a>(
             board,
             m,
         );
-        let received = r.received;
-        let answer = r.answer;
         return Report {
-            answer: answer,
-            received: received,
+            answer: r.answer,
+            received: r.received,
         };
     }
     let r = step_decided(
@@ -78,11 +75,9 @@ fn decided<'a>(
         n,
         s,
     );
-    let received = r.received;
-    let answer = r.answer;
     Report {
-        answer: answer,
-        received: received,
+        answer: r.answer,
+        received: r.received,
     }
 }
 
@@ -149,10 +144,7 @@ pub fn turn_on<'a>(
         &mut out,
         &mut progress,
     );
-    Reported {
-        report: report,
-        network: network,
-    }
+    Reported { report, network }
 }
 
 // One step: the parts are put on a board, and taken from it after the step.
@@ -179,8 +171,7 @@ pub fn turn<'a>(
     build(senders, receivers, parents, &mut users);
     let mut board = [0u64; 1094];
     put_rig(&mut board, tasks, kept);
-    let store = kept.store;
-    let tables = store.tables;
+    let tables = kept.store.tables;
     let mut hintprocessors = tables.hintprocessors;
     let mut hintmoves = tables.hintmoves;
     let mut heldprocessors = tables.heldprocessors;
@@ -188,7 +179,7 @@ pub fn turn<'a>(
     let mut notes = tables.notes;
     let n = Size {
         tasks: count,
-        processors: processors,
+        processors,
         used: network.used,
     };
     let t = turn_on(
@@ -205,30 +196,25 @@ pub fn turn<'a>(
         network,
         s,
     );
-    let report = t.report;
-    let network = t.network;
-    let after = tasks_on(&board);
-    let now_tables = Tables {
-        hintprocessors: hintprocessors,
-        hintmoves: hintmoves,
-        heldprocessors: heldprocessors,
-        heldnumbers: heldnumbers,
-        notes: notes,
+    let tables = Tables {
+        hintprocessors,
+        hintmoves,
+        heldprocessors,
+        heldnumbers,
+        notes,
     };
-    let now_channels = channels_on(&board);
-    let now_store = Store {
-        tables: now_tables,
-        channels: now_channels,
+    let store = Store {
+        tables,
+        channels: channels_on(&board),
     };
-    let now_parents = parents_on(&board);
-    let left = Kept {
-        store: now_store,
-        parents: now_parents,
+    let kept = Kept {
+        store,
+        parents: parents_on(&board),
     };
     Turn {
-        report: report,
-        tasks: after,
-        network: network,
-        kept: left,
+        report: t.report,
+        tasks: tasks_on(&board),
+        network: t.network,
+        kept,
     }
 }

@@ -17,15 +17,13 @@ pub extern "C" fn mortarsedge_panel_after<'a>(
     ensures { PanelMeets processors plan.now steps.now counts.old result counts.new }
 {
     let s = panel_file(processors, plan, steps);
-    let answer = s.answer;
-    let number = run_number(answer);
+    let number = run_number(s.answer);
     if number != 0 {
         return number;
     }
     if counts.len() < 27 {
         return 20;
     }
-    let shown = s.counts;
-    put_counts(counts, shown);
+    put_counts(counts, s.counts);
     0
 }

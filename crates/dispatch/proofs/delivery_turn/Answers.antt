@@ -1,18 +1,11 @@
 -- `delivery_turn`: the earliest letter for the desk is delivered.
 use mathlib.Core.Path.{sym, ◌∙◌}
 use Rattle.dispatch.proofs.Turns.{no_delivery, some_delivery}
-use borrow.Author.Rules.{rules}
 use Rattle.dispatch.proofs.delivery_turn.Goals as goal
-
-pub earliest-p-requires : goal.earliest-p-requires
-earliest-p-requires c = search rules
 
 pub returns-then-p-eq0 : goal.returns-then-p-eq0
 returns-then-p-eq0 c =
     no_delivery c.args.r c.args.d (sym c.earliest-p.ensures ∙ c.if-p-eq0.true)
-
-pub made-requires : goal.made-requires
-made-requires c = search rules
 
 pub returns : goal.returns
 returns c =

@@ -1,7 +1,6 @@
 -- `dispatch` tests 9 and 15, then makes the two turns.
 use mathlib.Core.Path.{◌≡◌, refl, sym, ◌∙◌}
 use mathlib.Core.Bool.{true}
-use borrow.Author.Tests.{not-true, not-false}
 use Rattle.rules.specs.Numbers.{processor_ok}
 use Rattle.rules.specs.Sound.{system_ok}
 use Rattle.rules.specs.Dispatch.{dispatched}
@@ -11,34 +10,30 @@ use Rattle.dispatch.proofs.Turns.{together, few_tasks, few_chosen, six}
 use borrow.Author.Rules.{rules}
 use Rattle.dispatch.proofs.dispatch.Goals as goal
 
-pub system_ok-requires : goal.system_ok-requires
-system_ok-requires c = search rules
-
-pub undispatched-requires : goal.undispatched-requires
-undispatched-requires c = search rules
-
 pub returns-then-not-system_ok : goal.returns-then-not-system_ok
 unfolding dispatched
-returns-then-not-system_ok c = c.undispatched.ensures ∙ rw (← c.system_ok.ensures, not-true c.system_ok.result c.if-not-system_ok.true-raw) refl
+returns-then-not-system_ok c = c.undispatched.ensures ∙ rw (← c.system_ok.ensures, c.if-not-system_ok.true) refl
 
-pub returns-then-not-is_within : goal.returns-then-not-is_within
+pub returns-then-not-contains : goal.returns-then-not-contains
 unfolding dispatched
-returns-then-not-is_within c =
-    let passed : system_ok c.args.r ≡ true = sym c.system_ok.ensures ∙ not-false c.system_ok.result c.if-not-system_ok.false-raw in
-    let q = sym (rw (c.wide8-2.ensures, c.wide8.ensures) at c.is_within.ensures) ∙ not-true c.is_within.result c.if-not-is_within.true-raw in
-    c.undispatched-then-not-is_within.ensures ∙ rw (passed, q) refl
+returns-then-not-contains c =
+    let passed : system_ok c.args.r ≡ true = sym c.system_ok.ensures ∙ c.if-not-system_ok.false in
+    let e : c.contains.result ≡ processor_ok c.args.r.processors c.args.d = search rules in
+    let q = sym e ∙ c.if-not-contains.true in
+    c.undispatched-then-not-contains.ensures ∙ rw (passed, q) refl
 
 pub delivery_turn-a-requires : goal.delivery_turn-a-requires
 delivery_turn-a-requires c =
-    let passed : system_ok c.args.r ≡ true = sym c.system_ok.ensures ∙ not-false c.system_ok.result c.if-not-system_ok.false-raw in
+    let passed : system_ok c.args.r ≡ true = sym c.system_ok.ensures ∙ c.if-not-system_ok.false in
     messages_fit c.args.r passed
 
 pub run_turn-b-requires : goal.run_turn-b-requires
 run_turn-b-requires c =
     let r = c.args.r in
     let d = c.args.d in
-    let passed : system_ok c.args.r ≡ true = sym c.system_ok.ensures ∙ not-false c.system_ok.result c.if-not-system_ok.false-raw in
-    let desk : processor_ok c.args.r.processors c.args.d ≡ true = sym (rw (c.wide8-2.ensures, c.wide8.ensures) at c.is_within.ensures) ∙ not-false c.is_within.result c.if-not-is_within.false-raw in
+    let passed : system_ok c.args.r ≡ true = sym c.system_ok.ensures ∙ c.if-not-system_ok.false in
+    let e : c.contains.result ≡ processor_ok c.args.r.processors c.args.d = search rules in
+    let desk : processor_ok c.args.r.processors c.args.d ≡ true = sym e ∙ c.if-not-contains.false in
     let f = c.well_formed.0.1.1 in
     let tasks = f.1.1.0.1.1 in
     let tables = f.1.1.1.0.1.1 in
@@ -71,6 +66,7 @@ run_turn-b-requires c =
 pub returns : goal.returns
 unfolding dispatched
 returns c =
-    let passed : system_ok c.args.r ≡ true = sym c.system_ok.ensures ∙ not-false c.system_ok.result c.if-not-system_ok.false-raw in
-    let desk : processor_ok c.args.r.processors c.args.d ≡ true = sym (rw (c.wide8-2.ensures, c.wide8.ensures) at c.is_within.ensures) ∙ not-false c.is_within.result c.if-not-is_within.false-raw in
+    let passed : system_ok c.args.r ≡ true = sym c.system_ok.ensures ∙ c.if-not-system_ok.false in
+    let e : c.contains.result ≡ processor_ok c.args.r.processors c.args.d = search rules in
+    let desk : processor_ok c.args.r.processors c.args.d ≡ true = sym e ∙ c.if-not-contains.false in
     rw (passed, desk) (together c.args.r c.args.d c.delivery_turn-a.result c.run_turn-b.result c.delivery_turn-a.ensures c.run_turn-b.ensures)

@@ -66,7 +66,7 @@ pub fn call_desks<'a>(
         let next = k + 1;
         d = desk_after(size.processors, d);
         let desk = ProcessorId(d);
-        let at = base::wide8(d) - 1;
+        let at = d as usize - 1;
         // the earliest letter for the desk
         let mut place: usize = 0;
         while place < used {
@@ -111,7 +111,7 @@ pub fn call_desks<'a>(
             let posting = r.posting;
             let l = network::message(posting, 0);
             network.slots[end] = l;
-            network.used = end + base::wide8(network::rounds(1, posting));
+            network.used = end + network::rounds(1, posting) as usize;
         }
         // the next ready task after the last one chosen is run, if there is one; a refused run uses the turn
         let before = last[at];

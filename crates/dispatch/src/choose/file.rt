@@ -3,19 +3,19 @@ ghost use Rattle.std.specs.Prelude.{length};
 ghost use Rattle.dispatch.specs.Calls.{room_in, Chooses};
 
 use crate::choose::start::choose;
-use plan::{PlanAnswer, Refusal};
+use plan::Refusal;
 use plan_file::opening::open;
 use plan_index::ends::numbers::put_numbers;
-use rules::step::RunAnswer;
+use rules::step::RunRefusal;
 use run::file::run::Outcome;
 
 // 1 to 6 as at start; then the steps, as many as fit, and 20 if they do not all fit.
 fn choose_in<'a>(processors: u32, plan: &'a [u8], out: &'a mut [u8]) -> Outcome
     ensures { Chooses processors plan.now (length out.old) out.old result.answer result.filled out.new }
 {
-    if !base::is_within(1, 6, processors as usize) {
+    if !(1..=6).contains(&processors) {
         return Outcome {
-            answer: RunAnswer::Unstarted(Refusal::BadProcessors),
+            answer: Err(RunRefusal::Unstarted(Refusal::BadProcessors)),
             filled: 0,
         };
     }
@@ -24,16 +24,14 @@ fn choose_in<'a>(processors: u32, plan: &'a [u8], out: &'a mut [u8]) -> Outcome
     let mut senders = [0u8; 129];
     let mut receivers = [0u8; 129];
     let opened = open(plan, &mut codes, &mut parents, &mut senders, &mut receivers);
-    let checked = opened.answer;
-    match checked {
-        PlanAnswer::Refused(a) => Outcome {
-            answer: RunAnswer::Unstarted(a),
+    match opened.answer {
+        Err(a) => Outcome {
+            answer: Err(RunRefusal::Unstarted(a)),
             filled: 0,
         },
-        PlanAnswer::Accepted => {
-            let lengths = opened.lengths;
+        Ok(()) => {
             let mut numbers = [0u8; 4096];
-            put_numbers(opened.tasks, &lengths, &codes, &mut numbers);
+            put_numbers(opened.tasks, &opened.lengths, &codes, &mut numbers);
             let c = choose(
                 opened.tasks,
                 &codes,
@@ -44,16 +42,15 @@ fn choose_in<'a>(processors: u32, plan: &'a [u8], out: &'a mut [u8]) -> Outcome
                 processors as u8,
                 out,
             );
-            let filled = c.filled;
-            if base::both(c.whole, c.rest) {
+            if c.whole && c.rest {
                 return Outcome {
-                    answer: RunAnswer::Traced,
-                    filled: filled,
+                    answer: Ok(()),
+                    filled: c.filled,
                 };
             }
             Outcome {
-                answer: RunAnswer::OutputShort,
-                filled: filled,
+                answer: Err(RunRefusal::OutputShort),
+                filled: c.filled,
             }
         }
     }

@@ -50,13 +50,11 @@ pub fn rests_on<'a>(
     if used != 0 {
         return false;
     }
-    let mut d: u8 = 0;
-    while d < processors {
-        let next = d + 1;
-        if one_runs(count, codes, board, ready_at(board, ProcessorId(next))) {
+    for d in 0..processors {
+        let set = ready_at(board, ProcessorId(d + 1));
+        if one_runs(count, codes, board, set) {
             return false;
         }
-        d = next;
     }
     at_rest(count, codes, board, used)
 }

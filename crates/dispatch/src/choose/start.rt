@@ -61,7 +61,7 @@ pub fn choose<'a>(
     );
     let size = Size {
         tasks: count,
-        processors: processors,
+        processors,
         used: 0,
     };
     let network = no_messages();
@@ -81,11 +81,9 @@ pub fn choose<'a>(
         out,
         &mut progress,
     );
-    let filled = progress[0];
-    let whole = progress[1] == 0;
     Chosen {
-        filled: filled,
-        whole: whole,
-        rest: rest,
+        filled: progress[0],
+        whole: progress[1] == 0,
+        rest,
     }
 }

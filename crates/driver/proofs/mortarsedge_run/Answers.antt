@@ -13,7 +13,7 @@ use Rattle.driver.proofs.mortarsedge_run.Goals as goal
 pub packed-requires : goal.packed-requires
 packed-requires c =
     let a = c.args in
-    (c.run_number-number.ensures.1, omega (arith, c.run_file-o.ensures.count, run_text_short a.processors a.plan.now a.steps.now a.out.now))
+    (c.run_number.ensures.1, omega (arith, c.run_file-o.ensures.count, run_text_short a.processors a.plan.now a.steps.now a.out.now))
 
 pub returns : goal.returns
 unfolding run_outcome
@@ -21,7 +21,7 @@ returns c =
     let a = c.args in
     let r = c.run_file-o.ensures in
     record {
-      outcome = c.packed.ensures ∙ ap₂ packed (c.run_number-number.ensures.0 ∙ ap run_number r.answered) r.count;
+      outcome = c.packed.ensures ∙ ap₂ packed (c.run_number.ensures.0 ∙ ap run_number r.answered) r.count;
       bytes = r.bytes;
       room = room_enough a.processors a.plan.now a.steps.now a.out.now;
       demand_3 = λ h. demand_3_file a.processors a.plan.now h a.steps.now;

@@ -1,6 +1,5 @@
 -- `ruled` puts the rig on a board and counts there.
 use mathlib.Core.Path.{refl}
-use borrow.Author.Rules.{rules}
 use Rattle.rules_sound.proofs.Sound.{sound}
 use Rattle.panel.proofs.Packed.{ends_few, rig_packed, rig_lent}
 use Rattle.panel.proofs.ruled.Goals as goal
@@ -10,9 +9,6 @@ derive-e-requires c = (sound c.args.r c.requires.1 c.requires.0).frame.plan
 
 pub build-requires : goal.build-requires
 build-requires c = (refl, ends_few c.args.r c.requires.1 c.requires.0 c.derive-e.result c.derive-e.ensures)
-
-pub put_rig-requires : goal.put_rig-requires
-put_rig-requires c = search rules
 
 pub counts_on-requires : goal.counts_on-requires
 counts_on-requires c =

@@ -1,6 +1,5 @@
 -- `passes` tests 9; the arrays of a rig have their sizes.
 use lib.ListN.{length-map}
-use borrow.Author.Rules.{rules}
 use Rattle.rules_laws.specs.Shapes.{Shaped}
 use Rattle.rig_step.proofs.passes.Goals as goal
 use Rattle.rig_step.proofs.passes.Goals.{Start}
@@ -34,9 +33,6 @@ shaped c =
       parentheld = parents.1.1.0.1.0.1;
       slots = network.0.1.0.1;
     }
-
-pub system_ok-requires : goal.system_ok-requires
-system_ok-requires c = search rules
 
 pub returns : goal.returns
 returns c = (c.system_ok.ensures, shaped c.before)

@@ -2,16 +2,17 @@
 use native.Mathlib.Omega.{arith}
 use borrow.Author.Tests.{not-true, not-false}
 use Rattle.chase.proofs.Numbers.{ended_read, low_read, high_read, more_read}
+use Rattle.chase.proofs.number.read_byte.Goals.{then-not-x-via-then-not-x, then-not-x-via-else-not-x+then-b-lt48, then-not-x-via-else-not-x+else-b-lt48+then-b-gt57}
 use Rattle.chase.proofs.number.read_byte.Goals as goal
 
 pub returns-then-not-x : goal.returns-then-not-x
-returns-then-not-x c = let a = c.args in ended_read a.x a.b (not-true _ c.if-not-x.true)
-
-pub returns-then-b-lt48 : goal.returns-then-b-lt48
-returns-then-b-lt48 c = let a = c.args in low_read a.x a.b (omega arith)
-
-pub returns-then-b-gt57 : goal.returns-then-b-gt57
-returns-then-b-gt57 c = let a = c.args in high_read a.x a.b (omega arith)
+returns-then-not-x c =
+    let a = c.args in
+    elim c.then-not-x.branch [
+      | then-not-x-via-then-not-x w ↦ ended_read a.x a.b (not-true _ w.if-not-x.true)
+      | then-not-x-via-else-not-x+then-b-lt48 w ↦ low_read a.x a.b (omega (arith, w.if-b-lt48.true))
+      | then-not-x-via-else-not-x+else-b-lt48+then-b-gt57 w ↦ high_read a.x a.b (omega (arith, w.if-b-gt57.true))
+    ]
 
 pub returns : goal.returns
 returns c =

@@ -9,7 +9,7 @@ returns c =
     let a = c.args in
     all_put a.out.now _ _ _ a.m
     (three_are a.out.now _ 0 _ _ _ (run_step 1) (move_step 2 2) (run_step 1) c.run-sender.ensures c.move_to-away.ensures c.run-sender.ensures
-    c.put_three.ensures)
+    c.put_all.ensures)
     c.put_rounds.ensures
     c.put_ending.ensures
     (omega (arith, c.requires))

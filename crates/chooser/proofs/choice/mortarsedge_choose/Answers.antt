@@ -7,24 +7,15 @@ use Rattle.dispatch.proofs.Outcomes.{choose_few}
 use Rattle.driver.specs.Runs.{packed}
 use Rattle.chooser.proofs.choice.mortarsedge_choose.Goals as goal
 
-pub choose_file-o-requires : goal.choose_file-o-requires
-choose_file-o-requires c = search rules
-
-pub run_number-number-requires : goal.run_number-number-requires
-run_number-number-requires c = search rules
-
 pub packed-requires : goal.packed-requires
 packed-requires c =
     let a = c.args in
-    (c.run_number-number.ensures.1, omega (arith, c.choose_file-o.ensures.count, choose_few a.processors a.plan.now a.out.now))
-
-pub shape_of-out : goal.shape_of-out
-shape_of-out c = search rules
+    (c.run_number.ensures.1, omega (arith, c.choose_file-o.ensures.count, choose_few a.processors a.plan.now a.out.now))
 
 pub returns : goal.returns
 returns c =
     let r = c.choose_file-o.ensures in
     record {
-      outcome = c.packed.ensures ∙ ap₂ packed (c.run_number-number.ensures.0 ∙ ap run_number r.answered) r.count;
+      outcome = c.packed.ensures ∙ ap₂ packed (c.run_number.ensures.0 ∙ ap run_number r.answered) r.count;
       bytes = r.bytes;
     }

@@ -4,27 +4,6 @@ use Rattle.rules.specs.Dispatch.{addressee}
 use borrow.Author.Rules.{rules}
 use Rattle.dispatch.proofs.mail.addressee.Goals as goal
 
-pub enum_told-1 : goal.enum_told-1
-enum_told-1 c = search rules
-
-pub enum_known-m : goal.enum_known-m
-enum_known-m c = search rules
-
-pub enum_known-m-in-Advert-1 : goal.enum_known-m-in-Advert-1
-enum_known-m-in-Advert-1 c = search rules
-
-pub enum_known-m-in-ReadyToReceive-1 : goal.enum_known-m-in-ReadyToReceive-1
-enum_known-m-in-ReadyToReceive-1 c = search rules
-
-pub enum_known-m-in-Data-1 : goal.enum_known-m-in-Data-1
-enum_known-m-in-Data-1 c = search rules
-
-pub enum_known-m-in-Terminated-1 : goal.enum_known-m-in-Terminated-1
-enum_known-m-in-Terminated-1 c = search rules
-
-pub enum_known-m-in-Migration-1 : goal.enum_known-m-in-Migration-1
-enum_known-m-in-Migration-1 c = search rules
-
 pub returns-in-Empty : goal.returns-in-Empty
 unfolding addressee
 returns-in-Empty c = rw c.in-Empty.is refl

@@ -3,7 +3,6 @@ use mathlib.Core.Bool.{Bool, true, false, not}
 use Prim.Native.Nat.{ℕ, ◌+◌, ◌-◌}
 use native.Mathlib.Omega.{arith}
 use native.Mathlib.Numerals.{add-one}
-use borrow.Author.Rules.{rules}
 use borrow.Author.Tests.{eq-eqb, ne_eqb}
 use Rattle.base.specs.Range.{below}
 use Rattle.base.proofs.Tests.{below_none, below_more, below_fails}
@@ -26,34 +25,25 @@ module _ (r : System) where
   run_of : (t : ℕ) {b : Bool} → b ≡ is_accepted (step_answer r (run_step (t + 1))) → stuck r t ≡ not b
   run_of t e = rw (e, add-one t) refl
 
-pub returns-then-network-ne0 : goal.returns-then-network-ne0
-returns-then-network-ne0 c = sym (a_letter _ c.if-network-ne0.true)
+pub returns-then-r-ne0 : goal.returns-then-r-ne0
+returns-then-r-ne0 c = sym (a_letter _ c.if-r-ne0.true)
 
-pub loop-t-init : goal.loop-t-init
-loop-t-init c = (omega arith, below_none _)
-
-pub overflow_add-next : goal.overflow_add-next
-overflow_add-next c = omega arith
-
-pub can_run-requires : goal.can_run-requires
-can_run-requires c = search rules
+pub loop-k-init : goal.loop-k-init
+loop-k-init c = below_none _
 
 pub returns-then-can_run : goal.returns-then-can_run
 returns-then-can_run c =
     let r = c.args.r in
-    let q = run_of r c.loop-t.t c.can_run.ensures ∙ ap not c.if-can_run.true in
-    sym (all_stuck r c.if-network-ne0.false ∙ below_fails (stuck r) r.plan.tasks c.loop-t.t (omega arith) q)
+    let q = run_of r c.loop-k.k c.can_run.ensures ∙ ap not c.if-can_run.true in
+    sym (all_stuck r c.if-r-ne0.false ∙ below_fails (stuck r) r.plan.tasks c.loop-k.k (omega arith) q)
 
-pub loop-t-smaller : goal.loop-t-smaller
-loop-t-smaller c = omega arith
-
-pub loop-t-preserved : goal.loop-t-preserved
-loop-t-preserved c =
+pub loop-k-preserved : goal.loop-k-preserved
+loop-k-preserved c =
     let r = c.args.r in
-    (omega arith, below_more _ c.loop-t.t c.loop-t.invariant.1 (run_of r c.loop-t.t c.can_run.ensures ∙ ap not c.if-can_run.false))
+    below_more _ c.loop-k.k c.loop-k.invariant (run_of r c.loop-k.k c.can_run.ensures ∙ ap not c.if-can_run.false)
 
 pub returns : goal.returns
 returns c =
     let r = c.args.r in
-    let e : c.loop-t.t ≡ r.plan.tasks = omega arith in
-    sym (all_stuck r c.if-network-ne0.false ∙ (rw e at c.loop-t.invariant.1))
+    let e : c.loop-k.k ≡ r.plan.tasks = omega arith in
+    sym (all_stuck r c.if-r-ne0.false ∙ (rw e at c.loop-k.invariant))

@@ -1,7 +1,7 @@
--- `rests`: an empty mail, and no task that can run. The loop's invariant: a run of each of the first t tasks is refused.
+-- `rests`: an empty mail, and no task that can run. The loop's invariant: a run of each of the first k tasks is refused.
 use mathlib.Core.Path.{◌≡◌}
 use mathlib.Core.Bool.{Bool, true, not}
-use Prim.Native.Nat.{ℕ, suc, ◌+◌, ◌≤◌, ◌-◌}
+use Prim.Native.Nat.{ℕ, suc, ◌+◌}
 use Rattle.base.specs.Range.{below}
 use Rattle.rules.specs.declared.system.System.{System}
 use Rattle.rules.specs.Answers.{is_accepted}
@@ -12,8 +12,5 @@ use Rattle.dispatch.proofs.rest.rests.Given as goal
 abbrev pub stuck : System → ℕ → Bool
 stuck r k = not (is_accepted (step_answer r (run_step (suc k))))
 
-abbrev pub invariant-loop-t : goal.invariant-loop-t
-invariant-loop-t l = (l.t ≤ l.end) × (below l.t (stuck l.r) ≡ true)
-
-abbrev pub decreases-loop-t : goal.decreases-loop-t
-decreases-loop-t l = l.end - l.t
+abbrev pub invariant-loop-k : goal.invariant-loop-k
+invariant-loop-k l = below l.k (stuck l.r) ≡ true

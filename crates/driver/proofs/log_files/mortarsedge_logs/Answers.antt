@@ -5,4 +5,4 @@ use borrow.Author.Rules.{rules}
 use Rattle.driver.proofs.log_files.mortarsedge_logs.Goals as goal
 
 pub returns : goal.returns
-returns c = c.logs_packed.ensures ∙ ap logs_packed c.check_logs-answer.ensures
+returns c = c.logs_packed.ensures ∙ ap logs_packed c.check_logs.ensures

@@ -3,7 +3,6 @@ use mathlib.Core.Bool.{Bool}
 use mathlib.Core.Path.{◌≡◌, sym, ap, ◌∙◌}
 use native.Mathlib.Omega.{arith}
 use borrow.Author.Rules.{rules}
-use borrow.Author.Tests.{not-true, not-false}
 use Rattle.plan.specs.declared.TaskId.{TaskId}
 use Rattle.rules.specs.declared.task.Task.{Task}
 use Rattle.rules.specs.Numbers.{task_id}
@@ -25,7 +24,7 @@ returns-then-progress-ne0 c = next_stopped _ _ _ c.if-progress-ne0.true
 
 pub returns-then-not-is_stuck : goal.returns-then-not-is_stuck
 returns-then-not-is_stuck c =
-    rw (stuck c.task_at-x.ensures c.is_stuck.ensures ∙ not-true _ c.if-not-is_stuck.true-raw) (next_none _ _)
+    rw (stuck c.task_at-x.ensures c.is_stuck.ensures ∙ c.if-not-is_stuck.true) (next_none _ _)
 
 pub depends_on-u-requires : goal.depends_on-u-requires
 depends_on-u-requires c = rw c.task_at-x.ensures c.requires.1
@@ -42,6 +41,6 @@ returns c =
     let on : Task → TaskId = depends_in a.codes.now (senders_of a.users.now) (receivers_of a.users.now) (task_id t) in
     let x = task_in (tasks_on a.board.now) (task_id t) in
     let depends = ap (λ (u : TaskId). u.0) (c.depends_on-u.ensures ∙ ap on c.task_at-x.ensures) in
-    let e = rw (c.wide8.ensures, c.wide8-2.ensures ∙ depends) at c.emit_stuck-written.ensures in
-    rw (stuck c.task_at-x.ensures c.is_stuck.ensures ∙ not-false _ c.if-not-is_stuck.false-raw, c.note.ensures)
+    let e = rw depends at c.emit_stuck-written.ensures in
+    rw (stuck c.task_at-x.ensures c.is_stuck.ensures ∙ c.if-not-is_stuck.false, c.note.ensures)
     (next_noted _ _ _ c.requires.2 c.if-progress-ne0.false c.requires.3 e (omega (arith, two_length t (on x).0)))

@@ -21,7 +21,7 @@ asked : (board : List ℕ) (k : ℕ) {x : Task} {r : Bool} → x ≡ task_in (ta
 asked board k e h = ap not (sym (h ∙ ap is_stuck (e ∙ ap (λ (t : ℕ). task_in (tasks_on board) (task_id t)) (add-one k))))
 
 pub loop-k-init : goal.loop-k-init
-loop-k-init c = (omega arith, below_none _)
+loop-k-init c = below_none _
 
 pub task_at-x-requires : goal.task_at-x-requires
 task_at-x-requires c = omega arith
@@ -30,15 +30,15 @@ pub returns-then-is_stuck : goal.returns-then-is_stuck
 unfolding finishes_in
 returns-then-is_stuck c =
     let k = c.loop-k.k in
-    sym (below_fails (clear c.args.board.now) _ k c.loop-k-test.true (asked c.args.board.now k c.task_at-x.ensures c.is_stuck.ensures ∙ ap not c.if-is_stuck.true))
+    sym (below_fails (clear c.args.board.now) _ k (omega arith) (asked c.args.board.now k c.task_at-x.ensures c.is_stuck.ensures ∙ ap not c.if-is_stuck.true))
 
 pub loop-k-preserved : goal.loop-k-preserved
 loop-k-preserved c =
     let k = c.loop-k.k in
-    (omega arith, below_more (clear c.args.board.now) k c.loop-k.invariant.1 (asked c.args.board.now k c.task_at-x.ensures c.is_stuck.ensures ∙ ap not c.if-is_stuck.false))
+    below_more (clear c.args.board.now) k c.loop-k.invariant (asked c.args.board.now k c.task_at-x.ensures c.is_stuck.ensures ∙ ap not c.if-is_stuck.false)
 
 pub returns : goal.returns
 unfolding finishes_in
 returns c =
     let e : c.loop-k.k ≡ c.args.count = omega arith in
-    sym (rw e at c.loop-k.invariant.1)
+    sym (rw e at c.loop-k.invariant)

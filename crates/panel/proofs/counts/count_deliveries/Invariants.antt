@@ -1,5 +1,5 @@
 -- `count_deliveries`: after k of them, the deliveries at 1 .. k are counted.
-use Prim.Native.Nat.{◌+◌, ◌-◌, ◌≤◌}
+use Prim.Native.Nat.{◌+◌}
 use Rattle.rules.specs.declared.system.System.{System}
 use Rattle.panel_laws.specs.Tallies.{deliveries}
 use Rattle.panel.specs.Counted.{Few, CountsMore, DeliversAs}
@@ -8,7 +8,4 @@ use Rattle.panel.proofs.counts.count_deliveries.Given as goal
 
 abbrev pub invariant-loop-k : goal.invariant-loop-k
 invariant-loop-k l =
-    (l.k ≤ 256) × (Few (64 + l.k) (counts_of l.q)) × ((r : System) → DeliversAs l.used r → CountsMore r (deliveries l.k) (counts_of l.initial.q) (counts_of l.q))
-
-abbrev pub decreases-loop-k : goal.decreases-loop-k
-decreases-loop-k l = 256 - l.k
+    (Few (64 + l.k) (counts_of l.q)) × ((r : System) → DeliversAs l.used r → CountsMore r (deliveries l.k) (counts_of l.initial.q) (counts_of l.q))

@@ -1,5 +1,5 @@
 -- `count_moves`: after k tasks, the moves of tasks 1 .. k are counted.
-use Prim.Native.Nat.{◌+◌, ◌*◌, ◌-◌, ◌≤◌}
+use Prim.Native.Nat.{◌+◌, ◌*◌}
 use Rattle.rules.specs.declared.system.System.{System}
 use Rattle.board.specs.Lent.{tasks_on}
 use Rattle.panel_laws.specs.Tallies.{moves}
@@ -9,7 +9,4 @@ use Rattle.panel.proofs.counts.count_moves.Given as goal
 
 abbrev pub invariant-loop-k : goal.invariant-loop-k
 invariant-loop-k l =
-    (l.k ≤ l.n.tasks) × (Few (320 + 6 * l.k) (counts_of l.q)) × ((r : System) → MovesAs (tasks_on l.board) l.n r → CountsMore r (moves l.k l.n.processors) (counts_of l.initial.q) (counts_of l.q))
-
-abbrev pub decreases-loop-k : goal.decreases-loop-k
-decreases-loop-k l = l.n.tasks - l.k
+    (Few (320 + 6 * l.k) (counts_of l.q)) × ((r : System) → MovesAs (tasks_on l.board) l.n r → CountsMore r (moves l.k l.n.processors) (counts_of l.initial.q) (counts_of l.q))

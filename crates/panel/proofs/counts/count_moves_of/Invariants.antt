@@ -1,5 +1,5 @@
 -- `count_moves_of`: after k of them, the moves of the task to desks 1 .. k are counted.
-use Prim.Native.Nat.{ℕ, ◌+◌, ◌-◌, ◌≤◌}
+use Prim.Native.Nat.{ℕ, ◌+◌}
 use Rattle.rules.specs.declared.system.System.{System}
 use Rattle.board.specs.Lent.{tasks_on}
 use Rattle.panel_laws.specs.Tallies.{moves_of}
@@ -9,7 +9,4 @@ use Rattle.panel.proofs.counts.count_moves_of.Given as goal
 
 abbrev pub invariant-loop-k : goal.invariant-loop-k
 invariant-loop-k l =
-    (l.k ≤ l.n.processors) × ((m : ℕ) → Few m (counts_of l.initial.q) → Few (m + l.k) (counts_of l.q)) × ((r : System) → MovesAs (tasks_on l.board) l.n r → CountsMore r (moves_of l.t l.k) (counts_of l.initial.q) (counts_of l.q))
-
-abbrev pub decreases-loop-k : goal.decreases-loop-k
-decreases-loop-k l = l.n.processors - l.k
+    ((m : ℕ) → Few m (counts_of l.initial.q) → Few (m + l.k) (counts_of l.q)) × ((r : System) → MovesAs (tasks_on l.board) l.n r → CountsMore r (moves_of l.t l.k) (counts_of l.initial.q) (counts_of l.q))

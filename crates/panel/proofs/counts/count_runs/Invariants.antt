@@ -1,5 +1,4 @@
 -- `count_runs`: after k of them, the runs of tasks 1 .. k are counted.
-use Prim.Native.Nat.{◌-◌, ◌≤◌}
 use Rattle.rules.specs.declared.system.System.{System}
 use Rattle.board.specs.Lent.{lent}
 use Rattle.board.specs.Rigs.{facts_in}
@@ -10,8 +9,5 @@ use Rattle.panel.proofs.counts.count_runs.Given as goal
 
 abbrev pub invariant-loop-k : goal.invariant-loop-k
 invariant-loop-k l =
-    (l.k ≤ l.n.tasks) × (Few l.k (counts_of l.q))
+    (Few l.k (counts_of l.q))
     × ((r : System) → RunsAs (facts_in l.n.tasks l.codes l.numbers l.users) l.n (lent l.hintprocessors l.hintmoves l.heldprocessors l.heldnumbers l.notes l.board) r → CountsMore r (runs l.k) (counts_of l.initial.q) (counts_of l.q))
-
-abbrev pub decreases-loop-k : goal.decreases-loop-k
-decreases-loop-k l = l.n.tasks - l.k

@@ -1,10 +1,6 @@
 -- `delivery_answer`: 14, unless a letter is there.
-use borrow.Author.Rules.{rules}
 use Rattle.panel.proofs.Answers.{delivery_none, delivery_some}
 use Rattle.panel.proofs.counts.delivery_answer.Goals as goal
-
-pub position-requires : goal.position-requires
-position-requires c = search rules
 
 pub returns-then-position-eq0 : goal.returns-then-position-eq0
 returns-then-position-eq0 c = let a = c.args in delivery_none a.used a.p c.position.ensures.0 c.if-position-eq0.true

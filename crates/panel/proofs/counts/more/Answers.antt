@@ -2,113 +2,76 @@
 use mathlib.Core.Path.{refl}
 use Prim.Native.Nat.{◌≤◌}
 use native.Mathlib.Omega.{arith}
-use borrow.Author.Rules.{rules}
 use Rattle.panel.proofs.counts.more.Goals as goal
 
-pub enum_told-1 : goal.enum_told-1
-enum_told-1 c = search rules
+pub overflow_add-result : goal.overflow_add-result
+overflow_add-result c = let e : c.args.q.accepted ≤ 65534 = c.requires.few 0 in omega arith
 
-pub overflow_add-q : goal.overflow_add-q
-overflow_add-q c = let s = c.before.before in let e : s.args.q.accepted ≤ 65534 = s.requires.few 0 in omega arith
+pub overflow_add-result-in-Err-BadSystem : goal.overflow_add-result-in-Err-BadSystem
+overflow_add-result-in-Err-BadSystem c = let e : c.args.q.system ≤ 65534 = c.requires.few 9 in omega arith
 
-pub enum_told-in-BadSystem : goal.enum_told-in-BadSystem
-enum_told-in-BadSystem c = search rules
+pub overflow_add-result-in-Err-NoTask : goal.overflow_add-result-in-Err-NoTask
+overflow_add-result-in-Err-NoTask c = let e : c.args.q.task ≤ 65534 = c.requires.few 10 in omega arith
 
-pub overflow_add-q-in-BadSystem : goal.overflow_add-q-in-BadSystem
-overflow_add-q-in-BadSystem c = let s = c.before.before in let e : s.args.q.system ≤ 65534 = s.requires.few 9 in omega arith
+pub overflow_add-result-in-Err-NotReady : goal.overflow_add-result-in-Err-NotReady
+overflow_add-result-in-Err-NotReady c = let e : c.args.q.ready ≤ 65534 = c.requires.few 11 in omega arith
 
-pub enum_told-in-NoTask : goal.enum_told-in-NoTask
-enum_told-in-NoTask c = search rules
+pub overflow_add-result-in-Err-FinishWithChildren : goal.overflow_add-result-in-Err-FinishWithChildren
+overflow_add-result-in-Err-FinishWithChildren c = let e : c.args.q.finish ≤ 65534 = c.requires.few 12 in omega arith
 
-pub overflow_add-q-in-NoTask : goal.overflow_add-q-in-NoTask
-overflow_add-q-in-NoTask c = let s = c.before.before in let e : s.args.q.task ≤ 65534 = s.requires.few 10 in omega arith
+pub overflow_add-result-in-Err-NetworkFull : goal.overflow_add-result-in-Err-NetworkFull
+overflow_add-result-in-Err-NetworkFull c = let e : c.args.q.full ≤ 65534 = c.requires.few 13 in omega arith
 
-pub enum_told-in-NotReady : goal.enum_told-in-NotReady
-enum_told-in-NotReady c = search rules
+pub overflow_add-result-in-Err-NoMessage : goal.overflow_add-result-in-Err-NoMessage
+overflow_add-result-in-Err-NoMessage c = let e : c.args.q.message ≤ 65534 = c.requires.few 14 in omega arith
 
-pub overflow_add-q-in-NotReady : goal.overflow_add-q-in-NotReady
-overflow_add-q-in-NotReady c = let s = c.before.before in let e : s.args.q.ready ≤ 65534 = s.requires.few 11 in omega arith
+pub overflow_add-result-in-Err-NoProcessor : goal.overflow_add-result-in-Err-NoProcessor
+overflow_add-result-in-Err-NoProcessor c = let e : c.args.q.processor ≤ 65534 = c.requires.few 15 in omega arith
 
-pub enum_told-in-FinishWithChildren : goal.enum_told-in-FinishWithChildren
-enum_told-in-FinishWithChildren c = search rules
+pub overflow_add-result-in-Err-AlreadyThere : goal.overflow_add-result-in-Err-AlreadyThere
+overflow_add-result-in-Err-AlreadyThere c = let e : c.args.q.there ≤ 65534 = c.requires.few 16 in omega arith
 
-pub overflow_add-q-in-FinishWithChildren : goal.overflow_add-q-in-FinishWithChildren
-overflow_add-q-in-FinishWithChildren c = let s = c.before.before in let e : s.args.q.finish ≤ 65534 = s.requires.few 12 in omega arith
+pub overflow_add-result-in-Err-MoveWithChildren : goal.overflow_add-result-in-Err-MoveWithChildren
+overflow_add-result-in-Err-MoveWithChildren c = let e : c.args.q.children ≤ 65534 = c.requires.few 17 in omega arith
 
-pub enum_told-in-NetworkFull : goal.enum_told-in-NetworkFull
-enum_told-in-NetworkFull c = search rules
+pub overflow_add-result-in-Err-MovesSpent : goal.overflow_add-result-in-Err-MovesSpent
+overflow_add-result-in-Err-MovesSpent c = let e : c.args.q.spent ≤ 65534 = c.requires.few 18 in omega arith
 
-pub overflow_add-q-in-NetworkFull : goal.overflow_add-q-in-NetworkFull
-overflow_add-q-in-NetworkFull c = let s = c.before.before in let e : s.args.q.full ≤ 65534 = s.requires.few 13 in omega arith
+pub overflow_add-result-in-Err-BadStep : goal.overflow_add-result-in-Err-BadStep
+overflow_add-result-in-Err-BadStep c = let e : c.args.q.step ≤ 65534 = c.requires.few 19 in omega arith
 
-pub enum_told-in-NoMessage : goal.enum_told-in-NoMessage
-enum_told-in-NoMessage c = search rules
+pub returns-in-Ok : goal.returns-in-Ok
+returns-in-Ok c = rw c.in-Ok.is refl
 
-pub overflow_add-q-in-NoMessage : goal.overflow_add-q-in-NoMessage
-overflow_add-q-in-NoMessage c = let s = c.before.before in let e : s.args.q.message ≤ 65534 = s.requires.few 14 in omega arith
+pub returns-in-Err-BadSystem : goal.returns-in-Err-BadSystem
+returns-in-Err-BadSystem c = let a = c.in-Err-BadSystem in rw (a.is, rw a.is at a.field-0-is) refl
 
-pub enum_told-in-NoProcessor : goal.enum_told-in-NoProcessor
-enum_told-in-NoProcessor c = search rules
+pub returns-in-Err-NoTask : goal.returns-in-Err-NoTask
+returns-in-Err-NoTask c = let a = c.in-Err-NoTask in rw (a.is, rw a.is at a.field-0-is) refl
 
-pub overflow_add-q-in-NoProcessor : goal.overflow_add-q-in-NoProcessor
-overflow_add-q-in-NoProcessor c = let s = c.before.before in let e : s.args.q.processor ≤ 65534 = s.requires.few 15 in omega arith
+pub returns-in-Err-NotReady : goal.returns-in-Err-NotReady
+returns-in-Err-NotReady c = let a = c.in-Err-NotReady in rw (a.is, rw a.is at a.field-0-is) refl
 
-pub enum_told-in-AlreadyThere : goal.enum_told-in-AlreadyThere
-enum_told-in-AlreadyThere c = search rules
+pub returns-in-Err-FinishWithChildren : goal.returns-in-Err-FinishWithChildren
+returns-in-Err-FinishWithChildren c = let a = c.in-Err-FinishWithChildren in rw (a.is, rw a.is at a.field-0-is) refl
 
-pub overflow_add-q-in-AlreadyThere : goal.overflow_add-q-in-AlreadyThere
-overflow_add-q-in-AlreadyThere c = let s = c.before.before in let e : s.args.q.there ≤ 65534 = s.requires.few 16 in omega arith
+pub returns-in-Err-NetworkFull : goal.returns-in-Err-NetworkFull
+returns-in-Err-NetworkFull c = let a = c.in-Err-NetworkFull in rw (a.is, rw a.is at a.field-0-is) refl
 
-pub enum_told-in-MoveWithChildren : goal.enum_told-in-MoveWithChildren
-enum_told-in-MoveWithChildren c = search rules
+pub returns-in-Err-NoMessage : goal.returns-in-Err-NoMessage
+returns-in-Err-NoMessage c = let a = c.in-Err-NoMessage in rw (a.is, rw a.is at a.field-0-is) refl
 
-pub overflow_add-q-in-MoveWithChildren : goal.overflow_add-q-in-MoveWithChildren
-overflow_add-q-in-MoveWithChildren c = let s = c.before.before in let e : s.args.q.children ≤ 65534 = s.requires.few 17 in omega arith
+pub returns-in-Err-NoProcessor : goal.returns-in-Err-NoProcessor
+returns-in-Err-NoProcessor c = let a = c.in-Err-NoProcessor in rw (a.is, rw a.is at a.field-0-is) refl
 
-pub enum_told-in-MovesSpent : goal.enum_told-in-MovesSpent
-enum_told-in-MovesSpent c = search rules
+pub returns-in-Err-AlreadyThere : goal.returns-in-Err-AlreadyThere
+returns-in-Err-AlreadyThere c = let a = c.in-Err-AlreadyThere in rw (a.is, rw a.is at a.field-0-is) refl
 
-pub overflow_add-q-in-MovesSpent : goal.overflow_add-q-in-MovesSpent
-overflow_add-q-in-MovesSpent c = let s = c.before.before in let e : s.args.q.spent ≤ 65534 = s.requires.few 18 in omega arith
+pub returns-in-Err-MoveWithChildren : goal.returns-in-Err-MoveWithChildren
+returns-in-Err-MoveWithChildren c = let a = c.in-Err-MoveWithChildren in rw (a.is, rw a.is at a.field-0-is) refl
 
-pub enum_told-in-BadStep : goal.enum_told-in-BadStep
-enum_told-in-BadStep c = search rules
+pub returns-in-Err-MovesSpent : goal.returns-in-Err-MovesSpent
+returns-in-Err-MovesSpent c = let a = c.in-Err-MovesSpent in rw (a.is, rw a.is at a.field-0-is) refl
 
-pub overflow_add-q-in-BadStep : goal.overflow_add-q-in-BadStep
-overflow_add-q-in-BadStep c = let s = c.before.before in let e : s.args.q.step ≤ 65534 = s.requires.few 19 in omega arith
-
-pub returns-in-Accepted : goal.returns-in-Accepted
-returns-in-Accepted c = rw c.in-Accepted.is refl
-
-pub returns-in-BadSystem : goal.returns-in-BadSystem
-returns-in-BadSystem c = rw c.in-BadSystem.is refl
-
-pub returns-in-NoTask : goal.returns-in-NoTask
-returns-in-NoTask c = rw c.in-NoTask.is refl
-
-pub returns-in-NotReady : goal.returns-in-NotReady
-returns-in-NotReady c = rw c.in-NotReady.is refl
-
-pub returns-in-FinishWithChildren : goal.returns-in-FinishWithChildren
-returns-in-FinishWithChildren c = rw c.in-FinishWithChildren.is refl
-
-pub returns-in-NetworkFull : goal.returns-in-NetworkFull
-returns-in-NetworkFull c = rw c.in-NetworkFull.is refl
-
-pub returns-in-NoMessage : goal.returns-in-NoMessage
-returns-in-NoMessage c = rw c.in-NoMessage.is refl
-
-pub returns-in-NoProcessor : goal.returns-in-NoProcessor
-returns-in-NoProcessor c = rw c.in-NoProcessor.is refl
-
-pub returns-in-AlreadyThere : goal.returns-in-AlreadyThere
-returns-in-AlreadyThere c = rw c.in-AlreadyThere.is refl
-
-pub returns-in-MoveWithChildren : goal.returns-in-MoveWithChildren
-returns-in-MoveWithChildren c = rw c.in-MoveWithChildren.is refl
-
-pub returns-in-MovesSpent : goal.returns-in-MovesSpent
-returns-in-MovesSpent c = rw c.in-MovesSpent.is refl
-
-pub returns-in-BadStep : goal.returns-in-BadStep
-returns-in-BadStep c = rw c.in-BadStep.is refl
+pub returns-in-Err-BadStep : goal.returns-in-Err-BadStep
+returns-in-Err-BadStep c = let a = c.in-Err-BadStep in rw (a.is, rw a.is at a.field-0-is) refl

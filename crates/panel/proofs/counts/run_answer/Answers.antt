@@ -10,10 +10,10 @@ pub run_refusal-requires : goal.run_refusal-requires
 run_refusal-requires c = placed c.requires.parts
 
 pub returns-then-n-lt250 : goal.returns-then-n-lt250
-returns-then-n-lt250 c = let s = c.before.before.before in c.run_refusal.ensures ∙ run_roomy _ _ _ _ _ (processors_few s.requires.parts) c.if-n-lt250.true _
+returns-then-n-lt250 c = c.run_refusal.ensures ∙ run_roomy _ _ _ _ _ (processors_few c.requires.parts) c.if-n-lt250.true _
 
-pub run_decided-act-requires : goal.run_decided-act-requires
-run_decided-act-requires c = c.requires
+pub run_decided-requires : goal.run_decided-requires
+run_decided-requires c = c.requires
 
 pub returns : goal.returns
-returns c = ap (λ (x : Act). x.answer) c.run_decided-act.ensures
+returns c = ap (λ (x : Act). x.answer) c.run_decided.ensures

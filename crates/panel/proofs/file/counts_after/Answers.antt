@@ -1,6 +1,5 @@
 -- `counts_after` runs the steps from the start of a plan, as `drive` of `run` does, and counts on what they leave.
 use mathlib.Core.Path.{refl}
-use borrow.Author.Rules.{rules}
 use Rattle.plan.specs.declared.Plan.{Plan}
 use Rattle.rules.specs.StepFiles.{file_steps}
 use Rattle.rig_parts.specs.Facts.{facts}
@@ -13,21 +12,6 @@ use Rattle.panel.proofs.file.counts_after.Goals as goal
 
 pub build-requires : goal.build-requires
 build-requires c = (refl, few_users c.requires.0.begins)
-
-pub no_tables-tables-requires : goal.no_tables-tables-requires
-no_tables-tables-requires c = search rules
-
-pub start_board-requires : goal.start_board-requires
-start_board-requires c = search rules
-
-pub locate-requires : goal.locate-requires
-locate-requires c = search rules
-
-pub no_messages-network-requires : goal.no_messages-network-requires
-no_messages-network-requires c = search rules
-
-pub slice_bounds-run_steps-end : goal.slice_bounds-run_steps-end
-slice_bounds-run_steps-end c = search rules
 
 pub run_steps-after-requires : goal.run_steps-after-requires
 run_steps-after-requires c =

@@ -1,13 +1,9 @@
 -- `put_counts`: after k turns the first k numbers are the counts.
 use mathlib.Core.Path.{◌≡◌}
 use mathlib.Core.List.{◌++◌}
-use Prim.Native.Nat.{◌-◌, ◌≤◌}
 use lib.ListN.{length, take, drop}
 use Rattle.panel.proofs.output.put_counts.Given as goal
 
 abbrev pub invariant-loop-k : goal.invariant-loop-k
 invariant-loop-k l =
-    (l.k ≤ 27) × (length l.out ≡ length l.initial.out) × (length l.counts ≡ 27 → l.out ≡ take l.k l.counts ++ drop l.k l.initial.out)
-
-abbrev pub decreases-loop-k : goal.decreases-loop-k
-decreases-loop-k l = 27 - l.k
+    length l.counts ≡ 27 → l.out ≡ take l.k l.counts ++ drop l.k l.initial.out

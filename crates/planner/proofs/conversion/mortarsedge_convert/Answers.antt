@@ -8,12 +8,12 @@ use Rattle.planner.proofs.Conversions.{written_few, room_for_all}
 use Rattle.planner.proofs.conversion.mortarsedge_convert.Goals as goal
 
 pub write_packed-requires : goal.write_packed-requires
-write_packed-requires c = written_few _ _ _ c.convert-answer.ensures.answer
+write_packed-requires c = written_few _ _ _ c.convert.ensures.answer
 
 pub returns : goal.returns
 unfolding convert_outcome
 returns c =
-    let r = c.convert-answer.ensures in
+    let r = c.convert.ensures in
     let a = c.args in
     record {
       result = c.write_packed.ensures ∙ ap write_packed r.answer;

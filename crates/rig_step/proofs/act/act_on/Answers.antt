@@ -3,7 +3,6 @@ use mathlib.Core.Path.{sym, ◌∙◌}
 use mathlib.Core.Logic.{◌≢◌}
 use mathlib.Core.List.{List}
 use Prim.Native.Nat.{ℕ}
-use borrow.Author.Rules.{rules}
 use Rattle.network.specs.Positions.{position_of}
 use Rattle.board.specs.Lent.{Lent, lent}
 use Rattle.rig_step.specs.Acts.{numbers_of}
@@ -11,9 +10,6 @@ use Rattle.rig_step.proofs.Reports.{rig_on}
 use Rattle.rig_step.proofs.Acting.{opens_letter, delivery_carried_out, other_carried_out}
 use Rattle.rig_step.proofs.act.act_on.Goals as goal
 use Rattle.rig_step.proofs.act.act_on.Goals.{Start, Then-position-ne0}
-
-pub position-requires : goal.position-requires
-position-requires c = search rules
 
 -- what is lent when the step begins
 abbrev here : Start → Lent

@@ -2,7 +2,6 @@
 use mathlib.Core.Path.{◌≡◌, sym, subst}
 use mathlib.Core.List.{List}
 use Prim.Native.Nat.{ℕ}
-use borrow.Author.Rules.{rules}
 use Rattle.rules.specs.Numbers.{task_id}
 use Rattle.board.specs.declared.act.Act.{Act}
 use Rattle.board.specs.Lent.{Lent, lent}
@@ -48,9 +47,6 @@ word_run-requires c =
         rig = start.requires.1;
       },
     )
-
-pub posted-requires : goal.posted-requires
-posted-requires c = search rules
 
 pub returns-then-word_run : goal.returns-then-word_run
 returns-then-word_run c =

@@ -5,14 +5,7 @@ use Prim.Native.Nat.{ℕ, ◌+◌, ◌*◌, ◌/◌, ◌%◌}
 use native.Mathlib.Omega.{arith}
 use Rattle.rules.specs.StepFiles.{file_steps}
 use Rattle.base.specs.Lists.{table, table_before}
-use borrow.Author.Rules.{rules}
 use Rattle.rig_step.proofs.bytes.step_bytes.Goals as goal
-
-pub overflow_cast-result : goal.overflow_cast-result
-overflow_cast-result c = search rules
-
-pub overflow_cast-result-2 : goal.overflow_cast-result-2
-overflow_cast-result-2 c = search rules
 
 pub returns : goal.returns
 unfolding file_steps table table_before

@@ -1,12 +1,8 @@
 -- `parents_on`: what desks keep for parents on a board.
-use Prim.Native.Nat.{◌-◌, ◌≤◌}
 use Rattle.board.specs.Lent.{parents_on}
 use Rattle.rig_step.proofs.Agreeing.{AgreeFor}
 use Rattle.rig_step.proofs.pack.parents_on.Given as goal
 
 abbrev pub invariant-loop-k : goal.invariant-loop-k
 invariant-loop-k l =
-    (l.k ≤ 384) × AgreeFor l.k (record { hintprocessors = l.hintprocessors; hintmoves = l.hintmoves; held = l.held }) (parents_on l.board)
-
-abbrev pub decreases-loop-k : goal.decreases-loop-k
-decreases-loop-k l = 384 - l.k
+    AgreeFor l.k (record { hintprocessors = l.hintprocessors; hintmoves = l.hintmoves; held = l.held }) (parents_on l.board)

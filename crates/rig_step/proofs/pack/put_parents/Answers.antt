@@ -2,51 +2,26 @@ use mathlib.Core.Path.{refl, ◌∙◌}
 use Prim.Native.Nat.{◌-◌}
 use native.Mathlib.Omega.{arith}
 use lib.ListN.{length-map}
-use borrow.Author.Rules.{rules}
 use Rattle.board.specs.Lent.{parents_on}
 use Rattle.rig_step.proofs.Agreeing.{LongFor, parents_none, parents_more, parents_all, parents_long, at_after, stored_for}
 use Rattle.rig_step.proofs.pack.put_parents.Goals as goal
 
 pub loop-k-init : goal.loop-k-init
-loop-k-init c = (omega arith, c.requires, refl, refl, λ h. parents_none (parents_long c.args.board.now) h)
-
-pub wide16-requires : goal.wide16-requires
-wide16-requires c = search rules
-
-pub parent_of-e-requires : goal.parent_of-e-requires
-parent_of-e-requires c = search rules
-
-pub desk_after-requires : goal.desk_after-requires
-desk_after-requires c = search rules
-
-pub task_after-requires : goal.task_after-requires
-task_after-requires c = search rules
+loop-k-init c = (c.requires, refl, refl, λ h. parents_none (parents_long c.args.board.now) h)
 
 pub put_parent-requires : goal.put_parent-requires
 put_parent-requires c =
-    let l = c.before.before.before.before.before.before in
-    (at_after l.loop-k.k c.desk_after.ensures c.task_after.ensures (omega arith), l.loop-k.invariant.1)
-
-pub overflow_add-k : goal.overflow_add-k
-overflow_add-k c = search rules
-
-pub loop-k-smaller : goal.loop-k-smaller
-loop-k-smaller c = search rules
+    (at_after c.loop-k.k c.desk_after.ensures c.task_after.ensures (omega arith), c.loop-k.invariant.0)
 
 pub loop-k-preserved : goal.loop-k-preserved
 loop-k-preserved c =
-    let task = c.before in
-    let desk = task.before in
-    let read = desk.before.before in
-    let l = read.before.before.before in
     let e = c.put_parent.ensures in (
-      omega arith,
       e.0,
-      e.2 ∙ l.loop-k.invariant.2,
-      e.3 ∙ l.loop-k.invariant.3,
+      e.2 ∙ c.loop-k.invariant.1,
+      e.3 ∙ c.loop-k.invariant.2,
       λ h.
-          rw (e.1, stored_for l.loop-k.k desk.desk_after.ensures task.task_after.ensures (parents_on l.loop-k.board) _)
-          (parents_more (l.loop-k.invariant.4 h) (omega arith) _ (rw (read.parent_of-e.ensures, read.wide16.ensures) refl)),
+          rw (e.1, stored_for c.loop-k.k c.desk_after.ensures c.task_after.ensures (parents_on c.loop-k.board) _)
+          (parents_more (c.loop-k.invariant.3 h) (omega arith) _ (c.parent_of-e.ensures)),
     )
 
 pub returns : goal.returns
@@ -59,4 +34,4 @@ returns c =
       hintmoves = f.1.0.1.0.1;
       held = f.1.1.0.1.0.1;
     } in
-    (i.1, parents_all (i.4 long) (omega arith), i.2, i.3)
+    (i.0, parents_all (i.3 long) (omega arith), i.1, i.2)

@@ -1,6 +1,5 @@
 -- `put_records`: the records of the board's tasks become these.
 use mathlib.Core.Path.{◌≡◌}
-use Prim.Native.Nat.{◌-◌, ◌≤◌}
 use lib.ListN.{length}
 use Rattle.rules.specs.Tasks.{no_task}
 use Rattle.board.specs.Lent.{Whole, records_on, channels_on}
@@ -9,7 +8,4 @@ use Rattle.rig_step.proofs.pack.put_records.Given as goal
 
 abbrev pub invariant-loop-k : goal.invariant-loop-k
 invariant-loop-k l =
-    (l.k ≤ 64) × (Whole l.board) × (channels_on l.board ≡ channels_on l.initial.board) × (length l.records ≡ 64 → Agree no_task 64 l.k (records_on l.board) l.records)
-
-abbrev pub decreases-loop-k : goal.decreases-loop-k
-decreases-loop-k l = 64 - l.k
+    (Whole l.board) × (channels_on l.board ≡ channels_on l.initial.board) × (length l.records ≡ 64 → Agree no_task 64 l.k (records_on l.board) l.records)

@@ -1,11 +1,7 @@
 -- `put_tasks`: the board's tasks become these.
 use mathlib.Core.Path.{refl, ◌∙◌}
-use borrow.Author.Rules.{rules}
 use Rattle.board.specs.Lent.{tasks_on}
 use Rattle.rig_step.proofs.pack.put_tasks.Goals as goal
-
-pub put_records-requires : goal.put_records-requires
-put_records-requires c = search rules
 
 pub put_sets-requires : goal.put_sets-requires
 put_sets-requires c = c.put_records.ensures.0

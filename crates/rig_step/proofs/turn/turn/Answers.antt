@@ -2,14 +2,10 @@
 use mathlib.Core.Path.{refl}
 use Rattle.board.specs.Lent.{lent}
 use Rattle.rig_step.proofs.Boards.{packed_rig, packed_turn, few_of}
-use borrow.Author.Rules.{rules}
 use Rattle.rig_step.proofs.turn.turn.Goals as goal
 
 pub build-requires : goal.build-requires
 build-requires c = (refl, few_of c.requires.parts)
-
-pub put_rig-requires : goal.put_rig-requires
-put_rig-requires c = search rules
 
 pub turn_on-t-requires : goal.turn_on-t-requires
 turn_on-t-requires c =
@@ -34,6 +30,6 @@ returns c =
     a.s
     (lent t.new.hintprocessors t.new.hintmoves t.new.heldprocessors t.new.heldnumbers t.new.notes t.new.board)
     t.ensures
-    c.tasks_on-after.ensures
-    c.channels_on-now_channels.ensures
-    c.parents_on-now_parents.ensures
+    c.tasks_on.ensures
+    c.channels_on.ensures
+    c.parents_on.ensures

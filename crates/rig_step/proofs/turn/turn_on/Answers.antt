@@ -1,20 +1,7 @@
 -- `turn_on` decides the step, and runs it.
 use mathlib.Core.Path.{refl}
 use Rattle.rig_step.proofs.Boards.{ran_one, one_step}
-use borrow.Author.Rules.{rules}
 use Rattle.rig_step.proofs.turn.turn_on.Goals as goal
-
-pub decided-report-requires : goal.decided-report-requires
-decided-report-requires c = search rules
-
-pub step_bytes-steps-requires : goal.step_bytes-steps-requires
-step_bytes-steps-requires c = search rules
-
-pub slice_bounds-run_steps-end : goal.slice_bounds-run_steps-end
-slice_bounds-run_steps-end c = search rules
-
-pub slice_bounds-run_steps-end-2 : goal.slice_bounds-run_steps-end-2
-slice_bounds-run_steps-end-2 c = search rules
 
 pub run_steps-network-requires : goal.run_steps-network-requires
 run_steps-network-requires c =

@@ -2,7 +2,6 @@
 use Prim.Native.Nat.{◌+◌, ◌≤◌}
 use native.Mathlib.Omega.{arith}
 use lib.ListN.{length, length-set}
-use borrow.Author.Rules.{rules}
 use Rattle.dispatch.proofs.Bytes.{no_bytes, four_bytes}
 use Rattle.dispatch.proofs.choose.bytes.emit_bytes.Goals as goal
 use Rattle.dispatch.proofs.choose.bytes.emit_bytes.Goals.{Else-out-filled-lt4}
@@ -11,41 +10,17 @@ use Rattle.dispatch.proofs.choose.bytes.emit_bytes.Goals.{Else-out-filled-lt4}
 room : (c : Else-out-filled-lt4) → c.args.filled + 4 ≤ length c.args.out.now
 room c = omega (arith, c.if-out-filled-lt4.false, c.requires)
 
-pub overflow_sub-out : goal.overflow_sub-out
-overflow_sub-out c = search rules
-
 pub returns-then-out-filled-lt4 : goal.returns-then-out-filled-lt4
 returns-then-out-filled-lt4 c = no_bytes _ _ _ c.if-out-filled-lt4.true c.requires
-
-pub bounds-out-filled : goal.bounds-out-filled
-bounds-out-filled c = search rules
-
-pub overflow_add-out : goal.overflow_add-out
-overflow_add-out c = search rules
 
 pub bounds-out-filled-2 : goal.bounds-out-filled-2
 bounds-out-filled-2 c = simp length-set (omega (arith, room c))
 
-pub overflow_cast-out : goal.overflow_cast-out
-overflow_cast-out c = search rules
-
-pub overflow_add-out-2 : goal.overflow_add-out-2
-overflow_add-out-2 c = search rules
-
 pub bounds-out-filled-3 : goal.bounds-out-filled-3
 bounds-out-filled-3 c = simp length-set (omega (arith, room c.before))
 
-pub overflow_cast-out-2 : goal.overflow_cast-out-2
-overflow_cast-out-2 c = search rules
-
-pub overflow_add-out-3 : goal.overflow_add-out-3
-overflow_add-out-3 c = search rules
-
 pub bounds-out-filled-4 : goal.bounds-out-filled-4
 bounds-out-filled-4 c = simp length-set (omega (arith, room c.before.before))
-
-pub shape_of-out : goal.shape_of-out
-shape_of-out c = search rules
 
 pub returns : goal.returns
 returns c = four_bytes _ _ _ (room c.before.before)

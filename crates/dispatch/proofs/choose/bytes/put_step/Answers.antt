@@ -1,27 +1,14 @@
 -- `put_step`: the bytes behind those before them, if all of these fitted.
 use native.Mathlib.Omega.{arith}
-use borrow.Author.Rules.{rules}
 use Rattle.run.proofs.all_steps.Progress.{next_stopped, noted_room, next_noted}
 use Rattle.dispatch.proofs.choose.bytes.put_step.Goals as goal
-
-pub bounds-progress-1 : goal.bounds-progress-1
-bounds-progress-1 c = search rules
 
 pub returns-then-progress-ne0 : goal.returns-then-progress-ne0
 returns-then-progress-ne0 c = next_stopped _ _ _ c.if-progress-ne0.true
 
-pub bounds-progress-0 : goal.bounds-progress-0
-bounds-progress-0 c = search rules
-
-pub emit_bytes-written-requires : goal.emit_bytes-written-requires
-emit_bytes-written-requires c = search rules
-
 pub note-requires : goal.note-requires
 note-requires c =
     (c.requires.0, omega (arith, noted_room _ c.args.progress.now _ c.requires.0 c.if-progress-ne0.false c.requires.1 c.emit_bytes-written.ensures, c.well_formed.0))
-
-pub shape_of-out : goal.shape_of-out
-shape_of-out c = search rules
 
 pub returns : goal.returns
 returns c =

@@ -67,7 +67,7 @@ overflow_sub-at c =
     let b = c.loop-k in
     let g = b.invariant.1 c.requires.0.system c.requires.0.on in
     let range : (1 ≤ c.desk_after-d.result) × (c.desk_after-d.result ≤ 6) = desk_range a.size.processors b.d c.desk_after-d.result c.desk_after-d.ensures (some_desks g.on) (few_desks g.on) in
-    omega (arith, c.wide8-at.ensures, range)
+    omega (arith, range)
 
 pub loop-place-init : goal.loop-place-init
 loop-place-init c = (omega arith, λ i h. absurd (omega (arith, h)))
@@ -276,7 +276,7 @@ overflow_add-network c =
     let b = c.loop-k in
     let g = b.invariant.1 c.requires.0.system c.requires.0.on in
     let letters = few_letters g.on in
-    omega (arith, c.wide8.ensures, c.rounds.ensures, few_rounds 1 c.deliver-r.result.posting (omega arith), c.if-place-used.true, letters)
+    omega (arith, c.rounds.ensures, few_rounds 1 c.deliver-r.result.posting (omega arith), c.if-place-used.true, letters)
 
 pub bounds-last-at : goal.bounds-last-at
 bounds-last-at c =
@@ -284,7 +284,7 @@ bounds-last-at c =
     let b = c.loop-k in
     let g = b.invariant.1 c.requires.0.system c.requires.0.on in
     let range : (1 ≤ c.desk_after-d.result) × (c.desk_after-d.result ≤ 6) = desk_range a.size.processors b.d c.desk_after-d.result c.desk_after-d.ensures (some_desks g.on) (few_desks g.on) in
-    omega (arith, c.wide8-at.ensures, range)
+    omega (arith, range)
 
 pub bounds-last-at-then-t-ne0 : goal.bounds-last-at-then-t-ne0
 bounds-last-at-then-t-ne0 c =
@@ -292,7 +292,7 @@ bounds-last-at-then-t-ne0 c =
     let b = c.loop-k in
     let g = b.invariant.1 c.requires.0.system c.requires.0.on in
     let range : (1 ≤ c.desk_after-d.result) × (c.desk_after-d.result ≤ 6) = desk_range a.size.processors b.d c.desk_after-d.result c.desk_after-d.ensures (some_desks g.on) (few_desks g.on) in
-    omega (arith, c.wide8-at.ensures, range)
+    omega (arith, range)
 
 pub ready_at-requires : goal.ready_at-requires
 ready_at-requires c =
@@ -324,14 +324,14 @@ next_ready-t-requires c =
                 ∙ sym (first_earliest d b.network (full_mail g.on) (few_letters g.on) place w.if-place-used.true c.loop-place.invariant.1 (sym v.is_for.ensures ∙ v.if-is_for.true))
           ] in
           let act = w.deliver-r.ensures a.size.tasks a.numbers.now in
-          let posts = delivered_posts g.on place w.if-place-used.true act.act w.loop-j.j (omega (arith, w.loop-j.invariant.0, w.loop-j-test.false)) w.loop-j.invariant.1 w.message-l.ensures (w.wide8.ensures ∙ w.rounds.ensures) in
+          let posts = delivered_posts g.on place w.if-place-used.true act.act w.loop-j.j (omega (arith, w.loop-j.invariant.0, w.loop-j-test.false)) w.loop-j.invariant.1 w.message-l.ensures w.rounds.ensures in
           turn_as w.hintprocessors-is w.hintmoves-is w.heldprocessors-is w.heldnumbers-is w.notes-is w.board-is w.out-is w.progress-is w.network-is
           (some_delivery g.on b.progress b.out d first (λ z. omega (arith, z)) (on_delivery g.on place w.if-place-used.true act posts) w.put_step.ensures)
       | else-place-used w ↦
           turn_as w.hintprocessors-is w.hintmoves-is w.heldprocessors-is w.heldnumbers-is w.notes-is w.board-is w.out-is w.progress-is w.network-is
           (no_delivery g.on b.progress b.out d (none w.if-place-used.false))
     ] in
-    (few_tasks m.on, rw c.wide8-at.ensures (few_choices m.on d))
+    (few_tasks m.on, few_choices m.on d)
 
 pub put_step-requires-then-t-ne0 : goal.put_step-requires-then-t-ne0
 put_step-requires-then-t-ne0 c =
@@ -355,7 +355,7 @@ put_step-requires-then-t-ne0 c =
                 ∙ sym (first_earliest d b.network (full_mail g.on) (few_letters g.on) place w.if-place-used.true c.loop-place.invariant.1 (sym v.is_for.ensures ∙ v.if-is_for.true))
           ] in
           let act = w.deliver-r.ensures a.size.tasks a.numbers.now in
-          let posts = delivered_posts g.on place w.if-place-used.true act.act w.loop-j.j (omega (arith, w.loop-j.invariant.0, w.loop-j-test.false)) w.loop-j.invariant.1 w.message-l.ensures (w.wide8.ensures ∙ w.rounds.ensures) in
+          let posts = delivered_posts g.on place w.if-place-used.true act.act w.loop-j.j (omega (arith, w.loop-j.invariant.0, w.loop-j-test.false)) w.loop-j.invariant.1 w.message-l.ensures w.rounds.ensures in
           turn_as w.hintprocessors-is w.hintmoves-is w.heldprocessors-is w.heldnumbers-is w.notes-is w.board-is w.out-is w.progress-is w.network-is
           (some_delivery g.on b.progress b.out d first (λ z. omega (arith, z)) (on_delivery g.on place w.if-place-used.true act posts) w.put_step.ensures)
       | else-place-used w ↦
@@ -386,7 +386,7 @@ carry_out-r-requires c =
                 ∙ sym (first_earliest d b.network (full_mail g.on) (few_letters g.on) place w.if-place-used.true c.loop-place.invariant.1 (sym v.is_for.ensures ∙ v.if-is_for.true))
           ] in
           let act = w.deliver-r.ensures a.size.tasks a.numbers.now in
-          let posts = delivered_posts g.on place w.if-place-used.true act.act w.loop-j.j (omega (arith, w.loop-j.invariant.0, w.loop-j-test.false)) w.loop-j.invariant.1 w.message-l.ensures (w.wide8.ensures ∙ w.rounds.ensures) in
+          let posts = delivered_posts g.on place w.if-place-used.true act.act w.loop-j.j (omega (arith, w.loop-j.invariant.0, w.loop-j-test.false)) w.loop-j.invariant.1 w.message-l.ensures w.rounds.ensures in
           turn_as w.hintprocessors-is w.hintmoves-is w.heldprocessors-is w.heldnumbers-is w.notes-is w.board-is w.out-is w.progress-is w.network-is
           (some_delivery g.on b.progress b.out d first (λ z. omega (arith, z)) (on_delivery g.on place w.if-place-used.true act posts) w.put_step.ensures)
       | else-place-used w ↦
@@ -436,7 +436,7 @@ offset_bounds-network-free c =
                 ∙ sym (first_earliest d b.network (full_mail g.on) (few_letters g.on) place w.if-place-used.true c.loop-place.invariant.1 (sym v.is_for.ensures ∙ v.if-is_for.true))
           ] in
           let act = w.deliver-r.ensures a.size.tasks a.numbers.now in
-          let posts = delivered_posts g.on place w.if-place-used.true act.act w.loop-j.j (omega (arith, w.loop-j.invariant.0, w.loop-j-test.false)) w.loop-j.invariant.1 w.message-l.ensures (w.wide8.ensures ∙ w.rounds.ensures) in
+          let posts = delivered_posts g.on place w.if-place-used.true act.act w.loop-j.j (omega (arith, w.loop-j.invariant.0, w.loop-j-test.false)) w.loop-j.invariant.1 w.message-l.ensures w.rounds.ensures in
           turn_as w.hintprocessors-is w.hintmoves-is w.heldprocessors-is w.heldnumbers-is w.notes-is w.board-is w.out-is w.progress-is w.network-is
           (some_delivery g.on b.progress b.out d first (λ z. omega (arith, z)) (on_delivery g.on place w.if-place-used.true act posts) w.put_step.ensures)
       | else-place-used w ↦
@@ -448,7 +448,7 @@ offset_bounds-network-free c =
     subst (λ (k : Network). k.used < 256) (sym c.loop-e.invariant.1)
     (after_room c.carry_out-r.result.posting c.if-place-used.network a.size.processors c.loop-e.e
     (subst (λ n. c.loop-e.e < n) c.rounds-rounds.ensures c.loop-e-test.true)
-    (sym c.skips.ensures ∙ not-true c.skips.result c.if-not-skips.true-raw)
+    (sym c.skips.ensures ∙ c.if-not-skips.true)
     room) in
     omega (arith, free)
 
@@ -474,7 +474,7 @@ overflow_add-network-then-not-skips c =
                 ∙ sym (first_earliest d b.network (full_mail g.on) (few_letters g.on) place w.if-place-used.true c.loop-place.invariant.1 (sym v.is_for.ensures ∙ v.if-is_for.true))
           ] in
           let act = w.deliver-r.ensures a.size.tasks a.numbers.now in
-          let posts = delivered_posts g.on place w.if-place-used.true act.act w.loop-j.j (omega (arith, w.loop-j.invariant.0, w.loop-j-test.false)) w.loop-j.invariant.1 w.message-l.ensures (w.wide8.ensures ∙ w.rounds.ensures) in
+          let posts = delivered_posts g.on place w.if-place-used.true act.act w.loop-j.j (omega (arith, w.loop-j.invariant.0, w.loop-j-test.false)) w.loop-j.invariant.1 w.message-l.ensures w.rounds.ensures in
           turn_as w.hintprocessors-is w.hintmoves-is w.heldprocessors-is w.heldnumbers-is w.notes-is w.board-is w.out-is w.progress-is w.network-is
           (some_delivery g.on b.progress b.out d first (λ z. omega (arith, z)) (on_delivery g.on place w.if-place-used.true act posts) w.put_step.ensures)
       | else-place-used w ↦
@@ -486,7 +486,7 @@ overflow_add-network-then-not-skips c =
     subst (λ (k : Network). k.used < 256) (sym c.loop-e.invariant.1)
     (after_room c.carry_out-r.result.posting c.if-place-used.network a.size.processors c.loop-e.e
     (subst (λ n. c.loop-e.e < n) c.rounds-rounds.ensures c.loop-e-test.true)
-    (sym c.skips.ensures ∙ not-true c.skips.result c.if-not-skips.true-raw)
+    (sym c.skips.ensures ∙ c.if-not-skips.true)
     room) in
     omega (arith, free)
 
@@ -512,7 +512,7 @@ bounds-network-free c =
                 ∙ sym (first_earliest d b.network (full_mail g.on) (few_letters g.on) place w.if-place-used.true c.loop-place.invariant.1 (sym v.is_for.ensures ∙ v.if-is_for.true))
           ] in
           let act = w.deliver-r.ensures a.size.tasks a.numbers.now in
-          let posts = delivered_posts g.on place w.if-place-used.true act.act w.loop-j.j (omega (arith, w.loop-j.invariant.0, w.loop-j-test.false)) w.loop-j.invariant.1 w.message-l.ensures (w.wide8.ensures ∙ w.rounds.ensures) in
+          let posts = delivered_posts g.on place w.if-place-used.true act.act w.loop-j.j (omega (arith, w.loop-j.invariant.0, w.loop-j-test.false)) w.loop-j.invariant.1 w.message-l.ensures w.rounds.ensures in
           turn_as w.hintprocessors-is w.hintmoves-is w.heldprocessors-is w.heldnumbers-is w.notes-is w.board-is w.out-is w.progress-is w.network-is
           (some_delivery g.on b.progress b.out d first (λ z. omega (arith, z)) (on_delivery g.on place w.if-place-used.true act posts) w.put_step.ensures)
       | else-place-used w ↦
@@ -524,7 +524,7 @@ bounds-network-free c =
     subst (λ (k : Network). k.used < 256) (sym c.loop-e.invariant.1)
     (after_room c.carry_out-r.result.posting c.if-place-used.network a.size.processors c.loop-e.e
     (subst (λ n. c.loop-e.e < n) c.rounds-rounds.ensures c.loop-e-test.true)
-    (sym c.skips.ensures ∙ not-true c.skips.result c.if-not-skips.true-raw)
+    (sym c.skips.ensures ∙ c.if-not-skips.true)
     room) in
     free
 
@@ -573,17 +573,15 @@ loop-k-preserved-after-loop-e c =
                       ∙ sym (first_earliest d b.network (full_mail g.on) (few_letters g.on) place w.if-place-used.true c.loop-place.invariant.1 (sym v.is_for.ensures ∙ v.if-is_for.true))
                 ] in
                 let act = w.deliver-r.ensures a.size.tasks a.numbers.now in
-                let posts = delivered_posts g.on place w.if-place-used.true act.act w.loop-j.j (omega (arith, w.loop-j.invariant.0, w.loop-j-test.false)) w.loop-j.invariant.1 w.message-l.ensures (w.wide8.ensures ∙ w.rounds.ensures) in
+                let posts = delivered_posts g.on place w.if-place-used.true act.act w.loop-j.j (omega (arith, w.loop-j.invariant.0, w.loop-j-test.false)) w.loop-j.invariant.1 w.message-l.ensures w.rounds.ensures in
                 turn_as w.hintprocessors-is w.hintmoves-is w.heldprocessors-is w.heldnumbers-is w.notes-is w.board-is w.out-is w.progress-is w.network-is
                 (some_delivery g.on b.progress b.out d first (λ z. omega (arith, z)) (on_delivery g.on place w.if-place-used.true act posts) w.put_step.ensures)
             | else-place-used w ↦
                 turn_as w.hintprocessors-is w.hintmoves-is w.heldprocessors-is w.heldnumbers-is w.notes-is w.board-is w.out-is w.progress-is w.network-is
                 (no_delivery g.on b.progress b.out d (none w.if-place-used.false))
           ] in
-          let at_is : c.wide8-at.result - 1 ≡ c.desk_after-d.result - 1 = ap (λ (x : ℕ). x - 1) c.wide8-at.ensures in
           let e : c.next_ready-t.result ≡ choice (delivery_turn g.system d).system d =
           c.next_ready-t.ensures
-          ∙ ap (λ (i : ℕ). next_ready a.size.tasks (get_or b.last i 0) c.ready_at.result) at_is
           ∙ ap (next_ready a.size.tasks (get_or b.last (c.desk_after-d.result - 1) 0)) c.ready_at.ensures
           ∙ choice_of m.on d in
           let count : 12006 - b.k ≡ suc (12006 - (b.k + 1)) = omega (arith, c.loop-k-test.true) in
@@ -592,7 +590,7 @@ loop-k-preserved-after-loop-e c =
           let posted = c.loop-e.invariant.1 ∙ ap (after c.carry_out-r.result.posting c.if-place-used.network) all ∙ ap (enqueued_all c.if-place-used.network) (rounds_all a.size.processors c.carry_out-r.result.posting) in
           let ran =
           some_run m.on c.if-place-used.progress c.if-place-used.out d e c.if-t-ne0.true
-          (on_run (on_chosen m.on d e at_is) c.next_ready-t.result c.carry_out-r.ensures posted)
+          (on_run (on_chosen m.on d e refl) c.next_ready-t.result c.carry_out-r.ensures posted)
           c.put_step-then-t-ne0.ensures in
           going_next g count (some_desks g.on) unrest c.desk_after-d.ensures m ran (λ z. absurd (tests_differ z refl)),
     )
@@ -621,17 +619,15 @@ loop-k-preserved c =
                       ∙ sym (first_earliest d b.network (full_mail g.on) (few_letters g.on) place w.if-place-used.true c.loop-place.invariant.1 (sym v.is_for.ensures ∙ v.if-is_for.true))
                 ] in
                 let act = w.deliver-r.ensures a.size.tasks a.numbers.now in
-                let posts = delivered_posts g.on place w.if-place-used.true act.act w.loop-j.j (omega (arith, w.loop-j.invariant.0, w.loop-j-test.false)) w.loop-j.invariant.1 w.message-l.ensures (w.wide8.ensures ∙ w.rounds.ensures) in
+                let posts = delivered_posts g.on place w.if-place-used.true act.act w.loop-j.j (omega (arith, w.loop-j.invariant.0, w.loop-j-test.false)) w.loop-j.invariant.1 w.message-l.ensures w.rounds.ensures in
                 turn_as w.hintprocessors-is w.hintmoves-is w.heldprocessors-is w.heldnumbers-is w.notes-is w.board-is w.out-is w.progress-is w.network-is
                 (some_delivery g.on b.progress b.out d first (λ z. omega (arith, z)) (on_delivery g.on place w.if-place-used.true act posts) w.put_step.ensures)
             | else-place-used w ↦
                 turn_as w.hintprocessors-is w.hintmoves-is w.heldprocessors-is w.heldnumbers-is w.notes-is w.board-is w.out-is w.progress-is w.network-is
                 (no_delivery g.on b.progress b.out d (none w.if-place-used.false))
           ] in
-          let at_is : c.wide8-at.result - 1 ≡ c.desk_after-d.result - 1 = ap (λ (x : ℕ). x - 1) c.wide8-at.ensures in
           let e : c.next_ready-t.result ≡ choice (delivery_turn g.system d).system d =
           c.next_ready-t.ensures
-          ∙ ap (λ (i : ℕ). next_ready a.size.tasks (get_or b.last i 0) c.ready_at.result) at_is
           ∙ ap (next_ready a.size.tasks (get_or b.last (c.desk_after-d.result - 1) 0)) c.ready_at.ensures
           ∙ choice_of m.on d in
           let count : 12006 - b.k ≡ suc (12006 - (b.k + 1)) = omega (arith, c.loop-k-test.true) in

@@ -1,12 +1,8 @@
 -- `desk_after`: the desk after d, round again.
 use mathlib.Core.Path.{refl}
 use native.Mathlib.Omega.{arith}
-use borrow.Author.Rules.{rules}
 use borrow.Author.Tests.{lt-ltb, le-ltb}
 use Rattle.dispatch.proofs.choose.calls.desk_after.Goals as goal
-
-pub overflow_add-result : goal.overflow_add-result
-overflow_add-result c = search rules
 
 pub returns-then-d-n : goal.returns-then-d-n
 returns-then-d-n c = rw (lt-ltb c.args.d c.args.n c.if-d-n.true) refl

@@ -2,69 +2,57 @@
 use mathlib.Core.Path.{◌≡◌, refl, sym, ◌∙◌}
 use mathlib.Core.Bool.{true}
 use native.Mathlib.Omega.{arith}
-use borrow.Author.Rules.{rules}
-use borrow.Author.Tests.{not-true, not-false}
+use Rattle.std.specs.Prelude.{Ok}
 use Rattle.base.specs.Choice.{within}
 use Rattle.base.proofs.Tests.{within_high}
-use Rattle.plan.specs.declared.PlanAnswer.TheVariants.{Accepted}
 use Rattle.plan.specs.Files.{file_answer}
 use Rattle.run.proofs.file.Opening.{opened_file, opened_passes, opened_begins}
 use Rattle.run.proofs.file.Outcomes.{start_is}
 use Rattle.dispatch.proofs.Outcomes.{processors_refused, file_refused, chosen_all, chosen_short}
+use borrow.Author.Rules.{rules}
 use Rattle.dispatch.proofs.choose.file.choose_in.Goals as goal
 
-pub is_within-requires : goal.is_within-requires
-is_within-requires c = search rules
-
-pub returns-then-not-is_within : goal.returns-then-not-is_within
-returns-then-not-is_within c = processors_refused _ _ _ (sym c.is_within.ensures ∙ not-true c.is_within.result c.if-not-is_within.true-raw)
+pub returns-then-not-contains : goal.returns-then-not-contains
+returns-then-not-contains c =
+    let e : c.contains.result ≡ within 1 6 c.args.processors = search rules in
+    processors_refused _ _ _ (sym e ∙ c.if-not-contains.true)
 
 pub open-opened-requires : goal.open-opened-requires
 open-opened-requires c = (refl, refl, refl, refl)
 
-pub enum_known-checked : goal.enum_known-checked
-enum_known-checked c = search rules
-
-pub enum_told-1 : goal.enum_told-1
-enum_told-1 c = search rules
-
 pub put_numbers-requires : goal.put_numbers-requires
-put_numbers-requires c = (opened_passes c.open-opened.ensures c.in-Accepted.is, refl)
+put_numbers-requires c = (opened_passes c.open-opened.ensures c.in-Ok.is, refl)
 
-pub overflow_cast-processors-in-Accepted : goal.overflow_cast-processors-in-Accepted
-overflow_cast-processors-in-Accepted c =
-    let q : within 1 6 c.args.processors ≡ true = sym c.is_within.ensures ∙ not-false c.is_within.result c.if-not-is_within.false-raw in
+pub overflow_cast-processors : goal.overflow_cast-processors
+overflow_cast-processors c =
+    let e : c.contains.result ≡ within 1 6 c.args.processors = search rules in
+    let q : within 1 6 c.args.processors ≡ true = sym e ∙ c.if-not-contains.false in
     omega (arith, within_high 1 6 c.args.processors q)
 
 pub choose-c-requires : goal.choose-c-requires
 choose-c-requires c =
-    let q : within 1 6 c.args.processors ≡ true = sym c.is_within.ensures ∙ not-false c.is_within.result c.if-not-is_within.false-raw in
-    record { plan = _; begins = opened_begins c.open-opened.ensures c.in-Accepted.is _ q c.put_numbers.ensures }
+    let e : c.contains.result ≡ within 1 6 c.args.processors = search rules in
+    let q : within 1 6 c.args.processors ≡ true = sym e ∙ c.if-not-contains.false in
+    record { plan = _; begins = opened_begins c.open-opened.ensures c.in-Ok.is _ q c.put_numbers.ensures }
 
-pub both-requires : goal.both-requires
-both-requires c = search rules
-
-pub shape_of-out-then-both : goal.shape_of-out-then-both
-shape_of-out-then-both c = search rules
-
-pub returns-then-both : goal.returns-then-both
-returns-then-both c =
-    let q : within 1 6 c.args.processors ≡ true = sym c.is_within.ensures ∙ not-false c.is_within.result c.if-not-is_within.false-raw in
-    let ok : file_answer c.args.plan.now ≡ Accepted = opened_file c.open-opened.ensures c.in-Accepted.is in
+pub returns-then-c-2 : goal.returns-then-c-2
+returns-then-c-2 c =
+    let e : c.contains.result ≡ within 1 6 c.args.processors = search rules in
+    let q : within 1 6 c.args.processors ≡ true = sym e ∙ c.if-not-contains.false in
+    let ok : file_answer c.args.plan.now ≡ Ok tt = opened_file c.open-opened.ensures c.in-Ok.is in
     chosen_all _ _ _ q ok (start_is _ _)
-    (c.choose-c.ensures _ (opened_begins c.open-opened.ensures c.in-Accepted.is _ q c.put_numbers.ensures)) (sym c.both.ensures ∙ c.if-both.true)
+    (c.choose-c.ensures _ (opened_begins c.open-opened.ensures c.in-Ok.is _ q c.put_numbers.ensures)) (search rules)
 
-pub returns-in-Refused : goal.returns-in-Refused
-returns-in-Refused c =
-    let q : within 1 6 c.args.processors ≡ true = sym c.is_within.ensures ∙ not-false c.is_within.result c.if-not-is_within.false-raw in
-    file_refused _ _ _ q _ (sym c.open-opened.ensures.answered ∙ c.in-Refused.is)
+pub returns-in-Err : goal.returns-in-Err
+returns-in-Err c =
+    let e : c.contains.result ≡ within 1 6 c.args.processors = search rules in
+    let q : within 1 6 c.args.processors ≡ true = sym e ∙ c.if-not-contains.false in
+    file_refused _ _ _ q _ (sym c.open-opened.ensures.answered ∙ c.in-Err.is)
 
-pub shape_of-out : goal.shape_of-out
-shape_of-out c = search rules
-
-pub returns-else-both : goal.returns-else-both
-returns-else-both c =
-    let q : within 1 6 c.args.processors ≡ true = sym c.is_within.ensures ∙ not-false c.is_within.result c.if-not-is_within.false-raw in
-    let ok : file_answer c.args.plan.now ≡ Accepted = opened_file c.open-opened.ensures c.in-Accepted.is in
+pub returns-else-c : goal.returns-else-c
+returns-else-c c =
+    let e : c.contains.result ≡ within 1 6 c.args.processors = search rules in
+    let q : within 1 6 c.args.processors ≡ true = sym e ∙ c.if-not-contains.false in
+    let ok : file_answer c.args.plan.now ≡ Ok tt = opened_file c.open-opened.ensures c.in-Ok.is in
     chosen_short _ _ _ q ok (start_is _ _)
-    (c.choose-c.ensures _ (opened_begins c.open-opened.ensures c.in-Accepted.is _ q c.put_numbers.ensures)) (sym c.both.ensures ∙ c.if-both.false)
+    (c.choose-c.ensures _ (opened_begins c.open-opened.ensures c.in-Ok.is _ q c.put_numbers.ensures)) (search rules)

@@ -2,7 +2,6 @@ use mathlib.Core.Path.{◌≡◌, refl, sym, ap, ◌∙◌, subst}
 use mathlib.Core.Bool.{true}
 use Prim.Native.Nat.{ℕ, ◌+◌, ◌-◌}
 use native.Mathlib.Omega.{arith}
-use borrow.Author.Rules.{rules}
 use Rattle.base.proofs.Tests.{tests_differ, within_low, within_high}
 use Rattle.rules.specs.Numbers.{task_id}
 use Rattle.rules.specs.Answers.{is_accepted}
@@ -12,20 +11,11 @@ use Rattle.rig.proofs.rest.Quiet.{quiet_fails}
 use Rattle.board.specs.Lent.{tasks_on}
 use Rattle.dispatch.proofs.choose.rest.one_runs.Goals as goal
 
-pub loop-last-init : goal.loop-last-init
-loop-last-init c = tt
-
 pub next_ready-t-requires : goal.next_ready-t-requires
 next_ready-t-requires c = let few = c.requires.few in (few, omega (arith, c.loop-last-test.true, few))
 
 pub returns-then-t-last : goal.returns-then-t-last
 returns-then-t-last c e = absurd (tests_differ e refl)
-
-pub run_refusal-q-requires : goal.run_refusal-q-requires
-run_refusal-q-requires c = search rules
-
-pub is_accepted-requires : goal.is_accepted-requires
-is_accepted-requires c = search rules
 
 pub returns-then-is_accepted : goal.returns-then-is_accepted
 returns-then-is_accepted c e =
@@ -39,12 +29,6 @@ returns-then-is_accepted c e =
     let back : t ≡ t - 1 + 1 = omega (arith, low) in
     quiet_fails a.count a.codes.now ts 0 (t - 1) refl (omega (arith, low, high))
     (subst (λ (i : ℕ). is_accepted (run_refusal a.codes.now a.count ts (task_id i)) ≡ true) back runs)
-
-pub loop-last-smaller : goal.loop-last-smaller
-loop-last-smaller c = omega arith
-
-pub loop-last-preserved : goal.loop-last-preserved
-loop-last-preserved c = tt
 
 pub returns : goal.returns
 returns c e = absurd (tests_differ e refl)

@@ -1,9 +1,5 @@
 -- `rests_on`: where no ready task is known to run, every task is asked.
-use Prim.Native.Nat.{◌-◌}
 use Rattle.dispatch.proofs.choose.rest.rests_on.Given as goal
 
 abbrev pub invariant-loop-d : goal.invariant-loop-d
 invariant-loop-d l = Unit {0}
-
-abbrev pub decreases-loop-d : goal.decreases-loop-d
-decreases-loop-d l = l.processors - l.d

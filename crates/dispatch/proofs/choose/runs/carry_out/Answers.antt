@@ -2,19 +2,12 @@
 use mathlib.Core.Path.{sym, subst}
 use mathlib.Core.List.{List}
 use Prim.Native.Nat.{ℕ}
-use borrow.Author.Rules.{rules}
 use Rattle.plan_index.specs.user_table.Users.{senders_of, receivers_of}
 use Rattle.board.specs.Lent.{lent, tasks_of, kept_of}
 use Rattle.board.specs.Acted.{Acted}
 use Rattle.board.specs.Rigs.{RigOn, facts_in}
 use Rattle.board.specs.Verdicts.{step_verdict}
 use Rattle.dispatch.proofs.choose.runs.carry_out.Goals as goal
-
-pub word_run-requires : goal.word_run-requires
-word_run-requires c = search rules
-
-pub posted-requires : goal.posted-requires
-posted-requires c = search rules
 
 pub returns-then-word_run : goal.returns-then-word_run
 returns-then-word_run c = rw c.posted.ensures (c.word_run.ensures.1 c.if-word_run.true _ _ _ _ _ _ _)

@@ -1,6 +1,5 @@
 -- `choose` makes the table of who uses what and the parts of the start, and calls the desks.
 use mathlib.Core.Path.{refl}
-use borrow.Author.Rules.{rules}
 use Rattle.plan.specs.declared.Plan.{Plan}
 use Rattle.rig_parts.specs.Facts.{facts}
 use Rattle.run.specs.file.Begins.{Begins}
@@ -11,18 +10,6 @@ use Rattle.dispatch.proofs.choose.start.choose.Goals as goal
 pub build-requires : goal.build-requires
 build-requires c = (refl, few_users c.requires.begins)
 
-pub no_tables-tables-requires : goal.no_tables-tables-requires
-no_tables-tables-requires c = search rules
-
-pub start_board-requires : goal.start_board-requires
-start_board-requires c = search rules
-
-pub locate-requires : goal.locate-requires
-locate-requires c = search rules
-
-pub no_messages-network-requires : goal.no_messages-network-requires
-no_messages-network-requires c = search rules
-
 pub call_desks-rest-requires : goal.call_desks-rest-requires
 call_desks-rest-requires c =
     let a = c.args in
@@ -32,15 +19,6 @@ call_desks-rest-requires c =
     starts a.count a.codes.now a.numbers.now c.build.ensures b c.no_messages-network.ensures z.ensures on.ensures
     (c.locate.ensures z.result.heldprocessors z.result.heldnumbers z.result.notes on.new.board on.ensures.whole) in
     (record { system = _; on = begins_on _ c.requires.begins }, refl)
-
-pub bounds-progress-0 : goal.bounds-progress-0
-bounds-progress-0 c = search rules
-
-pub bounds-progress-1 : goal.bounds-progress-1
-bounds-progress-1 c = search rules
-
-pub shape_of-out : goal.shape_of-out
-shape_of-out c = search rules
 
 pub returns : goal.returns
 returns c p b =
