@@ -16,7 +16,7 @@
 --   29256    768  noted adverts
 --   30024   4096  the mail, 256 letters of 16 bytes (specs/Letters)
 --   34120
-use Rattle.std.specs.Prelude.{Bool, List, [], ◌∷◌, ◌++◌, ℕ, suc, ◌+◌, ◌*◌, ◌-◌, length, get_or, take, drop, replicate}
+use Rattle.std.specs.Prelude.{Bool, List, [], ◌∷◌, ◌++◌, ℕ, ◌+◌, ◌*◌, ◌-◌, length, get_or, take, drop, replicate}
 use Rattle.base.specs.Range.{joined}
 use Rattle.base.specs.Lists.{table}
 use Rattle.plan.specs.Programs.{programs}

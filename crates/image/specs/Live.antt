@@ -1,28 +1,18 @@
 -- What the calls of a live rig answer, and every byte that they leave.
-use Rattle.std.specs.Prelude.{◌≡◌, ◌≢◌, Bool, true, ◌&&◌, List, [], ◌∷◌, ◌++◌, ℕ, ◌+◌, ◌*◌, eqb, leb, length, take, drop, replicate}
+use Rattle.std.specs.Prelude.{◌≡◌, ◌≢◌, Bool, true, ◌&&◌, List, [], ◌∷◌, ◌++◌, ℕ, ◌+◌, ◌*◌, eqb, leb, length, take, drop, replicate, None, Some, Ok, Err}
 use Rattle.base.specs.Choice.{pick, unless}
-use Rattle.plan.specs.Answers.{answer_number}
-use Rattle.plan.specs.Files.{start_answer}
 use Rattle.plan.specs.Outcomes.{plan_read, start_number}
 use Rattle.plan.specs.Layout.{bytes16}
-use Rattle.plan.specs.Words.{word_numbers}
-use Rattle.plan.specs.declared.TaskId.{TaskId}
-use Rattle.plan.specs.declared.ProcessorId.{ProcessorId}
-use Rattle.rules.specs.declared.rule.Received.{Received}
-use Rattle.rules.specs.declared.rule.Received.TheVariants.{Nothing, Word}
+use Rattle.rules.specs.Reports.{Received}
 use Rattle.rules.specs.declared.dispatch.Dispatched.{Dispatched}
 use Rattle.rules.specs.declared.step.Report.{Report}
 use Rattle.rules.specs.declared.step.Step.{Step}
 use Rattle.rules.specs.declared.step.Stepped.{Stepped}
-use Rattle.rules.specs.declared.step.StepAnswer.TheVariants.{BadSystem}
+use Rattle.rules.specs.declared.step.StepRefusal.TheVariants.{BadSystem}
 use Rattle.rules.specs.declared.system.System.{System}
 use Rattle.rules.specs.declared.view.TabletView.{TabletView}
 use Rattle.rules.specs.declared.view.DriverView.{DriverView}
-use Rattle.rules.specs.declared.view.TabletAnswer.{TabletAnswer}
-use Rattle.rules.specs.declared.view.TabletAnswer.TheVariants.{Shown as TabletShown, Refused as TabletRefused}
-use Rattle.rules.specs.declared.view.DriverAnswer.{DriverAnswer}
-use Rattle.rules.specs.declared.view.DriverAnswer.TheVariants.{Shown as DriverShown, Refused as DriverRefused}
-use Rattle.rules.specs.Answers.{is_accepted, step_number}
+use Rattle.rules.specs.Answers.{TabletAnswer, DriverAnswer, is_accepted, step_number}
 use Rattle.rules.specs.Logs.{log_record}
 use Rattle.rules.specs.Numbers.{task_id, processor_id}
 use Rattle.rules.specs.Starts.{started}
@@ -63,12 +53,12 @@ step_given kind task number =
 
 -- one step of the rig that is lent
 unfoldable pub live_step : List ℕ → Step → Stepped
-live_step b s = pick (is_image (held b)) (step (rig_of (held b)) s) (refused (rig_of (held b)) BadSystem)
+live_step b s = pick (is_image (held b)) (step (rig_of (held b)) s) (refused (rig_of (held b)) (Err BadSystem))
 
 -- "a received word as channel and four levels, the log's record, else zeros"
 abbrev pub word_record : Received → List ℕ
-word_record Nothing = replicate 10 0
-word_record (Word c w) = log_record (Word c w)
+word_record None = replicate 10 0
+word_record (Some (c, w)) = log_record (Some (c, w))
 
 -- Step: 20 for a short record; else "the step's answer; on acceptance the image is that of the rig then, on refusal not a byte changes"
 pub record StepMeets (before : List ℕ) (s : Step) (word : List ℕ) (r : ℕ) (after word' : List ℕ) : Type 0 where
@@ -85,7 +75,7 @@ byte_given n = pick (leb n 255) n 0
 -- a call at a desk of the rig that is lent
 unfoldable pub live_dispatch : List ℕ → ℕ → Dispatched
 live_dispatch b d =
-    pick (is_image (held b)) (dispatched (rig_of (held b)) (processor_id (byte_given d))) (undispatched (rig_of (held b)) BadSystem)
+    pick (is_image (held b)) (dispatched (rig_of (held b)) (processor_id (byte_given d))) (undispatched (rig_of (held b)) (Err BadSystem))
 
 -- the four bytes of a step, and of a report its answer and its word record
 abbrev pub step_bytes : Step → List ℕ
@@ -146,27 +136,27 @@ driver_bytes v =
 
 -- the answer of a view, and the output then
 abbrev pub tablet_number : TabletAnswer → ℕ
-tablet_number (TabletShown v) = 0
-tablet_number (TabletRefused a) = step_number a
+tablet_number (Ok v) = 0
+tablet_number (Err a) = step_number (Err a)
 
 abbrev pub tablet_output : TabletAnswer → List ℕ → List ℕ
-tablet_output (TabletShown v) out = tablet_bytes v ++ drop 4 out
-tablet_output (TabletRefused a) out = out
+tablet_output (Ok v) out = tablet_bytes v ++ drop 4 out
+tablet_output (Err a) out = out
 
 abbrev pub driver_number : DriverAnswer → ℕ
-driver_number (DriverShown v) = 0
-driver_number (DriverRefused a) = step_number a
+driver_number (Ok v) = 0
+driver_number (Err a) = step_number (Err a)
 
 abbrev pub driver_output : DriverAnswer → List ℕ → List ℕ
-driver_output (DriverShown v) out = driver_bytes v ++ drop 21 out
-driver_output (DriverRefused a) out = out
+driver_output (Ok v) out = driver_bytes v ++ drop 21 out
+driver_output (Err a) out = out
 
 -- the views of a task of the rig that is lent
 unfoldable pub live_tablet : List ℕ → ℕ → TabletAnswer
-live_tablet b t = pick (is_image (held b)) (tablet_of (rig_of (held b)) (task_id (byte_given t))) (TabletRefused BadSystem)
+live_tablet b t = pick (is_image (held b)) (tablet_of (rig_of (held b)) (task_id (byte_given t))) (Err BadSystem)
 
 unfoldable pub live_driver : List ℕ → ℕ → DriverAnswer
-live_driver b t = pick (is_image (held b)) (driver_of (rig_of (held b)) (task_id (byte_given t))) (DriverRefused BadSystem)
+live_driver b t = pick (is_image (held b)) (driver_of (rig_of (held b)) (task_id (byte_given t))) (Err BadSystem)
 
 -- Views: 20 for a short output; else 9, 10, or the record
 pub record TabletMeets (b : List ℕ) (t : ℕ) (out : List ℕ) (r : ℕ) (out' : List ℕ) : Type 0 where

@@ -4,10 +4,10 @@ use mathlib.Core.List.{List}
 use Prim.Native.Nat.{ℕ, ◌+◌, ◌*◌, ◌<◌}
 use native.Mathlib.Omega.{arith}
 use lib.ListN.{get_or}
+use Rattle.std.specs.Prelude.{Ok}
 use Rattle.base.specs.Lists.{table}
 use Rattle.base.proofs.Tables.{length_table}
 use Rattle.plan.specs.declared.Plan.{Plan}
-use Rattle.plan.specs.declared.PlanAnswer.TheVariants.{Accepted}
 use Rattle.plan.specs.Programs.{programs, canonical}
 use Rattle.plan.specs.Refusals.{plan_answer}
 use Rattle.rules.specs.declared.message.Network.{Network}
@@ -66,7 +66,7 @@ module _ (x : List ℕ) where
 
 pub imaged_parts : (n : ℕ) (p : Plan) (l : Lent) (k : Network) (chosen : List ℕ)
     → n < 256
-    → plan_answer (programs p) ≡ Accepted
+    → plan_answer (programs p) ≡ Ok tt
     → p ≡ canonical (programs p)
     → LentFits l
     → MailFits k

@@ -4,12 +4,12 @@ use mathlib.Core.List.{List, []}
 use Prim.Native.Nat.{ℕ, ◌≤◌}
 use native.Mathlib.Omega.{arith}
 use lib.ListN.{length}
+use Rattle.std.specs.Prelude.{Ok, Err}
 use Rattle.base.specs.Choice.{pick}
 use Rattle.base.specs.Range.{fold}
 use Rattle.base.proofs.Sums.{sum_at_most}
 use Rattle.plan.specs.declared.Plan.{Plan}
-use Rattle.plan.specs.declared.PlanAnswer.{PlanAnswer}
-use Rattle.plan.specs.declared.PlanAnswer.TheVariants.{Accepted, Refused}
+use Rattle.plan.specs.Answers.{PlanAnswer}
 use Rattle.plan.specs.Answers.{is_accepted}
 use Rattle.plan.specs.Programs.{Programs, programs, canonical}
 use Rattle.plan.specs.Layout.{layout}
@@ -24,22 +24,22 @@ use Rattle.plan_laws.proofs.LayoutRead.{file_plan_lem, layout_read}
 use Rattle.plan_laws.proofs.ReadLayout.{read_layout}
 
 -- what is read from an accepted file
-pub read_plan : (f : List ℕ) → file_answer f ≡ Accepted → (plan_read f).plan ≡ canonical (file_programs f)
+pub read_plan : (f : List ℕ) → file_answer f ≡ Ok tt → (plan_read f).plan ≡ canonical (file_programs f)
 unfolding plan_read
 read_plan f h = rw h refl
 
 -- 4 bytes, 4 for each of 64 tasks, 4 for each of 4,096 instructions
-file_size : (f : List ℕ) → file_answer f ≡ Accepted → length f ≤ 16644
+file_size : (f : List ℕ) → file_answer f ≡ Ok tt → length f ≤ 16644
 file_size f h =
     let l = laid f (file_passed f h).layout in
     let s = sum_at_most 64 (file_tasks f) (file_count f) (λ k q. (l.counts k q).few) in
     omega (arith, l.tasks.few, l.total, l.size)
 
-pub layout_size : (m : Programs) → plan_answer m ≡ Accepted → length (layout m) ≤ 16644
+pub layout_size : (m : Programs) → plan_answer m ≡ Ok tt → length (layout m) ≤ 16644
 layout_size m h = file_size (layout m) (read_layout m h).0
 
 -- the file of what is read is the file
-pub plan_back : (f : List ℕ) → Bytes f → file_answer f ≡ Accepted → layout (programs (plan_read f).plan) ≡ f
+pub plan_back : (f : List ℕ) → Bytes f → file_answer f ≡ Ok tt → layout (programs (plan_read f).plan) ≡ f
 plan_back f bytes h =
     let (l, p) = layout_read f bytes h in
     rw (read_plan f h, meaning_canonical (file_programs f) p) l
@@ -55,18 +55,18 @@ unfolding plan_read
 plan_size f = go (file_answer f) refl
   where
     go : (a : PlanAnswer) → file_answer f ≡ a → length (layout (programs (canonical (pick (is_accepted a) (file_programs f) [])))) ≤ 16644
-    go Accepted e = let p = file_plan_lem f e in rw (meaning_canonical (file_programs f) p) (layout_size (file_programs f) p)
-    go (Refused q) e = no_task_size
+    go (Ok tt) e = let p = file_plan_lem f e in rw (meaning_canonical (file_programs f) p) (layout_size (file_programs f) p)
+    go (Err q) e = no_task_size
 
 -- the file of a plan holds the plan
-pub plan_held : (p : Plan) → plan_answer (programs p) ≡ Accepted → p ≡ canonical (programs p) → (plan_read (layout (programs p))).plan ≡ p
+pub plan_held : (p : Plan) → plan_answer (programs p) ≡ Ok tt → p ≡ canonical (programs p) → (plan_read (layout (programs p))).plan ≡ p
 plan_held p h clear =
     let (a, same) = read_layout (programs p) h in
     read_plan (layout (programs p)) a ∙ ap canonical same ∙ sym clear
 
 -- the plan of an accepted file is accepted, and has nothing in unused slots
-pub plan_fits : (f : List ℕ) → file_answer f ≡ Accepted
-    → (plan_answer (programs (plan_read f).plan) ≡ Accepted) × ((plan_read f).plan ≡ canonical (programs (plan_read f).plan))
+pub plan_fits : (f : List ℕ) → file_answer f ≡ Ok tt
+    → (plan_answer (programs (plan_read f).plan) ≡ Ok tt) × ((plan_read f).plan ≡ canonical (programs (plan_read f).plan))
 plan_fits f h =
     let q = read_plan f h in
     let ok = file_plan_lem f h in

@@ -7,8 +7,8 @@ use native.Mathlib.Nat.{one-le-pow}
 use native.Mathlib.Omega.{arith}
 use lib.ListN.{length, get_or}
 use borrow.Author.Tests.{le-ltb}
+use Rattle.std.specs.Prelude.{Ok}
 use Rattle.base.proofs.Tables.{length_table, get_d_table}
-use Rattle.plan.specs.declared.PlanAnswer.TheVariants.{Accepted}
 use Rattle.plan.specs.Files.{file_answer}
 use Rattle.plan.specs.Outcomes.{plan_read}
 use Rattle.plan_laws.specs.Bytes.{Bytes}
@@ -96,7 +96,7 @@ module _ (b : List ℕ) where
     unfolding chosen_in
     chosen_array = read_array 1 6 14 bytes
 
-    pub rig_imaged : is_image b ≡ true → file_answer (plan_file b) ≡ Accepted → Imaged (rig_of b)
+    pub rig_imaged : is_image b ≡ true → file_answer (plan_file b) ≡ Ok tt → Imaged (rig_of b)
     rig_imaged h accepted =
         let (ok, clear) = plan_fits (plan_file b) accepted in
         rw (rig_parts b)

@@ -5,6 +5,7 @@ use mathlib.Core.List.{List, [], ◌∷◌}
 use Prim.Native.Nat.{ℕ, zero, suc, ◌-◌, ◌<◌, ◌≤◌}
 use native.Mathlib.Omega.{arith}
 use lib.ListN.{length, get_or, set, replicate, length-set, length-replicate, get_or-replicate}
+use Rattle.std.specs.Prelude.{Ok}
 use Rattle.base.specs.Range.{fold}
 use Rattle.base.specs.Lists.{every, any, table, table_before}
 use Rattle.base.specs.Sets.{member, inserted}
@@ -12,7 +13,6 @@ use Rattle.base.proofs.Choices.{pick_either}
 use Rattle.plan.specs.declared.Plan.{Plan}
 use Rattle.plan.specs.declared.ProcessorId.{ProcessorId}
 use Rattle.plan.specs.declared.ChannelId.{ChannelId}
-use Rattle.plan.specs.declared.PlanAnswer.TheVariants.{Accepted}
 use Rattle.plan.specs.Programs.{programs, canonical}
 use Rattle.plan.specs.Users.{users}
 use Rattle.plan.specs.Refusals.{operand_ok, instructions_ok, finish_ok, finishes_ok, creates_ok, channels_ok, structure_answer, plan_answer}
@@ -190,7 +190,7 @@ no_mail =
       unused = λ k u l. get_or-replicate 256 k no_slot no_slot l;
     }
 
-pub started_imaged : (n : ℕ) (p : Plan) → 1 ≤ n → n ≤ 6 → plan_answer (programs p) ≡ Accepted → p ≡ canonical (programs p) → Imaged (started n p)
+pub started_imaged : (n : ℕ) (p : Plan) → 1 ≤ n → n ≤ 6 → plan_answer (programs p) ≡ Ok tt → p ≡ canonical (programs p) → Imaged (started n p)
 unfolding started birth blank for_channels with_task with_parent parent_at first_tasks
 started_imaged n p some few accepted clear =
     let cells =
@@ -208,11 +208,11 @@ started_imaged n p some few accepted clear =
     }
 
 -- the plan of an accepted file
-pub start_imaged : (n : ℕ) (f : List ℕ) → 1 ≤ n → n ≤ 6 → file_answer f ≡ Accepted → Imaged (started n (plan_read f).plan)
+pub start_imaged : (n : ℕ) (f : List ℕ) → 1 ≤ n → n ≤ 6 → file_answer f ≡ Ok tt → Imaged (started n (plan_read f).plan)
 start_imaged n f some few h = let (accepted, clear) = plan_fits f h in started_imaged n (plan_read f).plan some few accepted clear
 
 -- the paper's worked plan on two desks
-worked_accepted : file_answer worked ≡ Accepted
+worked_accepted : file_answer worked ≡ Ok tt
 unfolding file_answer file_programs layout_ok instructions_ok operand_ok finishes_ok finish_ok creates_ok channels_ok structure_answer users fold every any table table_before
 worked_accepted = refl
 

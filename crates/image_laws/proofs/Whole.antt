@@ -10,9 +10,9 @@ use lib.Dec.{eqb}
 use lib.ListN.{length, get_or, take, drop, replicate, length-take, length-drop, length-replicate, get_or-replicate, get_or-eq_default}
 use lib.Seq.{get_or-take, get_or-drop}
 use borrow.Author.Tests.{eqb-true, eq-eqb}
+use Rattle.std.specs.Prelude.{Ok}
 use Rattle.base.proofs.Tests.{and_left, and_right, and_both, below_at, below_all}
 use Rattle.base.proofs.Tables.{all_same}
-use Rattle.plan.specs.declared.PlanAnswer.TheVariants.{Accepted}
 use Rattle.plan.specs.Files.{file_answer}
 use Rattle.plan_laws.specs.Bytes.{Bytes}
 use Rattle.plan_laws.proofs.Pieces.{four}
@@ -37,7 +37,7 @@ same_test_lem true y p q = sym (p refl)
 same_test_lem false true p q = q refl
 same_test_lem false false p q = refl
 
-module _ (b : List ℕ) (long : length b ≡ rig_size) (bytes : Bytes b) (room : number_at 4 b 4 ≤ plan_room) (accepted : file_answer (plan_file b) ≡ Accepted) where
+module _ (b : List ℕ) (long : length b ≡ rig_size) (bytes : Bytes b) (room : number_at 4 b 4 ≤ plan_room) (accepted : file_answer (plan_file b) ≡ Ok tt) where
   -- the plan file
   file_bytes : Bytes (plan_file b)
   file_bytes i =

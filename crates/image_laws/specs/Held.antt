@@ -1,8 +1,7 @@
 -- Which rigs an image holds: each array has its size and each number fits its field, the plan is accepted and has nothing in unused slots,
 -- and the unused slots of the mail are empty. Typed code has no other rigs. The image of such a rig holds that very rig.
-use Rattle.std.specs.Prelude.{◌≡◌, true, List, ℕ, ◌≤◌, ◌<◌, length, get_or}
+use Rattle.std.specs.Prelude.{◌≡◌, true, List, ℕ, ◌≤◌, ◌<◌, length, get_or, Ok}
 use Rattle.plan.specs.declared.Word.{Word}
-use Rattle.plan.specs.declared.PlanAnswer.TheVariants.{Accepted}
 use Rattle.plan.specs.Programs.{programs, canonical}
 use Rattle.plan.specs.Refusals.{plan_answer}
 use Rattle.rules.specs.declared.channel.Hint.{Hint}
@@ -110,7 +109,7 @@ pub record MailFits (n : Network) : Type 0 where
 
 pub record Imaged (r : System) : Type 0 where
   pub processors : r.processors < top8
-  pub accepted : plan_answer (programs r.plan) ≡ Accepted
+  pub accepted : plan_answer (programs r.plan) ≡ Ok tt
   pub clear : r.plan ≡ canonical (programs r.plan)
   pub tasks : TasksFit r.tasks
   pub tables : TablesFit r.tables

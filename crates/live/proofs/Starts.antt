@@ -7,9 +7,9 @@ use Prim.Native.Nat.{ℕ, ◌≤◌, ◌<◌}
 use native.Mathlib.Omega.{arith}
 use lib.ListN.{length, drop}
 use borrow.Author.Tests.{le-leb, lt-leb, ne_eqb}
+use Rattle.std.specs.Prelude.{Ok, Err}
 use Rattle.base.specs.Choice.{within}
 use Rattle.base.proofs.Tests.{within_low, within_high}
-use Rattle.plan.specs.declared.PlanAnswer.TheVariants.{Accepted, Refused}
 use Rattle.plan.specs.declared.Refusal.{Refusal}
 use Rattle.plan.specs.declared.Refusal.TheVariants.{BadProcessors, BadLayout, BadInstruction, BadFinish, BadCreate, BadChannel, OutputShort, BadRepeat, RepeatedCreate, TooLong}
 use Rattle.plan.specs.Answers.{refusal_number}
@@ -35,7 +35,7 @@ refusal_some RepeatedCreate e = omega arith
 refusal_some TooLong e = omega arith
 
 module _ (n : ℕ) (f before : List ℕ) where
-  refused_start : (a : Refusal) → start_answer n f ≡ Refused a → {r : ℕ} → r ≡ refusal_number a → StartMeets n f before r before
+  refused_start : (a : Refusal) → start_answer n f ≡ Err a → {r : ℕ} → r ≡ refusal_number a → StartMeets n f before r before
   unfolding start_number
   refused_start a e q =
       record {
@@ -49,11 +49,11 @@ module _ (n : ℕ) (f before : List ℕ) where
   processors_refused d q = refused_start BadProcessors (rw d refl) q
 
   module _ (d : within 1 6 n ≡ true) where
-    pub file_refused : (a : Refusal) → file_answer f ≡ Refused a → {r : ℕ} → r ≡ refusal_number a → StartMeets n f before r before
+    pub file_refused : (a : Refusal) → file_answer f ≡ Err a → {r : ℕ} → r ≡ refusal_number a → StartMeets n f before r before
     unfolding start_answer
     file_refused a e q = refused_start a (rw d e) q
 
-    module _ (a : file_answer f ≡ Accepted) where
+    module _ (a : file_answer f ≡ Ok tt) where
       number : start_number n f ≡ 0
       unfolding start_number start_answer
       number = rw (d, a) refl

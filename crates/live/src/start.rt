@@ -2,7 +2,7 @@
 ghost use Rattle.image.specs.Live.{StartMeets};
 
 use live_rig::start::start_in;
-use plan::{PlanAnswer, Refusal};
+use plan::Refusal;
 use plan_file::opening::open;
 
 // The start: 1 to 6, 20 for a short rig; the image of the rig at the start of a plan file on this many desks.
@@ -20,8 +20,8 @@ pub extern "C" fn mortarsedge_start<'a>(processors: u32, plan: &'a [u8], rig: &'
     let read = open(plan, &mut codes, &mut parents, &mut senders, &mut receivers);
     let answer = read.answer;
     match answer {
-        PlanAnswer::Refused(a) => a.number(),
-        PlanAnswer::Accepted => {
+        Err(a) => a.number(),
+        Ok(()) => {
             if rig.len() < 34120 {
                 return 20;
             }

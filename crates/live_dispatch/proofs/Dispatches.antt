@@ -9,14 +9,13 @@ use native.Mathlib.Omega.{arith}
 use lib.Dec.{leb}
 use lib.ListN.{length, drop, length-append}
 use borrow.Author.Tests.{le-leb, lt-leb}
+use Rattle.std.specs.Prelude.{None, Some}
 use Rattle.base.specs.Choice.{pick, unless}
 use Rattle.base.proofs.Tests.{tests_differ, and_true}
 use Rattle.plan.specs.declared.ProcessorId.{ProcessorId}
-use Rattle.rules.specs.declared.rule.Received.{Received}
-use Rattle.rules.specs.declared.rule.Received.TheVariants.{Nothing, Word}
+use Rattle.rules.specs.Reports.{Received}
 use Rattle.rules.specs.declared.dispatch.Dispatched.{Dispatched}
-use Rattle.rules.specs.declared.dispatch.Turn.{Turn}
-use Rattle.rules.specs.declared.dispatch.Turn.TheVariants.{Skipped, Made}
+use Rattle.rules.specs.Reports.{Turn}
 use Rattle.rules.specs.declared.step.Report.{Report}
 use Rattle.rules.specs.declared.step.Step.{Step}
 use Rattle.rules.specs.declared.system.System.{System}
@@ -36,29 +35,29 @@ use Rattle.live_rig.proofs.Records.{word_long}
 -- the bytes of a turn
 pub step_put : (t : Turn) → length (all_step_bytes (step_of t)) ≡ 4 * length (step_of t)
 unfolding all_step_bytes step_of
-step_put Skipped = refl
-step_put (Made s q) = refl
+step_put None = refl
+step_put (Some (s, q)) = refl
 
 pub report_put : (t : Turn) → length (all_report_bytes (report_of t)) ≡ 11 * length (step_of t)
 unfolding all_report_bytes report_of step_of
-report_put Skipped = refl
-report_put (Made s q) = rw (append-nil (word_record q.received), word_long q.received) refl
+report_put None = refl
+report_put (Some (s, q)) = rw (append-nil (word_record q.received), word_long q.received) refl
 
 pub one_at_most : (t : Turn) → length (step_of t) ≤ 1
 unfolding step_of
-one_at_most Skipped = omega arith
-one_at_most (Made s q) = omega arith
+one_at_most None = omega arith
+one_at_most (Some (s, q)) = omega arith
 
 -- of two turns
 steps_append : (t u : Turn) → all_step_bytes (step_of t ++ step_of u) ≡ all_step_bytes (step_of t) ++ all_step_bytes (step_of u)
 unfolding all_step_bytes step_of
-steps_append Skipped u = refl
-steps_append (Made s q) u = refl
+steps_append None u = refl
+steps_append (Some (s, q)) u = refl
 
 reports_append : (t u : Turn) → all_report_bytes (report_of t ++ report_of u) ≡ all_report_bytes (report_of t) ++ all_report_bytes (report_of u)
 unfolding all_report_bytes report_of
-reports_append Skipped u = refl
-reports_append (Made s q) u = rw (append-nil (word_record q.received)) refl
+reports_append None u = refl
+reports_append (Some (s, q)) u = rw (append-nil (word_record q.received)) refl
 
 -- an answer put, and a word's record behind it
 pub report_told : (out : List ℕ) (at : ℕ) (q : Report) {n : ℕ} {one two : List ℕ} → at ≤ length out → n ≡ step_number q.answer
@@ -69,12 +68,12 @@ report_told out at q h e f g =
     ∙ overlay_more out at (step_number q.answer ∷ []) (word_record q.received) h
 
 -- a turn that was skipped, and one that was made
-pub skip_put : (steps records : List ℕ) (count : ℕ) (t : Turn) → t ≡ Skipped
+pub skip_put : (steps records : List ℕ) (count : ℕ) (t : Turn) → t ≡ None
     → (count ≡ count + length (step_of t)) × (steps ≡ overlay steps (4 * count) (all_step_bytes (step_of t))) × (records ≡ overlay records (11 * count) (all_report_bytes (report_of t)))
 unfolding step_of report_of all_step_bytes all_report_bytes
 skip_put steps records count t e = rw e (omega arith, sym (overlay_none steps (4 * count)), sym (overlay_none records (11 * count)))
 
-pub made_put : (steps records : List ℕ) (count : ℕ) (t : Turn) (s : Step) (q : Report) {steps' records' : List ℕ} → t ≡ Made s q
+pub made_put : (steps records : List ℕ) (count : ℕ) (t : Turn) (s : Step) (q : Report) {steps' records' : List ℕ} → t ≡ Some (s, q)
     → steps' ≡ overlay steps (4 * count) (step_bytes s) → records' ≡ overlay records (11 * count) (report_bytes q)
     → (count + 1 ≡ count + length (step_of t)) × (steps' ≡ overlay steps (4 * count) (all_step_bytes (step_of t))) × (records' ≡ overlay records (11 * count) (all_report_bytes (report_of t)))
 unfolding step_of report_of all_step_bytes all_report_bytes
@@ -87,28 +86,28 @@ two_put out xs ys at e p q =
     rw (p, e) at q ∙ (rw (zero-add (length xs)) at (overlay_more out 0 xs ys (omega arith))) ∙ overlay_front out (xs ++ ys)
 
 -- a refused call made no step
-none_made : (r : System) (d : ProcessorId) → is_accepted (dispatched r d).answer ≢ true → ((dispatched r d).delivery ≡ Skipped) × ((dispatched r d).run ≡ Skipped)
+none_made : (r : System) (d : ProcessorId) → is_accepted (dispatched r d).answer ≢ true → ((dispatched r d).delivery ≡ None) × ((dispatched r d).run ≡ None)
 none_made r d out = cases (system_ok r) (processor_ok r.processors d) refl refl
   where
-    cases : (s p : Bool) → system_ok r ≡ s → processor_ok r.processors d ≡ p → ((dispatched r d).delivery ≡ Skipped) × ((dispatched r d).run ≡ Skipped)
+    cases : (s p : Bool) → system_ok r ≡ s → processor_ok r.processors d ≡ p → ((dispatched r d).delivery ≡ None) × ((dispatched r d).run ≡ None)
     cases false p e f = unfold dispatched in rw e (refl, refl)
     cases true false e f = unfold dispatched in rw (e, f) (refl, refl)
     cases true true e f = absurd (out (unfold dispatched ruled_dispatch in rw (e, f) refl))
 
-none_in : (b : List ℕ) (d : ProcessorId) → is_accepted (call_in b d).answer ≢ true → ((call_in b d).delivery ≡ Skipped) × ((call_in b d).run ≡ Skipped)
+none_in : (b : List ℕ) (d : ProcessorId) → is_accepted (call_in b d).answer ≢ true → ((call_in b d).delivery ≡ None) × ((call_in b d).run ≡ None)
 none_in b d out = cases (is_image b) refl
   where
-    cases : (i : Bool) → is_image b ≡ i → ((call_in b d).delivery ≡ Skipped) × ((call_in b d).run ≡ Skipped)
+    cases : (i : Bool) → is_image b ≡ i → ((call_in b d).delivery ≡ None) × ((call_in b d).run ≡ None)
     cases false e = rw e (refl, refl)
     cases true e = rw e (none_made (rig_of b) d (rw e at out))
 
 -- then nothing is put
-none_steps : {x y : Turn} (out : List ℕ) → x ≡ Skipped → y ≡ Skipped
+none_steps : {x y : Turn} (out : List ℕ) → x ≡ None → y ≡ None
     → all_step_bytes (step_of x ++ step_of y) ++ drop (length (all_step_bytes (step_of x ++ step_of y))) out ≡ out
 unfolding all_step_bytes step_of
 none_steps out e f = rw (e, f) refl
 
-none_reports : {x y : Turn} (out : List ℕ) → x ≡ Skipped → y ≡ Skipped
+none_reports : {x y : Turn} (out : List ℕ) → x ≡ None → y ≡ None
     → all_report_bytes (report_of x ++ report_of y) ++ drop (length (all_report_bytes (report_of x ++ report_of y))) out ≡ out
 unfolding all_report_bytes report_of
 none_reports out e f = rw (e, f) refl

@@ -11,7 +11,6 @@ use live_rig::given::byte_given;
 use live_rig::record::put_received;
 use plan::ProcessorId;
 use rig_write::numbers::put_bytes;
-use rules::dispatch::Turn;
 use rules::step::{Report, Step};
 use trace::answer_number;
 
@@ -39,15 +38,20 @@ fn put_report(out: &mut [u8], at: usize, q: Report)
 }
 
 // A turn's step and report behind so many others: how many there are then.
-fn put_turn<'a>(steps: &'a mut [u8], records: &'a mut [u8], count: usize, t: Turn) -> usize
+fn put_turn<'a>(
+    steps: &'a mut [u8],
+    records: &'a mut [u8],
+    count: usize,
+    t: Option<(Step, Report)>,
+) -> usize
     requires { (count ≤ 1) × (8 ≤ length steps.old) × (22 ≤ length records.old) }
     ensures { (result ≡ count + length (step_of t))
         × (steps.new ≡ overlay steps.old (4 * count) (all_step_bytes (step_of t)))
         × (records.new ≡ overlay records.old (11 * count) (all_report_bytes (report_of t))) }
 {
     match t {
-        Turn::Skipped => count,
-        Turn::Made(s, q) => {
+        None => count,
+        Some((s, q)) => {
             put_step(steps, 4 * count, s);
             put_report(records, 11 * count, q);
             count + 1

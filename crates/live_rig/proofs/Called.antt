@@ -7,13 +7,14 @@ use Prim.Native.Nat.{ℕ}
 use lib.Dec.{eqb}
 use lib.ListN.{take, drop, take-append-drop}
 use lib.Seq.{take_at}
+use Rattle.std.specs.Prelude.{Ok, Err}
 use Rattle.base.specs.Choice.{pick}
 use Rattle.base.proofs.Choices.{pick_either}
 use Rattle.base.proofs.Tests.{and_left, and_right, tests_differ}
 use Rattle.plan.specs.declared.ProcessorId.{ProcessorId}
 use Rattle.rules.specs.declared.dispatch.Dispatched.{Dispatched}
-use Rattle.rules.specs.declared.dispatch.Turn.{Turn}
-use Rattle.rules.specs.declared.step.StepAnswer.TheVariants.{Accepted, BadSystem, NoProcessor}
+use Rattle.rules.specs.Reports.{Turn}
+use Rattle.rules.specs.declared.step.StepRefusal.TheVariants.{BadSystem, NoProcessor}
 use Rattle.rules.specs.declared.system.System.{System}
 use Rattle.rules.specs.Numbers.{processor_ok}
 use Rattle.rules.specs.Answers.{is_accepted}
@@ -36,13 +37,13 @@ use Rattle.live_rig.proofs.Left.{holds_left}
 use Rattle.live_rig.proofs.Turns.{Small, written_holds}
 
 -- 9
-refused_call : (r : System) (d : ProcessorId) (i o : Bool) → system_ok r ≡ o → i && o ≡ false → pick i (dispatched r d) (undispatched r BadSystem) ≡ undispatched r BadSystem
+refused_call : (r : System) (d : ProcessorId) (i o : Bool) → system_ok r ≡ o → i && o ≡ false → pick i (dispatched r d) (undispatched r (Err BadSystem)) ≡ undispatched r (Err BadSystem)
 unfolding dispatched
 refused_call r d false o e h = refl
 refused_call r d true true e h = absurd (tests_differ {b = true} refl h)
 refused_call r d true false e h = rw e refl
 
-pub bad_call : (b : List ℕ) (d : ProcessorId) → sound b ≡ false → CalledIn b d (no_call BadSystem) b
+pub bad_call : (b : List ℕ) (d : ProcessorId) → sound b ≡ false → CalledIn b d (no_call (Err BadSystem)) b
 bad_call b d h =
     let e = sym (refused_call (rig_of b) d (is_image b) (system_ok (rig_of b)) refl h) in
     record {
@@ -74,7 +75,7 @@ module _ (b : List ℕ) (d : ProcessorId) (ok : sound b ≡ true) where
   passed_call = and_right (is_image b) (system_ok (rig_of b)) ok
 
   -- 15
-  pub no_desk : processor_ok (rig_of b).processors d ≡ false → CalledIn b d (no_call NoProcessor) b
+  pub no_desk : processor_ok (rig_of b).processors d ≡ false → CalledIn b d (no_call (Err NoProcessor)) b
   unfolding dispatched
   no_desk f =
       record {
@@ -93,7 +94,7 @@ module _ (b : List ℕ) (d : ProcessorId) (ok : sound b ≡ true) where
     -- the two turns
     module _ (lengths codes users : List ℕ) (tasks : ℕ) (p : Planned b lengths codes users tasks) {n : Size} {l : Lent} {mail last : List ℕ} {used : ℕ} (t t' : Turn)
         (h : TurnsLeft lengths codes users n (rig_of b) d t t' used l mail last) (same : n.processors ≡ (rig_of b).processors) where
-      pub call_written : Small l last → {after : List ℕ} → after ≡ lent_written (back_in b mail) l used last → CalledIn b d (record { answer = Accepted; delivery = t; run = t' }) after
+      pub call_written : Small l last → {after : List ℕ} → after ≡ lent_written (back_in b mail) l used last → CalledIn b d (record { answer = Ok tt; delivery = t; run = t' }) after
       unfolding ruled_dispatch
       call_written z w =
           let r = rig_of b in

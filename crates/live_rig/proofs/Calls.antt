@@ -8,11 +8,11 @@ use lib.Dec.{eqb}
 use lib.ListN.{length, take, set, get_or, length-set, length-map}
 use lib.Seq.{length-take-le}
 use borrow.Author.Tests.{eq-eqb, ne_eqb}
+use Rattle.std.specs.Prelude.{None, Some}
 use Rattle.base.specs.Choice.{pick, within}
 use Rattle.base.proofs.Choices.{pick_either}
 use Rattle.plan.specs.declared.ProcessorId.{ProcessorId}
-use Rattle.rules.specs.declared.dispatch.Turn.{Turn}
-use Rattle.rules.specs.declared.dispatch.Turn.TheVariants.{Skipped, Made}
+use Rattle.rules.specs.Reports.{Turn}
 use Rattle.rules.specs.declared.message.Message.{Message}
 use Rattle.rules.specs.declared.message.Network.{Network}
 use Rattle.rules.specs.declared.message.Slot.{Slot}
@@ -73,15 +73,15 @@ module _ {lengths codes users : List ℕ} {n : Size} {l : Lent} {mail last : Lis
 
   -- no letter for the desk, and one
   module _ (d : ProcessorId) {p : ℕ} (e : p ≡ earliest d (messages r.network)) {used : ℕ} where
-    pub no_letter : p ≡ 0 → used ≡ n.used → {t : Turn} → t ≡ Skipped → TurnLeft lengths codes users n (delivery_turn r d) t used l mail last
+    pub no_letter : p ≡ 0 → used ≡ n.used → {t : Turn} → t ≡ None → TurnLeft lengths codes users n (delivery_turn r d) t used l mail last
     unfolding delivery_turn
     no_letter z u q = rw (eq-eqb (earliest d (messages r.network)) 0 (sym e ∙ z)) (record { turn = q; on = idle u })
 
     pub letter : (p ≡ 0 → ⊥) → {q : Report} {l' : Lent} {mail' : List ℕ} → StepLeft lengths codes users n r (deliver_step p) q used l' mail' last
-        → TurnLeft lengths codes users n (delivery_turn r d) (Made (deliver_step p) q) used l' mail' last
+        → TurnLeft lengths codes users n (delivery_turn r d) (Some (deliver_step p, q)) used l' mail' last
     unfolding delivery_turn
     letter ne h =
-        rw (ne_eqb (earliest d (messages r.network)) 0 (λ w. ne (e ∙ w)), ← e) (record { turn = ap (Made (deliver_step p)) h.report; on = h.on })
+        rw (ne_eqb (earliest d (messages r.network)) 0 (λ w. ne (e ∙ w)), ← e) (record { turn = ap (λ (q : Report). Some (deliver_step p, q)) h.report; on = h.on })
 
   -- the choice of the desk
   tasks_of_lem : n.tasks ≡ r.plan.tasks
@@ -127,12 +127,12 @@ module _ {lengths codes users : List ℕ} {n : Size} {l : Lent} {mail last : Lis
     pub live_chosen : {t i : ℕ} → t ≡ choice r d → i ≡ d.0 - 1 → RigLive lengths codes users n l mail (set last i t) (choosing r d t)
     live_chosen e f = rw (e, f) live_choice
 
-    pub no_task_lem : choice r d ≡ 0 → {used : ℕ} → used ≡ n.used → {t : Turn} → t ≡ Skipped → TurnLeft lengths codes users n (run_turn r d) t used l mail last
+    pub no_task_lem : choice r d ≡ 0 → {used : ℕ} → used ≡ n.used → {t : Turn} → t ≡ None → TurnLeft lengths codes users n (run_turn r d) t used l mail last
     unfolding run_turn
     no_task_lem z u q = rw (eq-eqb (choice r d) 0 z) (record { turn = q; on = idle u })
 
     pub task : {t : ℕ} → t ≡ choice r d → (t ≡ 0 → ⊥) → {q : Report} {used : ℕ} {l' : Lent} {mail' last' : List ℕ}
         → StepLeft lengths codes users n (choosing r d t) (run_step t) q used l' mail' last'
-        → TurnLeft lengths codes users n (run_turn r d) (Made (run_step t) q) used l' mail' last'
+        → TurnLeft lengths codes users n (run_turn r d) (Some (run_step t, q)) used l' mail' last'
     unfolding run_turn
-    task {t} z ne h = rw (ne_eqb (choice r d) 0 (λ w. ne (z ∙ w)), ← z) (record { turn = ap (Made (run_step t)) h.report; on = h.on })
+    task {t} z ne h = rw (ne_eqb (choice r d) 0 (λ w. ne (z ∙ w)), ← z) (record { turn = ap (λ (q : Report). Some (run_step t, q)) h.report; on = h.on })

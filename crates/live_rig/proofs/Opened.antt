@@ -5,10 +5,11 @@ use mathlib.Core.List.{List}
 use Prim.Native.Nat.{ℕ, ◌≤◌, ◌<◌}
 use native.Mathlib.Omega.{arith}
 use lib.ListN.{length, get_or, replicate, length-replicate}
+use Rattle.std.specs.Prelude.{Ok, Err}
+use Rattle.base.proofs.Answers.{err_not_ok}
 use Rattle.base.proofs.Tables.{length_table}
 use Rattle.base.proofs.Tests.{and_right}
 use Rattle.plan.specs.declared.Plan.{Plan}
-use Rattle.plan.specs.declared.PlanAnswer.TheVariants.{Accepted, Refused}
 use Rattle.plan.specs.declared.Refusal.{Refusal}
 use Rattle.plan.specs.declared.Refusal.TheVariants.{BadLayout}
 use Rattle.plan.specs.Programs.{programs}
@@ -48,12 +49,12 @@ use Rattle.live_rig.proofs.Refused.{long_refused, plan_refused}
 
 -- the plan file is too long, or was opened
 module _ (b : List ℕ) (o : Opened) {codes parents senders receivers : List ℕ} where
-  pub too_long : plan_room < number_at 4 b 4 → o.answer ≡ Refused BadLayout → PlanIn b o codes parents senders receivers
+  pub too_long : plan_room < number_at 4 b 4 → o.answer ≡ Err BadLayout → PlanIn b o codes parents senders receivers
   too_long h r =
       record {
         refused = λ n. long_refused b h;
-        room = λ a. absurd (let z : ◌≡◌ {A = ℕ} 0 1 = cc in omega arith);
-        opens = λ a. absurd (let z : ◌≡◌ {A = ℕ} 0 1 = cc in omega arith);
+        room = λ a. absurd (err_not_ok BadLayout tt (sym r ∙ a));
+        opens = λ a. absurd (err_not_ok BadLayout tt (sym r ∙ a));
       }
 
   pub plan_opened : number_at 4 b 4 ≤ plan_room → {f : List ℕ} → f ≡ plan_file b → PlanOpened f o codes parents senders receivers → PlanIn b o codes parents senders receivers
@@ -68,11 +69,11 @@ module _ {b : List ℕ} {tasks : ℕ} {lengths codes : List ℕ} (p : PlanOf b t
   unfolding rig_of
   plan_here = plan_is
 
-  pub plan_accepted : plan_answer (programs (plan_in tasks lengths codes)) ≡ Accepted
+  pub plan_accepted : plan_answer (programs (plan_in tasks lengths codes)) ≡ Ok tt
   plan_accepted = rw plan_is (plan_fits (plan_file b) p.accepted).0
 
 -- the plan of accepted bytes, and who uses what in it
-module _ {b : List ℕ} {o : Opened} {codes parents senders receivers : List ℕ} (p : PlanIn b o codes parents senders receivers) (a : o.answer ≡ Accepted) where
+module _ {b : List ℕ} {o : Opened} {codes parents senders receivers : List ℕ} (p : PlanIn b o codes parents senders receivers) (a : o.answer ≡ Ok tt) where
   abbrev plan : Plan
   plan = plan_in o.tasks o.lengths codes
 
@@ -207,8 +208,8 @@ module _ {b : List ℕ} {o : Opening} {t : Lent} (h : Opens b o t) (ok : o.ok �
 
 -- a plan that was refused
 pub refused_plan : {b : List ℕ} {o : Opened} {codes parents senders receivers : List ℕ} → PlanIn b o codes parents senders receivers
-    → {r : Refusal} → o.answer ≡ Refused r → sound b ≡ false
-refused_plan p e = p.refused (λ a. let z : ◌≡◌ {A = ℕ} 0 1 = cc in omega arith)
+    → {r : Refusal} → o.answer ≡ Err r → sound b ≡ false
+refused_plan p e = p.refused (λ a. err_not_ok _ tt (sym e ∙ a))
 
 -- 9 refuses what was opened
 pub refused_here : {b : List ℕ} {o : Opening} {t : Lent} → Opens b o t → o.ok ≡ false → sound b ≡ false

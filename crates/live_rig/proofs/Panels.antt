@@ -6,10 +6,10 @@ use Prim.Native.Nat.{ℕ, ◌≤◌, ◌<◌}
 use native.Mathlib.Omega.{arith}
 use lib.ListN.{length, drop}
 use borrow.Author.Tests.{le-leb, lt-leb}
+use Rattle.std.specs.Prelude.{Ok}
 use Rattle.base.proofs.Tables.{length_table}
 use Rattle.base.proofs.Tests.{tests_differ}
 use Rattle.plan.specs.declared.Plan.{Plan}
-use Rattle.plan.specs.declared.PlanAnswer.TheVariants.{Accepted}
 use Rattle.plan_value.specs.Slots.{plan_in}
 use Rattle.plan_file.specs.declared.opening.Opened.{Opened}
 use Rattle.plan_index.specs.ends.Derived.{ends_of}
@@ -41,7 +41,7 @@ module _ {b : List ℕ} {q : Counted} where
   counts_shown h e c = record { ok_is = e ∙ sym h; counts_are = λ k. c }
 
 -- the rig is lent, with its plan and what is derived of it
-module _ {b : List ℕ} {p : Opened} {codes parents senders receivers : List ℕ} (k : PlanIn b p codes parents senders receivers) (a : p.answer ≡ Accepted)
+module _ {b : List ℕ} {p : Opened} {codes parents senders receivers : List ℕ} (k : PlanIn b p codes parents senders receivers) (a : p.answer ≡ Ok tt)
     {o : Opening} {t : Lent} (h : Opens b o t) (ok : o.ok ≡ true) {numbers users : List ℕ} (n : numbers ≡ (ends_of (plan_in p.tasks p.lengths codes)).numbers)
     (u : Built senders receivers parents users) where
   facts_here : facts_in o.size.tasks codes numbers users ≡ facts_of (rig_of b).plan

@@ -3,18 +3,18 @@ use mathlib.Core.Path.{◌≡◌, refl, ap, ◌∙◌}
 use mathlib.Core.List.{List, ◌++◌}
 use Prim.Native.Nat.{ℕ, ◌+◌, ◌≤◌}
 use lib.ListN.{length}
+use Rattle.std.specs.Prelude.{None, Some}
 use Rattle.plan.specs.Layout.{bytes16}
 use Rattle.plan_write.specs.output.Output.{overlay}
 use Rattle.plan_write.proofs.output.Overlay.{overlay_more}
-use Rattle.rules.specs.declared.rule.Received.{Received}
-use Rattle.rules.specs.declared.rule.Received.TheVariants.{Nothing, Word}
+use Rattle.rules.specs.Reports.{Received}
 use Rattle.rules.specs.Logs.{log_record}
 use Rattle.image.specs.Live.{word_record}
 
 pub word_long : (x : Received) → length (word_record x) ≡ 10
 unfolding log_record
-word_long Nothing = refl
-word_long (Word c w) = refl
+word_long None = refl
+word_long (Some (c, w)) = refl
 
 pub five_put : (out : List ℕ) (at a b c d e : ℕ) {o1 o2 o3 o4 o5 : List ℕ} → at ≤ length out
     → o1 ≡ overlay out at (bytes16 a)

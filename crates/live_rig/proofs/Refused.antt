@@ -7,10 +7,10 @@ use Prim.Native.Nat.{ℕ, ◌≤◌, ◌<◌}
 use native.Mathlib.Omega.{arith}
 use lib.ListN.{length}
 use lib.Seq.{take_all, length-take-le}
+use Rattle.std.specs.Prelude.{Ok, Err}
 use Rattle.base.specs.Lists.{table, table_before}
 use Rattle.base.proofs.Tests.{and_false, is_false}
-use Rattle.plan.specs.declared.PlanAnswer.{PlanAnswer}
-use Rattle.plan.specs.declared.PlanAnswer.TheVariants.{Accepted, Refused}
+use Rattle.plan.specs.Answers.{PlanAnswer}
 use Rattle.plan.specs.Answers.{is_accepted}
 use Rattle.plan.specs.Files.{file_answer}
 use Rattle.plan.specs.Outcomes.{plan_read}
@@ -35,9 +35,9 @@ pub held_long : (b : List ℕ) → rig_size ≤ length b → length (held b) ≡
 held_long b h = length-take-le rig_size b h
 
 -- an answer that is not accepted
-not_accepted : (a : PlanAnswer) → a ≢ Accepted → is_accepted a ≡ false
-not_accepted Accepted n = absurd (n refl)
-not_accepted (Refused r) n = refl
+not_accepted : (a : PlanAnswer) → a ≢ Ok tt → is_accepted a ≡ false
+not_accepted (Ok tt) n = absurd (n refl)
+not_accepted (Err r) n = refl
 
 -- a plan of no task is refused
 none_refused : is_accepted (plan_answer (programs (canonical []))) ≡ false
@@ -73,7 +73,7 @@ module _ (b : List ℕ) where
   unfolding rig_of plan_read
   none_there e = rw e refl
 
-  pub plan_refused : file_answer (plan_file b) ≢ Accepted → sound b ≡ false
+  pub plan_refused : file_answer (plan_file b) ≢ Ok tt → sound b ≡ false
   plan_refused n =
       let none = none_there (not_accepted (file_answer (plan_file b)) n) in
       let bad : system_ok (rig_of b) ≡ false =

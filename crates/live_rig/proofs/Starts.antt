@@ -7,10 +7,10 @@ use Prim.Native.Nat.{ℕ, ◌≤◌, ◌<◌}
 use native.Mathlib.Omega.{arith}
 use lib.ListN.{length, drop, replicate}
 use borrow.Author.Tests.{le-leb, lt-leb, ne_eqb}
+use Rattle.std.specs.Prelude.{Ok, Err}
 use Rattle.base.specs.Choice.{within}
 use Rattle.base.proofs.Tests.{within_low, within_high}
 use Rattle.plan.specs.declared.Plan.{Plan}
-use Rattle.plan.specs.declared.PlanAnswer.TheVariants.{Accepted, Refused}
 use Rattle.plan.specs.declared.Refusal.{Refusal}
 use Rattle.plan.specs.declared.Refusal.TheVariants.{BadProcessors, BadLayout, BadInstruction, BadFinish, BadCreate, BadChannel, OutputShort, BadRepeat, RepeatedCreate, TooLong}
 use Rattle.plan.specs.Answers.{refusal_number}
@@ -115,7 +115,7 @@ module _ {b : List ℕ} {n : ℕ} {f senders receivers parents : List ℕ} (s : 
         ∙ ap image start_is
 
 -- what is opened of an accepted file
-module _ (f : List ℕ) {o : Opened} {codes parents senders receivers : List ℕ} (h : PlanOpened f o codes parents senders receivers) (a : o.answer ≡ Accepted) where
+module _ (f : List ℕ) {o : Opened} {codes parents senders receivers : List ℕ} (h : PlanOpened f o codes parents senders receivers) (a : o.answer ≡ Ok tt) where
   pub starts : {b : List ℕ} {n : ℕ} → length b ≡ rig_size → within 1 6 n ≡ true → Starts b n f senders receivers parents
   unfolding ends_of
   starts {n = n} e d =

@@ -9,14 +9,13 @@ use lib.Dec.{leb}
 use lib.ListN.{length, take, drop, take-append-drop}
 use lib.Seq.{take_at}
 use borrow.Author.Tests.{le-leb, lt-leb}
+use Rattle.std.specs.Prelude.{None, Err}
 use Rattle.base.specs.Choice.{pick}
 use Rattle.base.proofs.Tests.{and_left, tests_differ}
-use Rattle.rules.specs.declared.rule.Received.{Received}
-use Rattle.rules.specs.declared.rule.Received.TheVariants.{Nothing, Word}
 use Rattle.rules.specs.declared.step.Report.{Report}
 use Rattle.rules.specs.declared.step.Step.{Step}
 use Rattle.rules.specs.declared.step.Stepped.{Stepped}
-use Rattle.rules.specs.declared.step.StepAnswer.TheVariants.{BadSystem}
+use Rattle.rules.specs.declared.step.StepRefusal.TheVariants.{BadSystem}
 use Rattle.rules.specs.declared.system.System.{System}
 use Rattle.rules.specs.Answers.{is_accepted, step_number}
 use Rattle.rules.specs.Logs.{log_record}
@@ -41,10 +40,10 @@ use Rattle.live_rig.proofs.Left.{holds_left}
 use Rattle.live_rig.proofs.Turns.{Small, written_holds}
 
 abbrev nine : Report
-nine = record { answer = BadSystem; received = Nothing }
+nine = record { answer = Err BadSystem; received = None }
 
 -- 9 refuses the bytes
-refused_report : (r : System) (s : Step) (i o : Bool) → system_ok r ≡ o → i && o ≡ false → nine ≡ (pick i (step r s) (refused r BadSystem)).report
+refused_report : (r : System) (s : Step) (i o : Bool) → system_ok r ≡ o → i && o ≡ false → nine ≡ (pick i (step r s) (refused r (Err BadSystem))).report
 refused_report r s false o e h = refl
 refused_report r s true true e h = absurd (tests_differ {b = true} refl h)
 refused_report r s true false e h = ap (λ (q : Stepped). q.report) (bad_system r s e)

@@ -6,9 +6,9 @@ use mathlib.Core.List.{List}
 use Prim.Native.Nat.{ℕ, ◌<◌, ◌≤◌}
 use native.Mathlib.Omega.{arith}
 use lib.ListN.{length, get_or}
+use Rattle.std.specs.Prelude.{Ok}
 use Rattle.base.proofs.Tables.{length_table}
 use Rattle.base.proofs.Tests.{and_left, and_right, within_high}
-use Rattle.plan.specs.declared.PlanAnswer.TheVariants.{Accepted}
 use Rattle.plan.specs.Programs.{programs}
 use Rattle.plan.specs.Refusals.{plan_answer}
 use Rattle.plan_laws.specs.Bytes.{Bytes}
@@ -81,7 +81,7 @@ module _ (b lengths codes users : List ℕ) (tasks : ℕ) (p : Planned b lengths
   unfolding rig_of
   facts_here = rw tasks_same p.facts_of_lem
 
-  pub accepted_opened : plan_answer (programs (plan_in n.tasks lengths codes)) ≡ Accepted
+  pub accepted_opened : plan_answer (programs (plan_in n.tasks lengths codes)) ≡ Ok tt
   accepted_opened = rw tasks_same (plan_accepted p.plan)
 
   pub used_opened : n.used ≡ number_at 4 b 8
@@ -250,7 +250,7 @@ module _ {lengths codes users : List ℕ} {n : Size} {l : Lent} {mail last : Lis
         record { bytes = bytes; image = rw bytes h.is; rig = rw bytes h.rig; long = rw bytes h.size }
 
 -- what is derived of a plan that was opened
-module _ {b : List ℕ} {o : Opened} {codes parents senders receivers : List ℕ} (p : PlanIn b o codes parents senders receivers) (a : o.answer ≡ Accepted) where
+module _ {b : List ℕ} {o : Opened} {codes parents senders receivers : List ℕ} (p : PlanIn b o codes parents senders receivers) (a : o.answer ≡ Ok tt) where
   pub planned : length b ≡ rig_size → {users : List ℕ} → Built senders receivers parents users → Planned b o.lengths codes users o.tasks
   planned long {users} u =
       record {

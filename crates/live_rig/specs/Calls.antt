@@ -1,20 +1,18 @@
 -- A call of a desk's dispatcher on what is lent: what its two turns leave, of whatever rig was lent.
-use Rattle.std.specs.Prelude.{◌≡◌, ◌≢◌, true, List, ℕ, ◌≤◌}
+use Rattle.std.specs.Prelude.{◌≡◌, ◌≢◌, true, List, ℕ, ◌≤◌, None, Ok, Err}
 use Rattle.base.specs.Choice.{pick}
 use Rattle.plan.specs.declared.ProcessorId.{ProcessorId}
-use Rattle.plan.specs.declared.PlanAnswer.TheVariants.{Accepted}
 use Rattle.plan.specs.Programs.{programs}
 use Rattle.plan.specs.Refusals.{plan_answer}
 use Rattle.plan_value.specs.Slots.{plan_in}
 use Rattle.rules.specs.declared.dispatch.Dispatched.{Dispatched}
-use Rattle.rules.specs.declared.dispatch.Turn.{Turn}
-use Rattle.rules.specs.declared.dispatch.Turn.TheVariants.{Skipped}
+use Rattle.rules.specs.Reports.{Turn}
 use Rattle.rules.specs.declared.message.Message.{Message}
 use Rattle.rules.specs.declared.message.Network.{Network}
 use Rattle.rules.specs.declared.step.Report.{Report}
 use Rattle.rules.specs.declared.step.Step.{Step}
-use Rattle.rules.specs.declared.step.StepAnswer.{StepAnswer}
-use Rattle.rules.specs.declared.step.StepAnswer.TheVariants.{BadSystem}
+use Rattle.rules.specs.Answers.{StepAnswer}
+use Rattle.rules.specs.declared.step.StepRefusal.TheVariants.{BadSystem}
 use Rattle.rules.specs.declared.system.System.{System}
 use Rattle.rules.specs.Networks.{messages, message_at}
 use Rattle.rules.specs.Steps.{step}
@@ -44,7 +42,7 @@ sized n used = record { tasks = n.tasks; processors = n.processors; used = used 
 
 -- some rig is, of a plan that 2 to 6 do not refuse
 pub record SomeLive (lengths codes users : List ℕ) (n : Size) (l : Lent) (mail last : List ℕ) : Type 0 where
-  pub accepted : plan_answer (programs (plan_in n.tasks lengths codes)) ≡ Accepted
+  pub accepted : plan_answer (programs (plan_in n.tasks lengths codes)) ≡ Ok tt
   pub system : System
   pub on : RigLive lengths codes users n l mail last system
 
@@ -111,11 +109,11 @@ TurnsOn lengths codes users n m p d l mail last t t' used l' mail' last' =
 
 -- a refused call makes no step
 abbrev pub no_call : StepAnswer → Call
-no_call a = record { answer = a; delivery = Skipped; run = Skipped }
+no_call a = record { answer = a; delivery = None; run = None }
 
 -- a call at desk d of the rig that the bytes hold
 abbrev pub call_in : List ℕ → ProcessorId → Dispatched
-call_in b d = pick (is_image b) (dispatched (rig_of b) d) (undispatched (rig_of b) BadSystem)
+call_in b d = pick (is_image b) (dispatched (rig_of b) d) (undispatched (rig_of b) (Err BadSystem))
 
 -- what it says, and the bytes then
 pub record CalledIn (b : List ℕ) (d : ProcessorId) (q : Call) (b' : List ℕ) : Type 0 where

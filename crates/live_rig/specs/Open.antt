@@ -1,6 +1,5 @@
 -- The bytes of a rig opened: its plan, its parts, and whether 9 refuses them.
-use Rattle.std.specs.Prelude.{◌≡◌, ◌≢◌, Bool, false, ◌&&◌, List, ℕ, ◌≤◌, replicate}
-use Rattle.plan.specs.declared.PlanAnswer.TheVariants.{Accepted}
+use Rattle.std.specs.Prelude.{◌≡◌, ◌≢◌, Bool, false, ◌&&◌, List, ℕ, ◌≤◌, replicate, Ok}
 use Rattle.plan.specs.Files.{file_answer}
 use Rattle.plan.specs.Outcomes.{plan_read}
 use Rattle.plan_file.specs.declared.opening.Opened.{Opened}
@@ -25,14 +24,14 @@ Blank codes parents senders receivers =
 
 -- what opening the plan file of a rig's bytes leaves; where it is refused, so are the bytes
 pub record PlanIn (b : List ℕ) (o : Opened) (codes parents senders receivers : List ℕ) : Type 0 where
-  pub refused : o.answer ≢ Accepted → sound b ≡ false
-  pub room : o.answer ≡ Accepted → number_at 4 b 4 ≤ plan_room
-  pub opens : o.answer ≡ Accepted → PlanOpened (plan_file b) o codes parents senders receivers
+  pub refused : o.answer ≢ Ok tt → sound b ≡ false
+  pub room : o.answer ≡ Ok tt → number_at 4 b 4 ≤ plan_room
+  pub opens : o.answer ≡ Ok tt → PlanOpened (plan_file b) o codes parents senders receivers
 
 -- the plan of a rig's bytes, by its numbers
 pub record PlanOf (b : List ℕ) (tasks : ℕ) (lengths codes : List ℕ) : Type 0 where
   pub room : number_at 4 b 4 ≤ plan_room
-  pub accepted : file_answer (plan_file b) ≡ Accepted
+  pub accepted : file_answer (plan_file b) ≡ Ok tt
   pub tasks_are : tasks ≡ (plan_read (plan_file b)).plan.tasks
   pub lengths_are : lengths ≡ (plan_read (plan_file b)).plan.lengths
   pub codes_are : codes ≡ (plan_read (plan_file b)).plan.codes

@@ -1,11 +1,11 @@
 -- The bytes of a rig, exactly as many as it has: its plan, the rig that they hold, and a step of it.
-use Rattle.std.specs.Prelude.{◌≡◌, ◌≢◌, true, List, ℕ, length}
+use Rattle.std.specs.Prelude.{◌≡◌, ◌≢◌, true, List, ℕ, length, Err}
 use Rattle.base.specs.Choice.{pick}
 use Rattle.plan.specs.Outcomes.{plan_read}
 use Rattle.rules.specs.declared.step.Report.{Report}
 use Rattle.rules.specs.declared.step.Step.{Step}
 use Rattle.rules.specs.declared.step.Stepped.{Stepped}
-use Rattle.rules.specs.declared.step.StepAnswer.TheVariants.{BadSystem}
+use Rattle.rules.specs.declared.step.StepRefusal.TheVariants.{BadSystem}
 use Rattle.rules.specs.declared.system.System.{System}
 use Rattle.rules.specs.Answers.{is_accepted}
 use Rattle.rules.specs.Steps.{step, refused}
@@ -33,7 +33,7 @@ pub record Holds (r : System) (b : List ℕ) : Type 0 where
 
 -- one step of the rig that the bytes hold
 abbrev pub step_in : List ℕ → Step → Stepped
-step_in b s = pick (is_image b) (step (rig_of b) s) (refused (rig_of b) BadSystem)
+step_in b s = pick (is_image b) (step (rig_of b) s) (refused (rig_of b) (Err BadSystem))
 
 -- what it reports, and the bytes then
 pub record SteppedIn (b : List ℕ) (s : Step) (q : Report) (b' : List ℕ) : Type 0 where

@@ -1,6 +1,5 @@
 // A call of a desk's dispatcher on what is lent of a live rig: a delivery, and then a run.
 ghost use Rattle.std.specs.Prelude.{◌≡◌, ◌≤◌};
-ghost use Rattle.rules.specs.declared.dispatch.Turn.TheVariants.{Skipped};
 ghost use Rattle.board.specs.Lent.{lent};
 ghost use Rattle.live_rig.specs.Calls.{Takes, DeliveredOn, Runs, RanOn, TakesTurns, TurnsOn};
 
@@ -9,23 +8,22 @@ use board::Board;
 use board::act::Size;
 use board::ready::ready_at;
 use plan::ProcessorId;
-use rules::dispatch::Turn;
 use rules::message::Message;
-use rules::step::Step;
+use rules::step::{Report, Step};
 use task_rules::ready::next_ready;
 
 // A step that a call makes, or none, and how many letters there are then.
 #[derive(Clone, Copy)]
 pub struct Called {
-    pub turn: Turn,
+    pub turn: Option<(Step, Report)>,
     pub used: usize,
 }
 
 // No step is made.
 fn skipped(used: usize) -> Called
-    ensures { (result.turn ≡ Skipped) × (result.used ≡ used) }
+    ensures { (result.turn ≡ None) × (result.used ≡ used) }
 {
-    let none = Turn::Skipped;
+    let none = None;
     Called {
         turn: none,
         used: used,
@@ -80,7 +78,7 @@ fn delivery_turn<'a>(
         s,
     );
     let report = m.report;
-    let turn = Turn::Made(s, report);
+    let turn = Some((s, report));
     Called {
         turn: turn,
         used: m.used,
@@ -139,7 +137,7 @@ fn run_turn<'a>(
         s,
     );
     let report = m.report;
-    let turn = Turn::Made(s, report);
+    let turn = Some((s, report));
     Called {
         turn: turn,
         used: m.used,
@@ -149,8 +147,8 @@ fn run_turn<'a>(
 // What a call makes: a delivery and a run, and how many letters there are then.
 #[derive(Clone, Copy)]
 pub struct BothTurns {
-    pub delivery: Turn,
-    pub run: Turn,
+    pub delivery: Option<(Step, Report)>,
+    pub run: Option<(Step, Report)>,
     pub used: usize,
 }
 

@@ -6,7 +6,7 @@ ghost use Rattle.live_rig.specs.Shows.{Counts};
 
 use crate::open::{open_parts, plan_in};
 use panel::counts::counts_on;
-use plan::PlanAnswer;
+use plan::Refusal;
 use plan_index::ends::numbers::put_numbers;
 use plan_index::user_table::users::build;
 
@@ -39,8 +39,8 @@ fn counts_of(rig: &[u8]) -> Counted
     let read = plan_in(rig, &mut codes, &mut parents, &mut senders, &mut receivers);
     let answer = read.answer;
     match answer {
-        PlanAnswer::Refused(a) => refused(),
-        PlanAnswer::Accepted => {
+        Err(a) => refused(),
+        Ok(()) => {
             let lengths = read.lengths;
             let mut hintprocessors = [0u8; 768];
             let mut hintmoves = [0u16; 768];

@@ -9,27 +9,26 @@ use crate::letter::letter_at;
 use crate::mail::earliest_in;
 use crate::open::{open_parts, plan_in};
 use crate::ranges::{bytes_fit, counts_fit, numbers_fit};
-use plan::{PlanAnswer, ProcessorId};
+use plan::{ProcessorId, Refusal};
 use plan_index::user_table::users::build;
 use rig_read::parts::read_chosen;
 use rig_write::parts::write_lent;
-use rules::dispatch::Turn;
-use rules::step::StepAnswer;
+use rules::step::{Report, Step, StepRefusal};
 
 // What a call says: its answer, the delivery and the run that it made.
 #[derive(Clone, Copy)]
 pub struct Call {
-    pub answer: StepAnswer,
-    pub delivery: Turn,
-    pub run: Turn,
+    pub answer: Result<(), StepRefusal>,
+    pub delivery: Option<(Step, Report)>,
+    pub run: Option<(Step, Report)>,
 }
 
 // A refused call makes no step.
-fn no_call(answer: StepAnswer) -> Call
+fn no_call(answer: Result<(), StepRefusal>) -> Call
     ensures { result ≡ no_call answer }
 {
-    let none = Turn::Skipped;
-    let nothing = Turn::Skipped;
+    let none = None;
+    let nothing = None;
     Call {
         answer: answer,
         delivery: none,
@@ -70,11 +69,11 @@ fn call_parts<'a>(
         &mut board,
     );
     if !o.ok {
-        return no_call(StepAnswer::BadSystem);
+        return no_call(Err(StepRefusal::BadSystem));
     }
     let n = o.size;
     if !base::is_within(1, base::wide8(n.processors), base::wide8(d.0)) {
-        return no_call(StepAnswer::NoProcessor);
+        return no_call(Err(StepRefusal::NoProcessor));
     }
     let mut chosen = read_chosen(rig);
     let p = earliest_in(rig, n.used, d);
@@ -117,7 +116,7 @@ fn call_parts<'a>(
     let delivery = q.delivery;
     let run = q.run;
     Call {
-        answer: StepAnswer::Accepted,
+        answer: Ok(()),
         delivery: delivery,
         run: run,
     }
@@ -135,8 +134,8 @@ fn call_image(rig: &mut [u8], d: ProcessorId) -> Call
     let read = plan_in(rig, &mut codes, &mut parents, &mut senders, &mut receivers);
     let answer = read.answer;
     match answer {
-        PlanAnswer::Refused(_) => no_call(StepAnswer::BadSystem),
-        PlanAnswer::Accepted => {
+        Err(_) => no_call(Err(StepRefusal::BadSystem)),
+        Ok(()) => {
             let lengths = read.lengths;
             let mut users = [0u8; 1024];
             build(&senders, &receivers, &parents, &mut users);
@@ -150,7 +149,7 @@ pub fn call_held(rig: &mut [u8], d: ProcessorId) -> Call
     ensures { CalledHeld rig.old d result rig.new }
 {
     if rig.len() < 34120 {
-        return no_call(StepAnswer::BadSystem);
+        return no_call(Err(StepRefusal::BadSystem));
     }
     call_image(&mut rig[..34120], d)
 }

@@ -7,7 +7,7 @@ ghost use Rattle.live_rig.specs.Shows.{Finds};
 use crate::open::{open_parts, plan_in};
 use board::fetch::no_task;
 use board::task_at;
-use plan::{PlanAnswer, TaskId};
+use plan::{Refusal, TaskId};
 use rules::task::Task;
 use views::has_task;
 
@@ -41,8 +41,8 @@ fn task_of(rig: &[u8], t: TaskId) -> Found
     let read = plan_in(rig, &mut codes, &mut parents, &mut senders, &mut receivers);
     let answer = read.answer;
     match answer {
-        PlanAnswer::Refused(a) => refused(9),
-        PlanAnswer::Accepted => {
+        Err(a) => refused(9),
+        Ok(()) => {
             let lengths = read.lengths;
             let mut hintprocessors = [0u8; 768];
             let mut hintmoves = [0u16; 768];

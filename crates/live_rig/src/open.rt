@@ -7,7 +7,7 @@ ghost use Rattle.live_rig.specs.Open.{Blank, PlanIn, PlanOf, Opens};
 
 use board::Board;
 use board::act::Size;
-use plan::{PlanAnswer, Refusal};
+use plan::Refusal;
 use plan_file::opening::{Opened, open};
 use rig_read::check::passes;
 use rig_read::numbers::number4;
@@ -22,9 +22,9 @@ pub struct Opening {
 
 // No plan: its file is too long.
 fn no_plan() -> Opened
-    ensures { result.answer ≡ PlanAnswer.Refused Refusal.BadLayout }
+    ensures { result.answer ≡ Err Refusal.BadLayout }
 {
-    let answer = PlanAnswer::Refused(Refusal::BadLayout);
+    let answer = Err(Refusal::BadLayout);
     Opened {
         answer: answer,
         tasks: 0,

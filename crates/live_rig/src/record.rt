@@ -4,9 +4,8 @@ ghost use Rattle.plan.specs.Layout.{bytes16};
 ghost use Rattle.plan_write.specs.output.Output.{overlay};
 ghost use Rattle.image.specs.Live.{word_record};
 
-use plan::Word;
+use plan::{ChannelId, Word};
 use plan_write::output::bytes::put_word;
-use rules::rule::Received;
 
 // Five numbers of 16 bits.
 fn put_numbers(out: &mut [u8], at: usize, c: u16, w: Word)
@@ -22,12 +21,12 @@ fn put_numbers(out: &mut [u8], at: usize, c: u16, w: Word)
 }
 
 // The channel and the four levels of a received word, else zeros.
-pub fn put_received(out: &mut [u8], at: usize, received: Received)
+pub fn put_received(out: &mut [u8], at: usize, received: Option<(ChannelId, Word)>)
     requires { at + 10 ≤ length out.old }
     ensures { out.new ≡ overlay out.old at (word_record received) }
 {
     match received {
-        Received::Nothing => put_numbers(out, at, 0, Word(0, 0, 0, 0)),
-        Received::Word(c, w) => put_numbers(out, at, c.0 as u16, w),
+        None => put_numbers(out, at, 0, Word(0, 0, 0, 0)),
+        Some((c, w)) => put_numbers(out, at, c.0 as u16, w),
     }
 }

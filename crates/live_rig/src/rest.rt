@@ -5,7 +5,7 @@ ghost use Rattle.image.specs.Image.{rig_size};
 ghost use Rattle.live_rig.specs.Shows.{rest_on};
 
 use crate::open::{open_parts, plan_in};
-use plan::PlanAnswer;
+use plan::Refusal;
 use rig::rest::at_rest;
 
 // Both in one number.
@@ -32,8 +32,8 @@ pub fn rest_of(rig: &[u8]) -> u64
     let read = plan_in(rig, &mut codes, &mut parents, &mut senders, &mut receivers);
     let answer = read.answer;
     match answer {
-        PlanAnswer::Refused(a) => 9,
-        PlanAnswer::Accepted => {
+        Err(a) => 9,
+        Ok(()) => {
             let lengths = read.lengths;
             let mut hintprocessors = [0u8; 768];
             let mut hintmoves = [0u16; 768];

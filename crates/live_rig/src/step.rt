@@ -8,21 +8,20 @@ use crate::make::make;
 use crate::open::{open_parts, plan_in};
 use crate::ranges::{bytes_fit, counts_fit, numbers_fit};
 use network::position;
-use plan::PlanAnswer;
+use plan::Refusal;
 use plan_index::user_table::users::build;
 use rig_read::parts::read_chosen;
 use rig_write::parts::write_lent;
-use rules::rule::Received;
-use rules::step::{Report, Step, StepAnswer};
+use rules::step::{Report, Step, StepRefusal};
 use steps::instruction::refusal::is_accepted;
 
 // What a step says of bytes that 9 refuses.
 fn bad_system() -> Report
-    ensures { result ≡ record { answer = StepAnswer.BadSystem; received = Received.Nothing } }
+    ensures { result ≡ record { answer = Err StepRefusal.BadSystem; received = None } }
 {
     Report {
-        answer: StepAnswer::BadSystem,
-        received: Received::Nothing,
+        answer: Err(StepRefusal::BadSystem),
+        received: None,
     }
 }
 
@@ -117,8 +116,8 @@ fn step_image(rig: &mut [u8], s: Step) -> Report
     let read = plan_in(rig, &mut codes, &mut parents, &mut senders, &mut receivers);
     let answer = read.answer;
     match answer {
-        PlanAnswer::Refused(_) => bad_system(),
-        PlanAnswer::Accepted => {
+        Err(_) => bad_system(),
+        Ok(()) => {
             let lengths = read.lengths;
             let mut users = [0u8; 1024];
             build(&senders, &receivers, &parents, &mut users);

@@ -1,12 +1,12 @@
 -- The first number of a task's record: it is that of what it holds where its state is one of seven.
 use mathlib.Core.Path.{◌≡◌, refl, sym}
+use mathlib.Core.Bool.{Bool, true, false}
 use mathlib.Core.List.{List}
 use Prim.Native.Nat.{ℕ, zero, suc, ◌+◌, ◌*◌, ◌/◌, ◌%◌, ◌<◌, ◌≤◌}
 use native.Mathlib.Omega.{arith}
-use lib.Dec.{eqb}
+use lib.Dec.{eqb, ltb}
 use lib.ListN.{get_or}
-use borrow.Author.Tests.{eq-eqb, ne_eqb}
-use Rattle.base.specs.Choice.{pick}
+use borrow.Author.Tests.{eq-eqb, ne_eqb, ltb-true, ltb-false}
 use Rattle.board.specs.packing.Packed.{task_of, task_word, state_of, state_number, bit}
 use Rattle.board.specs.Lent.{task_on}
 use Rattle.rig_read.proofs.Fields.{fields}
@@ -52,6 +52,10 @@ same_first v w m s a b c d e f p q h = omega arith
 other_first : (v w m s a b c d e f : ℕ) → v ≡ m + a + b + c + d + e + f → w ≡ s + a + b + c + d + e + f → s < m → w ≡ v → ⊥
 other_first v w m s a b c d e f p q h z = omega arith
 
+same_test : (t b : Bool) → (t ≡ true → b ≡ true) → (t ≡ false → b ≡ false) → t ≡ b
+same_test true b h k = sym (h refl)
+same_test false b h k = sym (k refl)
+
 module _ (v : ℕ) (h : v < 18446744073709551616) where
   whole : v ≡ v % 128 + 128 * (v / 128 % 2) + 256 * (v / 256 % 256) + 65536 * (v / 65536 % 256) + 16777216 * (v / 16777216 % 256) + 4294967296 * (v / 4294967296 % 65536) + 281474976710656 * (v / 281474976710656 % 65536)
   whole = sym (rw (low_byte v) at (fields v h))
@@ -61,18 +65,20 @@ module _ (v : ℕ) (h : v < 18446744073709551616) where
   unfolding task_of
   again = rw (bit_same (v / 128 % 2) (omega arith)) refl
 
-  pub tidy_kept : v % 128 < 7 → ◌≡◌ {A = ℕ} 0 (pick (task_tidy v) 0 1)
+  tidy_kept : v % 128 < 7 → task_tidy v ≡ true
   unfolding task_tidy
   tidy_kept l =
-      rw (eq-eqb (task_word (task_of v 0 0)) v (same_first v (task_word (task_of v 0 0)) (v % 128) (state_number (state_of (v % 128))) (128 * (v / 128 % 2)) (256 * (v / 256 % 256)) (65536 * (v / 65536 % 256)) (16777216 * (v / 16777216 % 256)) (4294967296 * (v / 4294967296 % 65536)) (281474976710656 * (v / 281474976710656 % 65536)) whole again (state_same (v % 128) l)))
-      refl
+      eq-eqb (task_word (task_of v 0 0)) v (same_first v (task_word (task_of v 0 0)) (v % 128) (state_number (state_of (v % 128))) (128 * (v / 128 % 2)) (256 * (v / 256 % 256)) (65536 * (v / 65536 % 256)) (16777216 * (v / 16777216 % 256)) (4294967296 * (v / 4294967296 % 65536)) (281474976710656 * (v / 281474976710656 % 65536)) whole again (state_same (v % 128) l))
 
-  pub tidy_last : 7 ≤ v % 128 → ◌≡◌ {A = ℕ} 1 (pick (task_tidy v) 0 1)
+  tidy_last : 7 ≤ v % 128 → task_tidy v ≡ false
   unfolding task_tidy
   tidy_last l =
-      rw (ne_eqb (task_word (task_of v 0 0)) v
-      (other_first v (task_word (task_of v 0 0)) (v % 128) (state_number (state_of (v % 128))) (128 * (v / 128 % 2)) (256 * (v / 256 % 256)) (65536 * (v / 65536 % 256)) (16777216 * (v / 16777216 % 256)) (4294967296 * (v / 4294967296 % 65536)) (281474976710656 * (v / 281474976710656 % 65536)) whole again (rw (state_last (v % 128) l) (omega arith))))
-      refl
+      ne_eqb (task_word (task_of v 0 0)) v
+      (other_first v (task_word (task_of v 0 0)) (v % 128) (state_number (state_of (v % 128))) (128 * (v / 128 % 2)) (256 * (v / 256 % 256)) (65536 * (v / 65536 % 256)) (16777216 * (v / 16777216 % 256)) (4294967296 * (v / 4294967296 % 65536)) (281474976710656 * (v / 281474976710656 % 65536)) whole again (rw (state_last (v % 128) l) (omega arith)))
+
+  pub tidy_tested : ltb (v % 128) 7 ≡ task_tidy v
+  tidy_tested =
+      same_test (ltb (v % 128) 7) (task_tidy v) (λ e. tidy_kept (ltb-true (v % 128) 7 e)) (λ e. tidy_last (ltb-false (v % 128) 7 e))
 
 -- of task k + 1
 pub tidy_on : (x : List ℕ) (k : ℕ) → task_tidy (get_or x (128 + 2 * k) 0) ≡ eqb (task_word (task_on x k)) (get_or x (128 + 2 * k) 0)

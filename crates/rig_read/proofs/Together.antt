@@ -6,12 +6,12 @@ use Prim.Native.Nat.{ℕ, ◌+◌, ◌<◌, ◌≤◌}
 use native.Mathlib.Omega.{arith}
 use lib.Dec.{eqb}
 use lib.ListN.{length, get_or}
+use Rattle.std.specs.Prelude.{Ok}
 use Rattle.base.specs.Choice.{within}
 use Rattle.base.proofs.Tests.{and_false}
 use Rattle.base.proofs.Folds.{fold_same}
 use Rattle.base.proofs.Tables.{length_table}
 use Rattle.plan.specs.declared.Plan.{Plan}
-use Rattle.plan.specs.declared.PlanAnswer.TheVariants.{Accepted}
 use Rattle.plan.specs.Answers.{is_accepted}
 use Rattle.plan.specs.Programs.{programs}
 use Rattle.plan.specs.Refusals.{plan_answer}
@@ -60,7 +60,7 @@ regroup true true true true true true true true true true true true true true tr
 regroup true true true true true true true true true true true true true true true true = refl
 
 -- the plan of a file that 2 to 6 do not refuse is not refused either
-pub plan_passes : (f : List ℕ) → file_answer f ≡ Accepted → is_accepted (plan_answer (programs (plan_read f).plan)) ≡ true
+pub plan_passes : (f : List ℕ) → file_answer f ≡ Ok tt → is_accepted (plan_answer (programs (plan_read f).plan)) ≡ true
 unfolding plan_read
 plan_passes f e =
     let ok = file_plan_lem f e in
@@ -140,3 +140,18 @@ module _ {b lengths codes : List ℕ} {n : Size} {l : Lent} {chosen : List ℕ} 
   together bytes =
       rw (image_parts_lem b o.long bytes o.room o.plan, rig_is, o.plan_lengths, o.plan_codes, o.tasks)
       (parts_pass n.processors plan l b chosen ok (ap (λ (x : Lent). x.board) o.parts))
+
+-- a test that is looked at where those before it pass
+pub on_true : {v r a b t : Bool} → v ≡ r → r ≡ b → t ≡ true → t ≡ a → v ≡ a && b
+on_true p q h e = p ∙ q ∙ rw (sym e ∙ h) refl
+
+pub on_false : {v a t : Bool} (b : Bool) → v ≡ t → t ≡ false → t ≡ a → v ≡ a && b
+on_false b p h e = p ∙ h ∙ rw (sym e ∙ h) refl
+
+pub grouped : (b d t p c m : Bool) → ((((b && d) && t) && p) && c) && m ≡ b && (d && (t && (p && (c && m))))
+grouped false d t p c m = refl
+grouped true false t p c m = refl
+grouped true true false p c m = refl
+grouped true true true false c m = refl
+grouped true true true true false m = refl
+grouped true true true true true m = refl

@@ -1,6 +1,6 @@
 -- Bytes that are put together bit by bit: the result is 0 where each of them is.
 use mathlib.Core.Path.{◌≡◌, refl, ◌∙◌}
-use mathlib.Core.Bool.{Bool, true, false, ◌&&◌}
+use mathlib.Core.Bool.{Bool, true, ◌&&◌}
 use mathlib.Core.Logic.{by_cases}
 use Prim.Native.Nat.{ℕ, ◌+◌}
 use native.Mathlib.Numerals.{add-one}
@@ -9,7 +9,6 @@ use native.Mathlib.Decide.{ℕ_discrete}
 use lib.Bits.{bit_or, or_add_and, and_le_r}
 use lib.Dec.{eqb}
 use borrow.Author.Tests.{ne_eqb}
-use Rattle.base.specs.Choice.{pick}
 use Rattle.base.specs.Range.{fold, below}
 
 -- `any` is 0 where the first k of f are
@@ -31,16 +30,11 @@ pub zeros_more : (f : ℕ → ℕ) (k any : ℕ) → AllZero f k any → AllZero
 unfolding fold
 zeros_more f k any h = both_zero any (f k) ∙ rw (add-one k, h) refl
 
--- one bit of each test that fails
-fault_zero : (b : Bool) → eqb (pick b 0 1) 0 ≡ b
-fault_zero true = refl
-fault_zero false = refl
-
-pub tests_none : (p : ℕ → Bool) → eqb 0 0 ≡ below 0 p
+-- each of the tests passes
+pub tests_none : (p : ℕ → Bool) → true ≡ below 0 p
 unfolding fold
 tests_none p = refl
 
-pub tests_more : (p : ℕ → Bool) (k any : ℕ) {bit : ℕ} {b : Bool} → eqb any 0 ≡ below k p → b ≡ p k → bit ≡ pick b 0 1
-    → eqb (bit_or any bit) 0 ≡ below (k + 1) p
+pub tests_more : (p : ℕ → Bool) (k : ℕ) {all b : Bool} → all ≡ below k p → b ≡ p k → all && b ≡ below (k + 1) p
 unfolding fold
-tests_more p k any {bit} {b} h e f = both_zero any bit ∙ rw (f, fault_zero b, e, h, add-one k) refl
+tests_more p k h e = rw (h, e, add-one k) refl

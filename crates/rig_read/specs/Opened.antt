@@ -1,6 +1,5 @@
 -- An image opened: its parts are read, and its plan file is one that 2 to 6 do not refuse.
-use Rattle.std.specs.Prelude.{◌≡◌, List, ℕ, ◌≤◌, length, get_or}
-use Rattle.plan.specs.declared.PlanAnswer.TheVariants.{Accepted}
+use Rattle.std.specs.Prelude.{◌≡◌, List, ℕ, ◌≤◌, length, get_or, Ok}
 use Rattle.plan.specs.Files.{file_answer}
 use Rattle.plan.specs.Outcomes.{plan_read}
 use Rattle.board.specs.declared.act.Size.{Size}
@@ -12,7 +11,7 @@ use Rattle.image_laws.specs.Parts.{lent_in}
 pub record Opened (b lengths codes : List ℕ) (n : Size) (l : Lent) (chosen : List ℕ) : Type 0 where
   pub long : length b ≡ rig_size
   pub room : number_at 4 b 4 ≤ plan_room
-  pub plan : file_answer (plan_file b) ≡ Accepted
+  pub plan : file_answer (plan_file b) ≡ Ok tt
   pub plan_lengths : lengths ≡ (plan_read (plan_file b)).plan.lengths
   pub plan_codes : codes ≡ (plan_read (plan_file b)).plan.codes
   pub tasks : n.tasks ≡ (plan_read (plan_file b)).plan.tasks

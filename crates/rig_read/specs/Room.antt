@@ -1,5 +1,5 @@
 -- What is lent has room for the parts of a rig.
-use Rattle.std.specs.Prelude.{◌≡◌, ℕ, length}
+use Rattle.std.specs.Prelude.{◌≡◌, length}
 use Rattle.board.specs.Lent.{Lent, Whole}
 
 pub record Room (l : Lent) : Type 0 where

@@ -38,16 +38,16 @@ use rig_check::system::processors_ok;
 use rig_check::tables::all_at_most;
 
 // The bytes themselves, beside the parts.
+#[tactic(auto, unfolding(crate::specs::Passing::bytes_pass))]
 fn bytes_ok(rig: &[u8]) -> bool
     requires { (length rig.now ≡ 34120) × (number_at 4 rig.now 4 ≤ 16644) }
     ensures { result ≡ bytes_pass rig.now }
 {
-    let size = number4(rig, 4);
-    let zeros = zeros_behind(rig, size);
-    base::both(head_ok(rig), zeros)
+    head_ok(rig) && zeros_behind(rig, number4(rig, 4))
 }
 
 // A board of a rig of n desks and m tasks, with these programs.
+#[tactic(auto, unfolding(crate::specs::Passing::board_passes))]
 fn board_ok<'a>(
     lengths: &'a [u8; 64],
     codes: &'a [u32; 4096],
@@ -58,16 +58,15 @@ fn board_ok<'a>(
     requires { (m ≤ 64) × ((k : ℕ) → k < m → get_or lengths.now k 0 ≤ 64) }
     ensures { result ≡ board_passes lengths.now codes.now n m board.now }
 {
-    let channels = channels_ok(n, board);
-    let tidy = tasks_tidy(board);
-    let parents = parents_ok(n, m, board);
-    let tasks = tasks_ok(lengths, codes, n, m, board);
-    let ready = ready_ok(m, board);
-    let last = base::both(parents, base::both(tasks, ready));
-    base::both(channels, base::both(tidy, last))
+    channels_ok(n, board)
+        && tasks_tidy(board)
+        && parents_ok(n, m, board)
+        && tasks_ok(lengths, codes, n, m, board)
+        && ready_ok(m, board)
 }
 
 // What the desks keep for channels, in a rig of n desks.
+#[tactic(auto, unfolding(rules::specs::Sound::tables_ok))]
 fn tables_ok<'a>(
     n: u8,
     hintprocessors: &'a [u8; 768],
@@ -86,9 +85,9 @@ fn tables_ok<'a>(
       notes = notes.now;
     }) }
 {
-    let hints = hints_ok(n, hintprocessors, hintmoves);
-    let offers = offers_ok(n, heldprocessors, heldnumbers);
-    base::both(hints, base::both(offers, notes_ok(n, notes)))
+    hints_ok(n, hintprocessors, hintmoves)
+        && offers_ok(n, heldprocessors, heldnumbers)
+        && notes_ok(n, notes)
 }
 
 // Whether an opened image is one, of a rig that 9 does not refuse.
@@ -112,18 +111,17 @@ pub fn passes<'a>(
 {
     let m = n.tasks;
     let desks = n.processors;
-    let bytes = bytes_ok(rig);
-    let entries = board_ok(lengths, codes, desks, m, board);
-    let tables = tables_ok(
-        desks,
-        hintprocessors,
-        hintmoves,
-        heldprocessors,
-        heldnumbers,
-        notes,
-    );
-    let choices = all_at_most(m, &chosen);
-    let mail = base::both(choices, mail_ok(rig, desks, m, n.used));
-    let last = base::both(processors_ok(desks), mail);
-    base::both(bytes, base::both(entries, base::both(tables, last)))
+    bytes_ok(rig)
+        && board_ok(lengths, codes, desks, m, board)
+        && tables_ok(
+            desks,
+            hintprocessors,
+            hintmoves,
+            heldprocessors,
+            heldnumbers,
+            notes,
+        )
+        && processors_ok(desks)
+        && all_at_most(m, &chosen)
+        && mail_ok(rig, desks, m, n.used)
 }

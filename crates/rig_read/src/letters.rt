@@ -50,7 +50,7 @@ pub fn letter_of(v: u64, w: u64) -> Message
             };
             let h = Hint {
                 processor: to,
-                moves: moves,
+                moves,
             };
             Message::Offered(ChannelId(number), o, h)
         }
@@ -58,7 +58,7 @@ pub fn letter_of(v: u64, w: u64) -> Message
         3 => {
             let h = Hint {
                 processor: second,
-                moves: moves,
+                moves,
             };
             Message::ReadyToReceive(ChannelId(number), to, h)
         }
@@ -69,7 +69,7 @@ pub fn letter_of(v: u64, w: u64) -> Message
         5 => {
             let h = Hint {
                 processor: to,
-                moves: moves,
+                moves,
             };
             Message::Terminated(h, TaskId(number))
         }

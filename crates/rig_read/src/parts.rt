@@ -17,10 +17,8 @@ fn read_board<'a>(rig: &'a [u8], board: &'a mut Board)
     requires { (length rig.now ≡ 34120) × Whole board.old }
     ensures { board.new ≡ board_in rig.now }
 {
-    let mut k: usize = 0;
-    while k < 1094 {
+    for k in 0..1094 {
         board[k] = number8(rig, 16664 + 8 * k);
-        k += 1;
     }
 }
 
@@ -29,11 +27,7 @@ fn read_bytes<'a>(rig: &'a [u8], at: usize, table: &'a mut [u8; 768])
     requires { (at + 768 ≤ length rig.now) × (length table.old ≡ 768) }
     ensures { table.new ≡ numbers_at 1 768 rig.now at }
 {
-    let mut k: usize = 0;
-    while k < 768 {
-        table[k] = rig[at + k];
-        k += 1;
-    }
+    table.copy_from_slice(&rig[at..at + 768]);
 }
 
 // A table of counts, from a place on.
@@ -41,10 +35,8 @@ fn read_counts<'a>(rig: &'a [u8], at: usize, table: &'a mut [u16; 768])
     requires { (at + 1536 ≤ length rig.now) × (length table.old ≡ 768) }
     ensures { table.new ≡ numbers_at 2 768 rig.now at }
 {
-    let mut k: usize = 0;
-    while k < 768 {
+    for k in 0..768 {
         table[k] = number2(rig, at + 2 * k);
-        k += 1;
     }
 }
 
@@ -77,9 +69,7 @@ pub fn letter_in(rig: &[u8], p: usize) -> Message
     ensures { result ≡ message_at (network_in rig.now) p }
 {
     let k = p - 1;
-    let v = number8(rig, 30024 + 16 * k);
-    let w = number8(rig, 30032 + 16 * k);
-    letter_of(v, w)
+    letter_of(number8(rig, 30024 + 16 * k), number8(rig, 30032 + 16 * k))
 }
 
 // The last choices of the desks.
@@ -88,10 +78,6 @@ pub fn read_chosen(rig: &[u8]) -> [u8; 6]
     ensures { result ≡ chosen_in rig.now }
 {
     let mut chosen = [0u8; 6];
-    let mut k: usize = 0;
-    while k < 6 {
-        chosen[k] = rig[14 + k];
-        k += 1;
-    }
+    chosen.copy_from_slice(&rig[14..20]);
     chosen
 }

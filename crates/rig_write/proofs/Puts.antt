@@ -1,11 +1,12 @@
 -- Bytes put at a place: stores one behind the other, a run behind another, numbers and pairs of numbers one more.
 use mathlib.Core.Path.{◌≡◌, refl, sym, ap, ◌∙◌}
 use mathlib.Core.List.{List, [], ◌∷◌, ◌++◌, append_assoc, append-nil}
-use Prim.Native.Nat.{ℕ, suc, ◌+◌, ◌*◌, ◌/◌, ◌%◌, ◌<◌, ◌≤◌}
-use native.Mathlib.Numerals.{add-one}
+use Prim.Native.Nat.{ℕ, ◌+◌, ◌*◌, ◌/◌, ◌%◌, ◌≤◌}
 use native.Mathlib.Omega.{arith}
-use lib.ListN.{length, take, drop, set, get_or, length-append, replicate, length-replicate, replicate-append-replicate}
-use lib.Seq.{sets, sets-eq, take-suc, length-take-le}
+use lib.ListN.{length, take, length-append, replicate, length-replicate}
+use lib.Seq.{drop-drop}
+use borrow.Rule.Slice.PartMut.{put_mid}
+use Rattle.std.specs.Int.{w16, w64, to_le_bytes}
 use Rattle.base.specs.Lists.{table, table_before}
 use Rattle.base.specs.Range.{joined}
 use Rattle.base.proofs.Tables.{table_more, length_table}
@@ -16,13 +17,8 @@ use Rattle.image.specs.Numbers.{number_bytes, numbers_bytes}
 use Rattle.image_laws.proofs.Numbers.{length_number, length_numbers, numbers_append}
 use Rattle.image_laws.proofs.Pieces.{length_rows}
 
--- stores at neighbouring places
-stores : (vs out : List ℕ) (at : ℕ) → at + length vs ≤ length out → sets out at vs ≡ overlay out at vs
-unfolding overlay
-stores vs out at h = sets-eq vs out at h ∙ append_assoc (take at out) vs (drop (at + length vs) out)
-
--- the bytes of a number at neighbouring places
-module _ (out : List ℕ) (at v : ℕ) where
+-- the bytes of a number, the lowest first
+module _ (v : ℕ) where
   bytes2 : number_bytes 2 v ≡ v % 256 ∷ v / 256 % 256 ∷ []
   unfolding number_bytes
   bytes2 = refl
@@ -54,40 +50,23 @@ module _ (out : List ℕ) (at v : ℕ) where
   unfolding number_bytes
   bytes8 = rw (e2, e3, e4, e5, e6, e7) refl
 
-  p1 : at + 1 ≡ suc at
-  p1 = omega arith
+  pub le2 : to_le_bytes w16 v ≡ number_bytes 2 v
+  le2 = sym bytes2
 
-  p2 : at + 2 ≡ suc (suc at)
-  p2 = omega arith
+  pub le4 : take 4 (to_le_bytes w64 v) ≡ number_bytes 4 v
+  le4 = sym bytes4
 
-  p3 : at + 3 ≡ suc (suc (suc at))
-  p3 = omega arith
+  pub le8 : to_le_bytes w64 v ≡ number_bytes 8 v
+  le8 = sym bytes8
 
-  p4 : at + 4 ≡ suc (suc (suc (suc at)))
-  p4 = omega arith
+-- a part of the bytes overwritten
+pub part_put : (out ys xs : List ℕ) (at k : ℕ) → ys ≡ xs → k ≡ length xs → put_mid at k out ys ≡ overlay out at xs
+unfolding overlay
+part_put out ys xs at k e h = rw (e, h) (ap (λ (l : List ℕ). take at out ++ (xs ++ l)) (drop-drop (length xs) at out))
 
-  p5 : at + 5 ≡ suc (suc (suc (suc (suc at))))
-  p5 = omega arith
-
-  p6 : at + 6 ≡ suc (suc (suc (suc (suc (suc at)))))
-  p6 = omega arith
-
-  p7 : at + 7 ≡ suc (suc (suc (suc (suc (suc (suc at))))))
-  p7 = omega arith
-
-  pub stores2 : at + 2 ≤ length out → set (set out at (v % 256)) (at + 1) (v / 256 % 256) ≡ overlay out at (number_bytes 2 v)
-  stores2 h = rw (bytes2, p1) (stores (v % 256 ∷ v / 256 % 256 ∷ []) out at h)
-
-  pub stores4 : at + 4 ≤ length out
-      → set (set (set (set out at (v % 256)) (at + 1) (v / 256 % 256)) (at + 2) (v / 65536 % 256)) (at + 3) (v / 16777216 % 256) ≡ overlay out at (number_bytes 4 v)
-  stores4 h = rw (bytes4, p1, p2, p3) (stores (v % 256 ∷ v / 256 % 256 ∷ v / 65536 % 256 ∷ v / 16777216 % 256 ∷ []) out at h)
-
-  pub stores8 : at + 8 ≤ length out
-      → set (set (set (set (set (set (set (set out at (v % 256)) (at + 1) (v / 256 % 256)) (at + 2) (v / 65536 % 256)) (at + 3) (v / 16777216 % 256)) (at + 4) (v / 4294967296 % 256)) (at + 5) (v / 1099511627776 % 256)) (at + 6) (v / 281474976710656 % 256)) (at + 7) (v / 72057594037927936 % 256)
-      ≡ overlay out at (number_bytes 8 v)
-  stores8 h =
-      rw (bytes8, p1, p2, p3, p4, p5, p6, p7)
-      (stores (v % 256 ∷ v / 256 % 256 ∷ v / 65536 % 256 ∷ v / 16777216 % 256 ∷ v / 4294967296 % 256 ∷ v / 1099511627776 % 256 ∷ v / 281474976710656 % 256 ∷ v / 72057594037927936 % 256 ∷ []) out at h)
+pub zeros_put : (out ys : List ℕ) (at n k m : ℕ) → ys ≡ replicate m 0 → m ≡ n → k ≡ n → put_mid at k out ys ≡ overlay out at (replicate n 0)
+zeros_put out ys at n k m e h q =
+    part_put out ys (replicate n 0) at k (e ∙ ap (λ (i : ℕ). replicate i 0) h) (q ∙ sym (length-replicate n 0))
 
 -- one number, and two
 module _ (w : ℕ) where
@@ -154,26 +133,8 @@ module _ (w : ℕ) (out : List ℕ) (at : ℕ) where
   pairs_length f k now two h e =
       put_length out now at (numbers_bytes w (joined k f)) (rw (length_numbers w (joined k f), length_rows k f two) h) e
 
--- one byte more
-pub byte_more : (out now : List ℕ) (at k v : ℕ) (xs : List ℕ) → length xs ≡ k → at + k < length out → now ≡ overlay out at xs
-    → set now (at + k) v ≡ overlay out at (xs ++ (v ∷ []))
-byte_more out now at k v xs l h e =
-    let long : length now ≡ length out = put_length out now at xs (omega arith) e in
-    put_more out now (set now (at + k) v) at (at + k) xs (v ∷ []) (omega arith) e (omega arith) (stores (v ∷ []) now (at + k) (omega arith))
-
 pub none_put : (out : List ℕ) (at : ℕ) → out ≡ overlay out at []
 none_put out at = sym (overlay_none out at)
-
--- the first bytes of a list, and zeros, one more
-pub bytes_step : (out now xs : List ℕ) (at k : ℕ) → k < length xs → at + k < length out → now ≡ overlay out at (take k xs)
-    → set now (at + k) (get_or xs k 0) ≡ overlay out at (take (k + 1) xs)
-bytes_step out now xs at k l h e =
-    byte_more out now at k (get_or xs k 0) (take k xs) (length-take-le k xs (omega arith)) h e ∙ rw (add-one k, take-suc xs k 0 l) refl
-
-pub zeros_step : (out now : List ℕ) (at k : ℕ) → at + k < length out → now ≡ overlay out at (replicate k 0)
-    → set now (at + k) 0 ≡ overlay out at (replicate (k + 1) 0)
-zeros_step out now at k h e =
-    byte_more out now at k 0 (replicate k 0) (length-replicate k 0) h e ∙ ap (overlay out at) (replicate-append-replicate k 1 0)
 
 -- three runs, and five, one behind the other
 pub three_puts : (out o1 o2 o3 x1 x2 x3 : List ℕ) (a1 a2 a3 : ℕ) → a1 ≤ length out → a2 ≡ a1 + length x1 → a3 ≡ a2 + length x2

@@ -1,30 +1,16 @@
--- Bytes moved down by a gap, one after the other, and zeros put behind them: a piece as long as the gap is cut out.
+-- Bytes moved down by a gap, and zeros put behind them: a piece as long as the gap is cut out.
 use mathlib.Core.Path.{◌≡◌, refl, sym, ◌∙◌, ap}
 use mathlib.Core.List.{List, ◌++◌, append_assoc}
-use Prim.Native.Nat.{ℕ, ◌+◌, ◌<◌}
-use native.Mathlib.Numerals.{add-one}
+use Prim.Native.Nat.{ℕ, ◌+◌}
 use native.Mathlib.Omega.{arith}
-use lib.ListN.{length, get_or, set, take, drop, length-append, length-drop, replicate, length-replicate}
-use lib.Seq.{paste, paste-suc, length_paste_head, get_or-append-add, get_or-drop, take_at, drop_at, drop-drop}
+use lib.ListN.{length, take, drop, length-append, replicate, length-replicate}
+use lib.Seq.{paste, take_at, drop_at, drop-drop}
 use Rattle.plan_write.specs.output.Output.{overlay}
 
 -- k bytes moved down by g to the place `at`
 module _ (l : List ℕ) (at g : ℕ) where
   abbrev pub shifted : ℕ → List ℕ
   shifted k = paste l at (drop (at + g) l) k
-
-  -- what is read is still the old list's
-  ahead : (k : ℕ) → at + k + g < length l → get_or (shifted k) (at + k + g) 0 ≡ get_or (drop (at + g) l) k 0
-  ahead k h =
-      let long : length (take at l ++ take k (drop (at + g) l)) ≡ at + k =
-      length_paste_head l at (drop (at + g) l) k (omega arith) (simp length-drop (omega arith)) in
-      let i : at + k + g ≡ length (take at l ++ take k (drop (at + g) l)) + g = omega (arith, long) in
-      let j : at + k + g ≡ at + g + k = omega arith in
-      rw (i, get_or-append-add, get_or-drop (at + k) l g 0, get_or-drop (at + g) l k 0, ← j) refl
-
-  pub shift_more : (k : ℕ) → at + k + g < length l → set (shifted k) (at + k) (get_or (shifted k) (at + k + g) 0) ≡ shifted (k + 1)
-  shift_more k h =
-      rw (ahead k h) (paste-suc l at (drop (at + g) l) k 0 (omega arith) (simp length-drop (omega arith)) ∙ ap shifted (sym (add-one k)))
 
 -- of a front, a piece, n bytes and the rest, the piece is cut out, and as many zeros are behind the n bytes
 module _ (a m d z : List ℕ) (at g n : ℕ) (la : length a ≡ at) (lm : length m ≡ g) (ld : length d ≡ n) where

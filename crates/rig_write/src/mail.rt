@@ -21,12 +21,7 @@ pub fn take_letter(mail: &mut [u8], p: usize, used: usize) -> usize
     }
     let at = 16 * (p - 1);
     let n = 16 * (used - p);
-    let mut j: usize = 0;
-    while j < n {
-        let moved = mail[at + j + 16];
-        mail[at + j] = moved;
-        j += 1;
-    }
+    mail.copy_within(at + 16..at + 16 + n, at);
     put_zeros(mail, at + n, 16);
     used - 1
 }
@@ -62,10 +57,8 @@ pub fn post_letters(mail: &mut [u8], used: usize, processors: u8, x: Posting) ->
 {
     let rounds = network::rounds(processors, x);
     let mut free = used;
-    let mut j: u8 = 0;
-    while j < rounds {
+    for j in 0..rounds {
         free = post_round(mail, free, x, j);
-        j += 1;
     }
     free
 }

@@ -47,10 +47,8 @@ fn put_channels(rig: &mut [u8], board: &Board)
     requires { 34120 ≤ length rig.old }
     ensures { rig.new ≡ overlay rig.old 16664 (numbers_bytes 8 (table 128 (channel_at board.now))) }
 {
-    let mut k: usize = 0;
-    while k < 128 {
+    for k in 0..128 {
         put8(rig, 16664 + 8 * k, tidy_channel(board[k]));
-        k += 1;
     }
 }
 
@@ -59,11 +57,9 @@ fn put_tasks(rig: &mut [u8], board: &Board)
     requires { 34120 ≤ length rig.old }
     ensures { rig.new ≡ overlay rig.old 17688 (numbers_bytes 8 (joined 64 (task_at board.now))) }
 {
-    let mut k: usize = 0;
-    while k < 64 {
+    for k in 0..64 {
         put8(rig, 17688 + 16 * k, tidy_task(board[128 + 2 * k]));
         put8(rig, 17696 + 16 * k, board[129 + 2 * k]);
-        k += 1;
     }
 }
 
@@ -72,10 +68,8 @@ fn put_words(rig: &mut [u8], board: &Board)
     requires { 34120 ≤ length rig.old }
     ensures { rig.new ≡ overlay rig.old 18712 (numbers_bytes 8 (table 64 (word_at board.now))) }
 {
-    let mut k: usize = 0;
-    while k < 64 {
+    for k in 0..64 {
         put8(rig, 18712 + 8 * k, tidy_word(board[256 + k]));
-        k += 1;
     }
 }
 
@@ -84,10 +78,8 @@ fn put_sets(rig: &mut [u8], board: &Board)
     requires { 34120 ≤ length rig.old }
     ensures { rig.new ≡ overlay rig.old 25368 (numbers_bytes 8 (table 6 (set_on board.now))) }
 {
-    let mut k: usize = 0;
-    while k < 6 {
+    for k in 0..6 {
         put8(rig, 25368 + 8 * k, board[1088 + k]);
-        k += 1;
     }
 }
 
@@ -96,11 +88,9 @@ fn put_parents(rig: &mut [u8], board: &Board)
     requires { 34120 ≤ length rig.old }
     ensures { rig.new ≡ overlay rig.old 19224 (numbers_bytes 8 (joined 384 (parent_at board.now))) }
 {
-    let mut k: usize = 0;
-    while k < 384 {
+    for k in 0..384 {
         put8(rig, 19224 + 16 * k, tidy_hint(board[320 + 2 * k]));
         put8(rig, 19232 + 16 * k, board[321 + 2 * k]);
-        k += 1;
     }
 }
 
@@ -121,9 +111,7 @@ pub fn put_moves(rig: &mut [u8], at: usize, moves: &[u16])
     requires { at + 2 * length moves.now ≤ length rig.old }
     ensures { rig.new ≡ overlay rig.old at (numbers_bytes 2 moves.now) }
 {
-    let mut k: usize = 0;
-    while k < moves.len() {
+    for k in 0..moves.len() {
         put2(rig, at + 2 * k, moves[k]);
-        k += 1;
     }
 }

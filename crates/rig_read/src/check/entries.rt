@@ -8,43 +8,35 @@ use rig_check::limits::entry_ok;
 use rig_check::tasks::children_ok;
 
 // A channel's own entry that is not 0.
+#[tactic(auto, unfolding(board::specs::packing::Packed::channel_of))]
 fn full_channel_ok(n: u8, v: u64) -> bool
     ensures { result ≡ channel_passes n v }
 {
     let y = channel_of(v);
-    let carried = y.carried;
-    let travelling = y.travelling;
-    let offers = entry_ok(n, 64, carried.processor, base::wide8(carried.number));
-    let hints = entry_ok(
-        n,
-        9999,
-        travelling.processor,
-        base::wide16(travelling.moves),
-    );
-    let kept = base::both(y.granted <= 64, base::both(offers, hints));
-    base::both(channel_word(y) == v, kept)
+    let offer = y.carried;
+    let hint = y.travelling;
+    channel_word(y) == v
+        && y.granted <= 64
+        && entry_ok(n, 64, offer.processor, offer.number as usize)
+        && entry_ok(n, 9999, hint.processor, hint.moves as usize)
 }
 
 // A channel's own entry.
+#[tactic(auto, unfolding(board::specs::packing::Packed::channel_of))]
 fn channel_ok(n: u8, v: u64) -> bool
     ensures { result ≡ channel_passes n v }
 {
-    if v == 0 {
-        return true;
-    }
-    full_channel_ok(n, v)
+    v == 0 || full_channel_ok(n, v)
 }
 
 // The channels' own entries.
 pub fn channels_ok(n: u8, board: &Board) -> bool
     ensures { result ≡ channels_pass n board.now }
 {
-    let mut k: usize = 0;
-    while k < 128 {
+    for k in 0..128 {
         if !channel_ok(n, board[k]) {
             return false;
         }
-        k += 1;
     }
     true
 }
@@ -54,21 +46,14 @@ fn full_parent_ok(n: u8, m: u8, v: u64, held: u64) -> bool
     ensures { result ≡ parent_passes n m v held }
 {
     let h = hint_of(v);
-    let hints = entry_ok(n, 9999, h.processor, base::wide16(h.moves));
-    let kept = base::both(hints, children_ok(m, held));
-    base::both(hint_word(h) == v, kept)
+    hint_word(h) == v && entry_ok(n, 9999, h.processor, h.moves as usize) && children_ok(m, held)
 }
 
 // What a desk keeps for a parent.
 fn parent_ok(n: u8, m: u8, v: u64, held: u64) -> bool
     ensures { result ≡ parent_passes n m v held }
 {
-    if v == 0 {
-        if held == 0 {
-            return true;
-        }
-    }
-    full_parent_ok(n, m, v, held)
+    (v == 0 && held == 0) || full_parent_ok(n, m, v, held)
 }
 
 // The numbers of sixteen parents, after b times as many, are zeros.
@@ -78,10 +63,8 @@ fn block_zero(board: &Board, b: usize) -> bool
 {
     let first = 320 + 32 * b;
     let mut any: u64 = 0;
-    let mut k: usize = 0;
-    while k < 32 {
-        any = any | board[first + k];
-        k += 1;
+    for k in 0..32 {
+        any |= board[first + k];
     }
     any == 0
 }
@@ -95,13 +78,11 @@ fn block_ok(n: u8, m: u8, board: &Board, b: usize) -> bool
         return true;
     }
     let first = 16 * b;
-    let mut i: usize = 0;
-    while i < 16 {
+    for i in 0..16 {
         let k = first + i;
         if !parent_ok(n, m, board[320 + 2 * k], board[321 + 2 * k]) {
             return false;
         }
-        i += 1;
     }
     true
 }
@@ -110,12 +91,10 @@ fn block_ok(n: u8, m: u8, board: &Board, b: usize) -> bool
 pub fn parents_ok(n: u8, m: u8, board: &Board) -> bool
     ensures { result ≡ parents_pass n m board.now }
 {
-    let mut b: usize = 0;
-    while b < 24 {
+    for b in 0..24 {
         if !block_ok(n, m, board, b) {
             return false;
         }
-        b += 1;
     }
     true
 }

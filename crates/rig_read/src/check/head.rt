@@ -9,12 +9,11 @@ pub fn head_ok(rig: &[u8]) -> bool
     requires { length rig.now ≡ 34120 }
     ensures { result ≡ version_ok rig.now && eqb (get_or rig.now 13 0) 0 }
 {
-    let last = base::both(rig[2] == 71, rig[3] == 49);
-    let version = base::both(rig[0] == 82, base::both(rig[1] == 73, last));
-    base::both(version, rig[13] == 0)
+    rig[0] == 82 && rig[1] == 73 && rig[2] == 71 && rig[3] == 49 && rig[13] == 0
 }
 
 // Zeros behind a plan file of n bytes.
+#[tactic(auto, unfolding(image_laws::specs::Parts::zeros_behind))]
 pub fn zeros_behind(rig: &[u8], n: usize) -> bool
     requires { (length rig.now ≡ 34120) × (n ≤ 16644) }
     ensures { result ≡ zeros_behind n rig.now }

@@ -15,14 +15,12 @@ pub fn mail_ok(rig: &[u8], n: u8, m: u8, used: usize) -> bool
     if 256 < used {
         return false;
     }
-    let mut k: usize = 0;
-    while k < used {
+    for k in 0..used {
         let v = number8(rig, 30024 + 16 * k);
         let w = number8(rig, 30032 + 16 * k);
         if !slot_ok(n, m, v, w) {
             return false;
         }
-        k += 1;
     }
     zeros_at(rig, 30024 + 16 * used, 4096 - 16 * used)
 }

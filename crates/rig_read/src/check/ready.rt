@@ -14,15 +14,11 @@ fn ready_sets(m: u8, board: &Board) -> [u64; 7]
     ensures { ReadySets m board.now result }
 {
     let mut sets = [0u64; 7];
-    let mut t: u8 = 0;
-    while t < m {
-        let k = base::wide8(t);
-        let d = base::wide8(ready_desk(board[128 + 2 * k]));
-        if base::both(1 <= d, d <= 6) {
-            let more = insert(sets[d], t + 1);
-            sets[d] = more;
+    for t in 0..m {
+        let d = ready_desk(board[128 + 2 * t as usize]) as usize;
+        if 1 <= d && d <= 6 {
+            sets[d] = insert(sets[d], t + 1);
         }
-        t = t + 1;
     }
     sets
 }
@@ -33,12 +29,10 @@ pub fn ready_ok(m: u8, board: &Board) -> bool
     ensures { result ≡ ready_ok m (tasks_on board.now) }
 {
     let sets = ready_sets(m, board);
-    let mut d: usize = 0;
-    while d < 6 {
+    for d in 0..6 {
         if board[1088 + d] != sets[d + 1] {
             return false;
         }
-        d += 1;
     }
     true
 }

@@ -10,69 +10,74 @@ ghost use Rattle.rig_read.specs.Passing.{slot_passes};
 fn byte_ok(limit: u8, v: u64) -> bool
     ensures { result ≡ within 1 limit (v % 256) }
 {
-    base::is_within(1, limit as usize, (v % 256) as usize)
+    let x = v % 256;
+    1 <= x && x <= limit as u64
 }
 
 // The move count.
 fn moves_ok(v: u64) -> bool
     ensures { result ≡ within 1 9999 (high16 v) }
 {
-    base::is_within(1, 9999, (v / 281474976710656 % 65536) as usize)
+    let moves = v / 281474976710656 % 65536;
+    1 <= moves && moves <= 9999
 }
 
 // An offer letter.
 fn offered_ok(n: u8, v: u64, w: u64) -> bool
     ensures { result ≡ offered_passes n v w }
 {
-    let tidy = base::both(v / 1099511627776 % 256 == 0, 0 == w);
-    let made = base::both(byte_ok(n, v / 16777216), byte_ok(64, v / 4294967296));
-    let known = base::both(byte_ok(n, v / 65536), moves_ok(v));
-    let passes = base::both(byte_ok(128, v / 256), base::both(made, known));
-    base::both(tidy, passes)
+    v / 1099511627776 % 256 == 0
+        && w == 0
+        && byte_ok(128, v / 256)
+        && byte_ok(n, v / 16777216)
+        && byte_ok(64, v / 4294967296)
+        && byte_ok(n, v / 65536)
+        && moves_ok(v)
 }
 
 // An advert.
 fn advert_ok(n: u8, v: u64, w: u64) -> bool
     ensures { result ≡ advert_passes n v w }
 {
-    let tidy = base::both(v < 4294967296, 0 == w);
-    let ends = base::both(byte_ok(n, v / 65536), byte_ok(n, v / 16777216));
-    base::both(tidy, base::both(byte_ok(128, v / 256), ends))
+    let tidy = v < 4294967296 && w == 0;
+    tidy && byte_ok(128, v / 256) && byte_ok(n, v / 65536) && byte_ok(n, v / 16777216)
 }
 
 // A call letter.
 fn call_ok(n: u8, v: u64, w: u64) -> bool
     ensures { result ≡ call_passes n v w }
 {
-    let tidy = base::both(v / 4294967296 % 65536 == 0, 0 == w);
-    let known = base::both(byte_ok(n, v / 16777216), moves_ok(v));
-    let ends = base::both(byte_ok(n, v / 65536), known);
-    base::both(tidy, base::both(byte_ok(128, v / 256), ends))
+    v / 4294967296 % 65536 == 0
+        && w == 0
+        && byte_ok(128, v / 256)
+        && byte_ok(n, v / 65536)
+        && byte_ok(n, v / 16777216)
+        && moves_ok(v)
 }
 
 // A word letter, with any word.
 fn word_ok(n: u8, v: u64) -> bool
     ensures { result ≡ word_passes n v }
 {
-    let ends = base::both(byte_ok(128, v / 256), byte_ok(n, v / 65536));
-    base::both(v < 16777216, ends)
+    v < 16777216 && byte_ok(128, v / 256) && byte_ok(n, v / 65536)
 }
 
 // An ended letter.
 fn ended_ok(n: u8, m: u8, v: u64, w: u64) -> bool
     ensures { result ≡ ended_passes n m v w }
 {
-    let tidy = base::both(v / 16777216 % 16777216 == 0, 0 == w);
-    let known = base::both(byte_ok(n, v / 65536), moves_ok(v));
-    base::both(tidy, base::both(known, byte_ok(m, v / 256)))
+    v / 16777216 % 16777216 == 0
+        && w == 0
+        && byte_ok(n, v / 65536)
+        && moves_ok(v)
+        && byte_ok(m, v / 256)
 }
 
 // A mover letter.
 fn mover_ok(n: u8, m: u8, v: u64, w: u64) -> bool
     ensures { result ≡ mover_passes n m v w }
 {
-    let tidy = base::both(v < 16777216, 0 == w);
-    base::both(tidy, base::both(byte_ok(n, v / 65536), byte_ok(m, v / 256)))
+    v < 16777216 && w == 0 && byte_ok(n, v / 65536) && byte_ok(m, v / 256)
 }
 
 // Any letter. Two choices of few kinds take no table of jumps.

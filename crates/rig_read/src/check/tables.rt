@@ -1,6 +1,5 @@
 // What the desks keep for channels: every entry is looked at, and no loop stops early, so that many are looked at at once.
 ghost use Rattle.std.specs.Prelude.{◌≡◌, leb, length};
-ghost use Rattle.base.specs.Choice.{pick};
 ghost use Rattle.base.specs.Lists.{every, every_pair};
 ghost use Rattle.rules.specs.Numbers.{processor_id};
 ghost use Rattle.rules.specs.Cells.{hint, offer};
@@ -9,26 +8,16 @@ ghost use Rattle.rules.specs.Sound.{hint_ok, offer_ok};
 use plan::ProcessorId;
 use rig_check::limits::entry_ok;
 
-// 1 where a test fails.
-fn fault(ok: bool) -> u8
-    ensures { result ≡ pick ok 0 1 }
-{
-    if ok { 0 } else { 1 }
-}
-
 // Every pointer of a table, which holds desks and counts apart.
 pub fn hints_ok<'a>(n: u8, processors: &'a [u8; 768], moves: &'a [u16; 768]) -> bool
     requires { (length processors.now ≡ 768) × (length moves.now ≡ 768) }
     ensures { result ≡ every_pair (λ d k. hint_ok n (hint (processor_id d) k)) processors.now moves.now }
 {
-    let mut any: u8 = 0;
-    let mut k: usize = 0;
-    while k < 768 {
-        let ok = entry_ok(n, 9999, ProcessorId(processors[k]), base::wide16(moves[k]));
-        any = any | fault(ok);
-        k += 1;
+    let mut all = true;
+    for k in 0..768 {
+        all &= entry_ok(n, 9999, ProcessorId(processors[k]), moves[k] as usize);
     }
-    any == 0
+    all
 }
 
 // Every offer of a table, which holds desks and numbers apart.
@@ -36,14 +25,11 @@ pub fn offers_ok<'a>(n: u8, processors: &'a [u8; 768], numbers: &'a [u8; 768]) -
     requires { (length processors.now ≡ 768) × (length numbers.now ≡ 768) }
     ensures { result ≡ every_pair (λ d w. offer_ok n (offer (processor_id d) w)) processors.now numbers.now }
 {
-    let mut any: u8 = 0;
-    let mut k: usize = 0;
-    while k < 768 {
-        let ok = entry_ok(n, 64, ProcessorId(processors[k]), base::wide8(numbers[k]));
-        any = any | fault(ok);
-        k += 1;
+    let mut all = true;
+    for k in 0..768 {
+        all &= entry_ok(n, 64, ProcessorId(processors[k]), numbers[k] as usize);
     }
-    any == 0
+    all
 }
 
 // Every noted advert.
@@ -51,11 +37,9 @@ pub fn notes_ok(n: u8, notes: &[u8; 768]) -> bool
     requires { length notes.now ≡ 768 }
     ensures { result ≡ every (λ d. leb d n) notes.now }
 {
-    let mut any: u8 = 0;
-    let mut k: usize = 0;
-    while k < 768 {
-        any = any | fault(notes[k] <= n);
-        k += 1;
+    let mut all = true;
+    for k in 0..768 {
+        all &= notes[k] <= n;
     }
-    any == 0
+    all
 }

@@ -1,34 +1,45 @@
 // The tasks of a board.
 ghost use Rattle.std.specs.Prelude.{◌≡◌, ℕ, ◌≤◌, ◌<◌, get_or};
-ghost use Rattle.base.specs.Choice.{pick};
-ghost use Rattle.rig_read.specs.Passing.{task_tidy, tasks_tidy, tasks_pass};
+ghost use Rattle.rig_read.specs.Passing.{task_tidy, tasks_tidy, task_passes, tasks_pass};
 
 use board::Board;
 use board::packing::task_of;
 use rig_check::system::last_kind;
 use rig_check::tasks::{origin_ok, task_ok};
 
-// 1 where the first number of a record is not that of what it holds: its state is none of seven.
-fn untidy(v: u64) -> u8
-    ensures { result ≡ pick (task_tidy v) 0 1 }
+// Whether the first number of a record is that of what it holds: its state is one of seven.
+fn is_tidy(v: u64) -> bool
+    ensures { result ≡ task_tidy v }
 {
-    if v % 128 < 7 {
-        return 0;
-    }
-    1
+    v % 128 < 7
 }
 
 // The number of each record is that of what it holds: each is looked at, so that many are looked at at once.
 pub fn tasks_tidy(board: &Board) -> bool
     ensures { result ≡ tasks_tidy board.now }
 {
-    let mut any: u8 = 0;
-    let mut k: usize = 0;
-    while k < 64 {
-        any = any | untidy(board[128 + 2 * k]);
-        k += 1;
+    let mut all = true;
+    for k in 0..64 {
+        all &= is_tidy(board[128 + 2 * k]);
     }
-    any == 0
+    all
+}
+
+// Task k + 1 and its own pointer.
+fn passes_at<'a>(
+    lengths: &'a [u8; 64],
+    codes: &'a [u32; 4096],
+    n: u8,
+    m: u8,
+    board: &'a Board,
+    k: usize,
+) -> bool
+    requires { (k < 64) × (get_or lengths.now k 0 ≤ 64) }
+    ensures { result ≡ task_passes lengths.now codes.now n m board.now k }
+{
+    let x = task_of(board[128 + 2 * k], board[129 + 2 * k], board[256 + k]);
+    let kind = last_kind(lengths, codes, k, x.pc);
+    task_ok(n, m, lengths[k], kind, x) && origin_ok(n, k + 1, x)
 }
 
 // Tasks 1 to m and their own pointers.
@@ -42,16 +53,10 @@ pub fn tasks_ok<'a>(
     requires { (m ≤ 64) × ((k : ℕ) → k < m → get_or lengths.now k 0 ≤ 64) }
     ensures { result ≡ tasks_pass lengths.now codes.now n m board.now }
 {
-    let end = base::wide8(m);
-    let mut k: usize = 0;
-    while k < end {
-        let x = task_of(board[128 + 2 * k], board[129 + 2 * k], board[256 + k]);
-        let kind = last_kind(lengths, codes, k, x.pc);
-        let passes = task_ok(n, m, lengths[k], kind, x);
-        if !base::both(passes, origin_ok(n, k + 1, x)) {
+    for k in 0..m as usize {
+        if !passes_at(lengths, codes, n, m, board, k) {
             return false;
         }
-        k += 1;
     }
     true
 }

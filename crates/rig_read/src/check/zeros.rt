@@ -8,10 +8,8 @@ pub fn zeros_at(b: &[u8], first: usize, count: usize) -> bool
     ensures { result ≡ zeros_at b.now first count }
 {
     let mut any: u8 = 0;
-    let mut k: usize = 0;
-    while k < count {
-        any = any | b[first + k];
-        k += 1;
+    for k in 0..count {
+        any |= b[first + k];
     }
     any == 0
 }

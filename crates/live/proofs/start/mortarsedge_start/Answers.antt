@@ -20,30 +20,30 @@ open-read-requires c = (refl, refl, refl, refl)
 pub returns-then-rig-lt34120 : goal.returns-then-rig-lt34120
 returns-then-rig-lt34120 c =
     let desks = sym c.is_within.ensures ∙ not-false c.is_within.result c.if-not-is_within.false-raw in
-    let file = opened_file c.open-read.ensures c.in-Accepted.is in
+    let file = opened_file c.open-read.ensures c.in-Ok.is in
     short_start _ _ _ desks file c.if-rig-lt34120.true
 
-pub slice_bounds-start_in-end-in-Accepted : goal.slice_bounds-start_in-end-in-Accepted
-slice_bounds-start_in-end-in-Accepted c = sym (held_long c.args.rig.now c.if-rig-lt34120.false)
+pub slice_bounds-start_in-end-in-Ok : goal.slice_bounds-start_in-end-in-Ok
+slice_bounds-start_in-end-in-Ok c = sym (held_long c.args.rig.now c.if-rig-lt34120.false)
 
-pub overflow_cast-processors-in-Accepted : goal.overflow_cast-processors-in-Accepted
-overflow_cast-processors-in-Accepted c =
+pub overflow_cast-processors-in-Ok : goal.overflow_cast-processors-in-Ok
+overflow_cast-processors-in-Ok c =
     let desks = sym c.is_within.ensures ∙ not-false c.is_within.result c.if-not-is_within.false-raw in
     omega (arith, within_high 1 6 c.args.processors desks)
 
 pub start_in-requires : goal.start_in-requires
 start_in-requires c =
     let desks = sym c.is_within.ensures ∙ not-false c.is_within.result c.if-not-is_within.false-raw in
-    starts _ c.open-read.ensures c.in-Accepted.is (held_long c.args.rig.now c.if-rig-lt34120.false) desks
+    starts _ c.open-read.ensures c.in-Ok.is (held_long c.args.rig.now c.if-rig-lt34120.false) desks
 
-pub returns-in-Refused : goal.returns-in-Refused
-returns-in-Refused c =
+pub returns-in-Err : goal.returns-in-Err
+returns-in-Err c =
     let desks = sym c.is_within.ensures ∙ not-false c.is_within.result c.if-not-is_within.false-raw in
-    file_refused _ _ _ desks _ (sym c.open-read.ensures.answered ∙ c.in-Refused.is) c.number-in-Refused.ensures
+    file_refused _ _ _ desks _ (sym c.open-read.ensures.answered ∙ c.in-Err.is) c.number-in-Err.ensures
 
 pub returns-else-rig-lt34120 : goal.returns-else-rig-lt34120
 returns-else-rig-lt34120 c =
     let a = c.args in
     let desks = sym c.is_within.ensures ∙ not-false c.is_within.result c.if-not-is_within.false-raw in
-    let file = opened_file c.open-read.ensures c.in-Accepted.is in
+    let file = opened_file c.open-read.ensures c.in-Ok.is in
     start_shown a.processors a.plan.now a.rig.now desks file c.if-rig-lt34120.false c.start_in.ensures refl

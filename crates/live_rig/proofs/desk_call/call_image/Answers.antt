@@ -9,12 +9,12 @@ pub plan_in-read-requires : goal.plan_in-read-requires
 plan_in-read-requires c = (c.requires, (refl, refl, refl, refl))
 
 pub build-requires : goal.build-requires
-build-requires c = (refl, users_of c.plan_in-read.ensures c.in-Accepted.is)
+build-requires c = (refl, users_of c.plan_in-read.ensures c.in-Ok.is)
 
 pub call_parts-requires : goal.call_parts-requires
 call_parts-requires c =
-    planned c.plan_in-read.ensures c.in-Accepted.is c.requires c.build.ensures
+    planned c.plan_in-read.ensures c.in-Ok.is c.requires c.build.ensures
 
-pub returns-in-Refused : goal.returns-in-Refused
-returns-in-Refused c =
-    rw c.no_call.ensures (bad_call c.args.rig.now c.args.d (refused_plan c.plan_in-read.ensures c.in-Refused.is))
+pub returns-in-Err : goal.returns-in-Err
+returns-in-Err c =
+    rw c.no_call.ensures (bad_call c.args.rig.now c.args.d (refused_plan c.plan_in-read.ensures c.in-Err.is))

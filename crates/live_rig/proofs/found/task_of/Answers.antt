@@ -20,7 +20,7 @@ pub plan_in-read-requires : goal.plan_in-read-requires
 plan_in-read-requires c = (c.requires, (refl, refl, refl, refl))
 
 pub open_parts-o-requires : goal.open_parts-o-requires
-open_parts-o-requires c = (c.requires, plan_of_lem c.plan_in-read.ensures c.in-Accepted.is, blank_room)
+open_parts-o-requires c = (c.requires, plan_of_lem c.plan_in-read.ensures c.in-Ok.is, blank_room)
 
 pub returns-then-not-o : goal.returns-then-not-o
 returns-then-not-o c =
@@ -29,22 +29,22 @@ returns-then-not-o c =
 pub returns-then-not-has_task : goal.returns-then-not-has_task
 returns-then-not-has_task c =
     let passed = not-false c.open_parts-o.result.ok c.if-not-o.false in
-    let plan = plan_here (plan_of_lem c.plan_in-read.ensures c.in-Accepted.is) in
+    let plan = plan_here (plan_of_lem c.plan_in-read.ensures c.in-Ok.is) in
     found_ten _ _ (sound_here c.open_parts-o.ensures passed) (sym (tested c.args.t c.has_task.ensures plan) ∙ not-true c.has_task.result c.if-not-has_task.true-raw) c.refused-then-not-has_task.ensures
 
 pub task_at-x-requires : goal.task_at-x-requires
 task_at-x-requires c =
     let passed = not-false c.open_parts-o.result.ok c.if-not-o.false in
-    let plan = plan_here (plan_of_lem c.plan_in-read.ensures c.in-Accepted.is) in
+    let plan = plan_here (plan_of_lem c.plan_in-read.ensures c.in-Ok.is) in
     (one_of_64 _ _ (passed_here c.open_parts-o.ensures passed) (sym (tested c.args.t c.has_task.ensures plan) ∙ not-false c.has_task.result c.if-not-has_task.false-raw)).1
 
-pub returns-in-Refused : goal.returns-in-Refused
-returns-in-Refused c = found_nine _ _ (refused_plan c.plan_in-read.ensures c.in-Refused.is) c.refused.ensures
+pub returns-in-Err : goal.returns-in-Err
+returns-in-Err c = found_nine _ _ (refused_plan c.plan_in-read.ensures c.in-Err.is) c.refused.ensures
 
 pub returns-else-not-has_task : goal.returns-else-not-has_task
 returns-else-not-has_task c =
     let h = c.open_parts-o.ensures in
     let passed = not-false c.open_parts-o.result.ok c.if-not-o.false in
-    let plan = plan_here (plan_of_lem c.plan_in-read.ensures c.in-Accepted.is) in
+    let plan = plan_here (plan_of_lem c.plan_in-read.ensures c.in-Ok.is) in
     found _ _ (sound_here h passed) (sym (tested c.args.t c.has_task.ensures plan) ∙ not-false c.has_task.result c.if-not-has_task.false-raw) refl
     (c.task_at-x.ensures ∙ ap (λ (ts : TaskTable). task_in ts c.args.t) (tasks_here h passed))

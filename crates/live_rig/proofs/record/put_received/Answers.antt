@@ -2,9 +2,9 @@
 use Rattle.rules.specs.Logs.{log_record}
 use Rattle.live_rig.proofs.record.put_received.Goals as goal
 
-pub returns-in-Nothing : goal.returns-in-Nothing
-returns-in-Nothing c = rw c.in-Nothing.is c.put_numbers.ensures
+pub returns-in-None : goal.returns-in-None
+returns-in-None c = rw c.in-None.is c.put_numbers.ensures
 
-pub returns-in-Word : goal.returns-in-Word
+pub returns-in-Some : goal.returns-in-Some
 unfolding log_record
-returns-in-Word c = rw c.in-Word.is c.put_numbers-in-Word.ensures
+returns-in-Some c = rw c.in-Some.is c.put_numbers-in-Some.ensures

@@ -3,4 +3,4 @@ use native.Mathlib.Omega.{arith}
 use Rattle.rig_read.proofs.numbers.number2.Goals as goal
 
 pub returns : goal.returns
-returns c = rw two_bytes (omega arith)
+returns c = rw two_bytes (omega (arith, c.from_le_bytes.ensures))

@@ -8,4 +8,4 @@ pub returns : goal.returns
 unfolding message_at
 returns c =
     c.letter_of.ensures
-    ∙ rw (c.number8-w.ensures, c.number8-v.ensures) (sym (letter_in_lem c.args.rig.now _ (omega (arith, c.requires))))
+    ∙ rw (c.number8-2.ensures, c.number8.ensures) (sym (letter_in_lem c.args.rig.now _ (omega (arith, c.requires))))

@@ -1,4 +1,3 @@
-use Prim.Native.Nat.{◌-◌}
 use native.Mathlib.Omega.{arith}
 use Rattle.image.specs.Numbers.{numbers_at}
 use Rattle.image.specs.Image.{board_in}
@@ -6,13 +5,13 @@ use Rattle.rig_read.proofs.Filling.{filled_none, filled_more, filled_all}
 use Rattle.rig_read.proofs.parts.read_board.Goals as goal
 
 pub loop-k-init : goal.loop-k-init
-loop-k-init c = (omega arith, filled_none c.requires.1)
+loop-k-init c = filled_none c.requires.1
 
 pub loop-k-preserved : goal.loop-k-preserved
 loop-k-preserved c =
     let l = c.loop-k in
-    (omega arith, filled_more l.invariant.1 (omega arith) c.number8.result c.number8.ensures)
+    filled_more l.invariant (omega arith) c.number8.result c.number8.ensures
 
 pub returns : goal.returns
 unfolding board_in numbers_at
-returns c = filled_all (omega arith) c.loop-k.invariant.1
+returns c = filled_all (omega arith) c.loop-k.invariant

@@ -1,10 +1,7 @@
-use Prim.Native.Nat.{◌+◌, ◌-◌, ◌*◌, ◌≤◌}
+use Prim.Native.Nat.{◌+◌, ◌*◌}
 use Rattle.image.specs.Numbers.{number_at}
 use Rattle.rig_read.proofs.Filling.{Filled}
 use Rattle.rig_read.proofs.parts.read_counts.Given as goal
 
 abbrev pub invariant-loop-k : goal.invariant-loop-k
-invariant-loop-k l = (l.k ≤ 768) × Filled 0 768 l.k (λ i. number_at 2 l.rig (l.at + 2 * i)) l.table
-
-abbrev pub decreases-loop-k : goal.decreases-loop-k
-decreases-loop-k l = 768 - l.k
+invariant-loop-k l = Filled 0 768 l.k (λ i. number_at 2 l.rig (l.at + 2 * i)) l.table

@@ -1,5 +1,4 @@
 use mathlib.Core.Path.{refl}
-use Prim.Native.Nat.{◌-◌}
 use native.Mathlib.Omega.{arith}
 use Rattle.network.proofs.Posted.{few_rounds}
 use Rattle.rig_write.proofs.Posts.{no_round, next_round, all_rounds, round_room}

@@ -1,11 +1,8 @@
--- `put2`: the stores are the bytes of a number.
-use native.Mathlib.Omega.{arith}
-use lib.ListN.{length-set}
-use Rattle.rig_write.proofs.Puts.{stores2}
+use mathlib.Core.Path.{ap, ◌∙◌}
+use Rattle.plan_write.specs.output.Output.{overlay}
+use Rattle.rig_write.proofs.Puts.{le2}
 use Rattle.rig_write.proofs.numbers.put2.Goals as goal
 
-pub bounds-b-at-2 : goal.bounds-b-at-2
-bounds-b-at-2 c = simp length-set (omega arith)
-
 pub returns : goal.returns
-returns c = let a = c.args in stores2 a.b.now a.at a.n c.requires
+returns c =
+    let a = c.args in c.put_bytes.ensures ∙ ap (overlay a.b.now a.at) (c.to_le_bytes.ensures ∙ le2 a.n)

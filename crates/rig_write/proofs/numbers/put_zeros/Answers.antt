@@ -1,22 +1,13 @@
-use mathlib.Core.Path.{◌≡◌, refl, ap, ◌∙◌}
-use Prim.Native.Nat.{ℕ, ◌+◌, ◌-◌}
+use mathlib.Core.Path.{◌∙◌}
+use Prim.Native.Nat.{◌+◌}
 use native.Mathlib.Omega.{arith}
-use lib.ListN.{replicate, length-set}
-use Rattle.plan_write.specs.output.Output.{overlay}
-use Rattle.rig_write.proofs.Puts.{none_put, zeros_step}
 use borrow.Author.Rules.{rules}
+use Rattle.std.proofs.lemmas.List.Edits.{length-between}
+use Rattle.rig_write.proofs.Puts.{zeros_put}
 use Rattle.rig_write.proofs.numbers.put_zeros.Goals as goal
-
-pub loop-k-init : goal.loop-k-init
-loop-k-init c = (search rules, refl, none_put c.args.b.now c.args.at)
-
-pub loop-k-preserved : goal.loop-k-preserved
-loop-k-preserved c =
-    let a = c.args in
-    (omega arith, length-set c.loop-k.b (a.at + c.loop-k.k) 0 ∙ c.loop-k.invariant.1, zeros_step a.b.now c.loop-k.b a.at c.loop-k.k (omega arith) c.loop-k.invariant.2)
 
 pub returns : goal.returns
 returns c =
     let a = c.args in
-    let e : c.loop-k.k ≡ a.n = omega arith in
-    c.loop-k.invariant.2 ∙ ap (λ (k : ℕ). overlay a.b.now a.at (replicate k 0)) e
+    zeros_put a.b.now _ a.at a.n _ _ (c.fill.ensures.after (search rules))
+    (length-between a.b.now a.at (a.at + a.n) c.requires ∙ omega arith) (omega arith)

@@ -1,6 +1,6 @@
 -- `put_moves`. The loop's invariant: the first k numbers are put.
 use mathlib.Core.Path.{◌≡◌}
-use Prim.Native.Nat.{◌≤◌, ◌-◌}
+use Prim.Native.Nat.{◌≤◌}
 use lib.ListN.{length, get_or}
 use Rattle.base.specs.Lists.{table}
 use Rattle.plan_write.specs.output.Output.{overlay}
@@ -10,6 +10,3 @@ use Rattle.rig_write.proofs.sections.put_moves.Given as goal
 abbrev pub invariant-loop-k : goal.invariant-loop-k
 invariant-loop-k l =
     (l.k ≤ length l.moves) × (length l.rig ≡ length l.initial.rig) × (l.rig ≡ overlay l.initial.rig l.at (numbers_bytes 2 (table l.k (λ j. get_or l.moves j 0))))
-
-abbrev pub decreases-loop-k : goal.decreases-loop-k
-decreases-loop-k l = length l.moves - l.k

@@ -1,6 +1,6 @@
 -- `put_sets`. The loop's invariant: the first k numbers are put.
 use mathlib.Core.Path.{◌≡◌}
-use Prim.Native.Nat.{◌≤◌, ◌-◌}
+use Prim.Native.Nat.{◌≤◌}
 use lib.ListN.{length}
 use Rattle.base.specs.Lists.{table}
 use Rattle.plan_write.specs.output.Output.{overlay}
@@ -11,6 +11,3 @@ use Rattle.rig_write.proofs.sections.put_sets.Given as goal
 abbrev pub invariant-loop-k : goal.invariant-loop-k
 invariant-loop-k l =
     (l.k ≤ 6) × (length l.rig ≡ length l.initial.rig) × (l.rig ≡ overlay l.initial.rig 25368 (numbers_bytes 8 (table l.k (set_on l.board))))
-
-abbrev pub decreases-loop-k : goal.decreases-loop-k
-decreases-loop-k l = 6 - l.k

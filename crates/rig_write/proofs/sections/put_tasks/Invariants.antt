@@ -1,6 +1,6 @@
 -- `put_tasks`. The loop's invariant: the first k pairs of numbers are put.
 use mathlib.Core.Path.{◌≡◌}
-use Prim.Native.Nat.{◌≤◌, ◌-◌}
+use Prim.Native.Nat.{◌≤◌}
 use lib.ListN.{length}
 use Rattle.base.specs.Range.{joined}
 use Rattle.plan_write.specs.output.Output.{overlay}
@@ -11,6 +11,3 @@ use Rattle.rig_write.proofs.sections.put_tasks.Given as goal
 abbrev pub invariant-loop-k : goal.invariant-loop-k
 invariant-loop-k l =
     (l.k ≤ 64) × (length l.rig ≡ length l.initial.rig) × (l.rig ≡ overlay l.initial.rig 17688 (numbers_bytes 8 (joined l.k (task_at l.board))))
-
-abbrev pub decreases-loop-k : goal.decreases-loop-k
-decreases-loop-k l = 64 - l.k

@@ -1,6 +1,6 @@
 -- `put_words`. The loop's invariant: the first k numbers are put.
 use mathlib.Core.Path.{◌≡◌}
-use Prim.Native.Nat.{◌≤◌, ◌-◌}
+use Prim.Native.Nat.{◌≤◌}
 use lib.ListN.{length}
 use Rattle.base.specs.Lists.{table}
 use Rattle.plan_write.specs.output.Output.{overlay}
@@ -11,6 +11,3 @@ use Rattle.rig_write.proofs.sections.put_words.Given as goal
 abbrev pub invariant-loop-k : goal.invariant-loop-k
 invariant-loop-k l =
     (l.k ≤ 64) × (length l.rig ≡ length l.initial.rig) × (l.rig ≡ overlay l.initial.rig 18712 (numbers_bytes 8 (table l.k (word_at l.board))))
-
-abbrev pub decreases-loop-k : goal.decreases-loop-k
-decreases-loop-k l = 64 - l.k

@@ -1,5 +1,4 @@
 use mathlib.Core.Path.{◌≡◌, sym, ◌∙◌}
-use Prim.Native.Nat.{◌-◌}
 use native.Mathlib.Omega.{arith}
 use lib.ListN.{get_or}
 use Rattle.base.proofs.Tests.{below_none, below_more, below_fails}
@@ -7,7 +6,7 @@ use Rattle.rig_read.specs.Passing.{channel_passes, channels_pass}
 use Rattle.rig_read.proofs.check.entries.channels_ok.Goals as goal
 
 pub loop-k-init : goal.loop-k-init
-loop-k-init c = (omega arith, below_none _)
+loop-k-init c = below_none _
 
 pub returns-then-not-channel_ok : goal.returns-then-not-channel_ok
 unfolding channels_pass
@@ -19,11 +18,11 @@ returns-then-not-channel_ok c =
 pub loop-k-preserved : goal.loop-k-preserved
 loop-k-preserved c =
     let l = c.loop-k in
-    (omega arith, below_more _ l.k l.invariant.1 (sym c.channel_ok.ensures ∙ c.if-not-channel_ok.false))
+    below_more _ l.k l.invariant (sym c.channel_ok.ensures ∙ c.if-not-channel_ok.false)
 
 pub returns : goal.returns
 unfolding channels_pass
 returns c =
     let l = c.loop-k in
     let e : l.k ≡ 128 = omega arith in
-    sym (rw e at l.invariant.1)
+    sym (rw e at l.invariant)

@@ -1,12 +1,8 @@
 use mathlib.Core.Path.{◌≡◌}
 use mathlib.Core.Bool.{true}
-use Prim.Native.Nat.{◌-◌, ◌≤◌}
 use Rattle.base.specs.Range.{below}
 use Rattle.rig_read.specs.Passing.{block_passes}
 use Rattle.rig_read.proofs.check.entries.parents_ok.Given as goal
 
 abbrev pub invariant-loop-b : goal.invariant-loop-b
-invariant-loop-b l = (l.b ≤ 24) × (below l.b (block_passes l.n l.m l.board) ≡ true)
-
-abbrev pub decreases-loop-b : goal.decreases-loop-b
-decreases-loop-b l = 24 - l.b
+invariant-loop-b l = below l.b (block_passes l.n l.m l.board) ≡ true

@@ -1,5 +1,4 @@
 use mathlib.Core.Path.{◌≡◌, sym, ◌∙◌}
-use Prim.Native.Nat.{◌-◌}
 use native.Mathlib.Omega.{arith}
 use Rattle.base.proofs.Tests.{below_none, below_more}
 use Rattle.rig_read.proofs.Mail.{mail_over, mail_stops, mail_ends}
@@ -9,7 +8,7 @@ pub returns-then-used-gt256 : goal.returns-then-used-gt256
 returns-then-used-gt256 c = let a = c.args in mail_over a.n a.m a.rig.now (omega (arith, c.requires.1, c.if-used-gt256.true))
 
 pub loop-k-init : goal.loop-k-init
-loop-k-init c = (omega arith, below_none _)
+loop-k-init c = below_none _
 
 pub returns-then-not-slot_ok : goal.returns-then-not-slot_ok
 returns-then-not-slot_ok c =
@@ -21,7 +20,7 @@ pub loop-k-preserved : goal.loop-k-preserved
 loop-k-preserved c =
     let a = c.args in
     let e = rw (c.number8-v.ensures, c.number8-w.ensures) at c.slot_ok.ensures in
-    (omega arith, below_more _ c.loop-k.k c.loop-k.invariant.1 (sym e ∙ c.if-not-slot_ok.false))
+    below_more _ c.loop-k.k c.loop-k.invariant (sym e ∙ c.if-not-slot_ok.false)
 
 pub returns : goal.returns
 returns c =
@@ -30,4 +29,4 @@ returns c =
     let u = c.requires.1 in
     let q : l.k ≡ a.used = omega arith in
     c.zeros_at.ensures
-    ∙ rw u (mail_ends a.n a.m a.rig.now (omega arith) (rw (← u) (rw q at l.invariant.1)))
+    ∙ rw u (mail_ends a.n a.m a.rig.now (omega arith) (rw (← u) (rw q at l.invariant)))

@@ -1,5 +1,4 @@
 use mathlib.Core.Path.{◌≡◌, sym, ◌∙◌}
-use Prim.Native.Nat.{◌-◌}
 use native.Mathlib.Omega.{arith}
 use borrow.Author.Tests.{eq-eqb, ne_eqb}
 use Rattle.base.proofs.Tests.{below_none, below_more, below_fails}
@@ -9,7 +8,7 @@ use Rattle.rig_read.proofs.check.ready.ready_ok.Invariants.{set_ok}
 use Rattle.rig_read.proofs.check.ready.ready_ok.Goals as goal
 
 pub loop-d-init : goal.loop-d-init
-loop-d-init c = (omega arith, below_none _)
+loop-d-init c = below_none _
 
 pub returns-then-board-d : goal.returns-then-board-d
 unfolding ready_ok
@@ -22,11 +21,11 @@ pub loop-d-preserved : goal.loop-d-preserved
 loop-d-preserved c =
     let a = c.args in
     let e = compared a.board.now a.m c.ready_sets-sets.ensures c.loop-d.d (omega arith) in
-    (omega arith, below_more _ _ c.loop-d.invariant.1 (sym e ∙ eq-eqb _ _ c.if-board-d.false))
+    below_more _ _ c.loop-d.invariant (sym e ∙ eq-eqb _ _ c.if-board-d.false)
 
 pub returns : goal.returns
 unfolding ready_ok
 returns c =
     let l = c.loop-d in
     let e : l.d ≡ 6 = omega arith in
-    sym (rw e at l.invariant.1)
+    sym (rw e at l.invariant)

@@ -1,7 +1,7 @@
 use mathlib.Core.Path.{◌≡◌}
 use mathlib.Core.Bool.{Bool, true}
 use mathlib.Core.List.{List}
-use Prim.Native.Nat.{ℕ, suc, ◌-◌, ◌≤◌}
+use Prim.Native.Nat.{ℕ, suc}
 use lib.Dec.{eqb}
 use lib.ListN.{get_or}
 use Rattle.base.specs.Range.{below}
@@ -14,7 +14,4 @@ abbrev pub set_ok : ℕ → List ℕ → ℕ → Bool
 set_ok m board k = eqb (get_or (tasks_on board).ready k 0) (ready_at m board (suc k))
 
 abbrev pub invariant-loop-d : goal.invariant-loop-d
-invariant-loop-d l = (l.d ≤ 6) × (below l.d (set_ok l.m l.board) ≡ true)
-
-abbrev pub decreases-loop-d : goal.decreases-loop-d
-decreases-loop-d l = 6 - l.d
+invariant-loop-d l = below l.d (set_ok l.m l.board) ≡ true

@@ -1,6 +1,6 @@
-use mathlib.Core.Path.{◌≡◌, refl, sym, ◌∙◌}
+use mathlib.Core.Path.{◌≡◌, sym, ◌∙◌}
 use mathlib.Core.Bool.{Bool}
-use Prim.Native.Nat.{ℕ, ◌-◌}
+use Prim.Native.Nat.{ℕ}
 use native.Mathlib.Omega.{arith}
 use lib.ListN.{get_or}
 use Rattle.rig_read.proofs.Zeros.{tests_none, tests_more}
@@ -13,19 +13,18 @@ use Rattle.rig_read.proofs.check.tables.hints_ok.Goals as goal
 pub loop-k-init : goal.loop-k-init
 loop-k-init c =
     let a = c.args in
-    (omega arith, tests_none (λ i. hint_ok a.n (hint (processor_id (get_or a.processors.now i 0)) (get_or a.moves.now i 0))))
+    tests_none (λ i. hint_ok a.n (hint (processor_id (get_or a.processors.now i 0)) (get_or a.moves.now i 0)))
 
 pub loop-k-preserved : goal.loop-k-preserved
 loop-k-preserved c =
     let l = c.loop-k in
     let a = c.args in
     let p : ℕ → Bool = λ i. hint_ok a.n (hint (processor_id (get_or a.processors.now i 0)) (get_or a.moves.now i 0)) in
-    let e : c.entry_ok-ok.result ≡ p l.k = c.entry_ok-ok.ensures ∙ rw c.wide16.ensures refl in
-    (omega arith, tests_more p l.k l.any l.invariant.1 e c.fault-any.ensures)
+    tests_more p l.k l.invariant c.entry_ok-all.ensures
 
 pub returns : goal.returns
 returns c =
     let l = c.loop-k in
     let e : l.k ≡ 768 = omega arith in
-    (rw e at l.invariant.1)
+    (rw e at l.invariant)
     ∙ sym (every_entries (λ d k. hint_ok c.args.n (hint (processor_id d) k)) 768 c.args.processors.now c.args.moves.now 0 0 c.requires.0 c.requires.1)

@@ -1,6 +1,4 @@
 use mathlib.Core.Path.{◌≡◌}
-use Prim.Native.Nat.{◌-◌, ◌≤◌}
-use lib.Dec.{eqb}
 use lib.ListN.{get_or}
 use Rattle.base.specs.Range.{below}
 use Rattle.rules.specs.Numbers.{processor_id}
@@ -10,7 +8,4 @@ use Rattle.rig_read.proofs.check.tables.offers_ok.Given as goal
 
 abbrev pub invariant-loop-k : goal.invariant-loop-k
 invariant-loop-k l =
-    (l.k ≤ 768) × (eqb l.any 0 ≡ below l.k (λ i. offer_ok l.n (offer (processor_id (get_or l.processors i 0)) (get_or l.numbers i 0))))
-
-abbrev pub decreases-loop-k : goal.decreases-loop-k
-decreases-loop-k l = 768 - l.k
+    l.all ≡ below l.k (λ i. offer_ok l.n (offer (processor_id (get_or l.processors i 0)) (get_or l.numbers i 0)))

@@ -1,10 +1,7 @@
-use Prim.Native.Nat.{◌+◌, ◌-◌, ◌≤◌}
+use Prim.Native.Nat.{◌+◌}
 use lib.ListN.{get_or}
 use Rattle.rig_read.proofs.Zeros.{AllZero}
 use Rattle.rig_read.proofs.check.zeros.zeros_at.Given as goal
 
 abbrev pub invariant-loop-k : goal.invariant-loop-k
-invariant-loop-k l = (l.k ≤ l.count) × AllZero (λ i. get_or l.b (l.first + i) 0) l.k l.any
-
-abbrev pub decreases-loop-k : goal.decreases-loop-k
-decreases-loop-k l = l.count - l.k
+invariant-loop-k l = AllZero (λ i. get_or l.b (l.first + i) 0) l.k l.any
