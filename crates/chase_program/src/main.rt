@@ -3,41 +3,30 @@
 // count of forwarding deliveries; or `refused` and the number, and then no file is touched.
 #![tactic(auto)]
 
-use chase::ChaseAnswer;
-use chase::number::Number;
+use chase::ChaseRefusal;
+use chase::number::{Number, read_on};
+use show_files::answers::print_refusal;
 use std::fs::{File, OpenFile};
 use std::io::{Read, Write};
 use std::rt::Files;
 use std::{fs, io};
 
-// What is read next of the number. The end of the input ends it.
-fn read_some(input: &mut impl Read, x: Number) -> Number {
-    let mut text = [0u8; 4096];
-    let size = input.read(&mut text).unwrap_or(0);
-    if size == 0 {
-        return Number {
-            value: x.value,
-            more: false,
-        };
-    }
-    chase::number::read_on(x, &text[..size])
-}
-
-// The number, read to its end: no input has as many parts as there are turns.
+// The number, read in parts to its end, which is also the end of the input. No input has as many parts as there are
+// turns.
 fn read_number(input: &mut impl Read) -> u16 {
-    let mut x = Number {
+    let mut text = [0u8; 4096];
+    let mut number = Number {
         value: 0,
         more: true,
     };
-    let mut k: u64 = 0;
-    while k < 1000000000000000000 {
-        if !x.more {
-            return x.value;
+    for _ in 0..u64::MAX {
+        let size = input.read(&mut text).unwrap_or(0);
+        number = read_on(number, &text[..size]);
+        if size == 0 || !number.more {
+            break;
         }
-        x = read_some(input, x);
-        k += 1;
     }
-    x.value
+    number.value
 }
 
 // The bytes become a file; an error where not all of them are written.
@@ -47,83 +36,44 @@ fn save(rt: &impl Files, name: &str, bytes: &[u8]) -> io::Result<()> {
     file.sync_all()
 }
 
-// It is said which file failed and why, and nothing is left of what was written.
-fn give_up(rt: &(impl Files + Eprint), name: &str, why: io::Error) {
-    show_files::fail(rt, name, why);
-    let _ = fs::remove_file(rt, "rig.plan.new");
-    let _ = fs::remove_file(rt, "rig.steps.new");
+// Both files are written under other names and renamed when both are whole; or which file failed, and why.
+fn keep(rt: &impl Files, plan: &[u8], steps: &[u8]) -> Result<(), (&'static str, io::Error)> {
+    save(rt, "rig.plan.new", plan).map_err(|why| ("rig.plan", why))?;
+    save(rt, "rig.steps.new", steps).map_err(|why| ("rig.steps", why))?;
+    fs::rename(rt, "rig.plan.new", "rig.plan").map_err(|why| ("rig.plan", why))?;
+    fs::rename(rt, "rig.steps.new", "rig.steps").map_err(|why| ("rig.steps", why))
 }
 
-// Both files are written under other names and renamed when both are whole: whether they are.
-fn keep(rt: &(impl Files + Eprint), plan: &[u8], steps: &[u8]) -> bool {
-    if let Err(e) = save(rt, "rig.plan.new", plan) {
-        give_up(rt, "rig.plan", e);
-        return false;
-    }
-    if let Err(e) = save(rt, "rig.steps.new", steps) {
-        give_up(rt, "rig.steps", e);
-        return false;
-    }
-    if let Err(e) = fs::rename(rt, "rig.plan.new", "rig.plan") {
-        give_up(rt, "rig.plan", e);
-        return false;
-    }
-    if let Err(e) = fs::rename(rt, "rig.steps.new", "rig.steps") {
-        give_up(rt, "rig.steps", e);
-        return false;
-    }
-    true
-}
-
-fn print_refusal(rt: &impl Print, number: u64) -> io::Result<()> {
-    println!(rt; "refused {number}")
-}
-
-fn print_count(rt: &impl Print, m: u64) -> io::Result<()> {
-    println!(rt; "{m}")
-}
-
-// The steps are the first `size` bytes.
-fn keep_first(rt: &(impl Files + Eprint), plan: &[u8], steps: &[u8], size: usize) -> bool {
-    if steps.len() < size {
-        return false;
-    }
-    keep(rt, plan, &steps[..size])
-}
-
-// The count of forwards is printed when both files are there.
+// The count of forwards is printed when both files are there. Else it is said which failed and why, and nothing is left of what
+// was written.
 fn keep_chase(
     rt: &(impl Files + Print + Eprint),
     m: u64,
     plan: &[u8],
     steps: &[u8],
-    size: usize,
 ) -> io::Result<()> {
-    if !keep_first(rt, plan, steps, size) {
-        return Ok(());
-    }
-    print_count(rt, m)
-}
-
-fn say(
-    rt: &(impl Files + Print + Eprint),
-    m: u64,
-    answer: ChaseAnswer,
-    plan: &[u8],
-    steps: &[u8],
-) -> io::Result<()> {
-    match answer {
-        ChaseAnswer::Written(size) => keep_chase(rt, m, plan, steps, size),
-        ChaseAnswer::TooMany => print_refusal(rt, 26),
-        ChaseAnswer::OutputShort => print_refusal(rt, 20),
+    match keep(rt, plan, steps) {
+        Ok(()) => println!(rt; "{m}"),
+        Err((name, why)) => {
+            show_files::fail(rt, name, why);
+            let _ = fs::remove_file(rt, "rig.plan.new");
+            let _ = fs::remove_file(rt, "rig.steps.new");
+            Ok(())
+        }
     }
 }
 
 // The buffers are as long as the plan, and longer than the steps of any chase, of 6,044 bytes.
 fn main(rt: HostRuntime) -> io::Result<()> {
-    let m = read_number(&mut rt.reader()) as u64;
+    let m = u64::from(read_number(&mut rt.reader()));
     let mut plan = [0u8; 32];
     let mut steps = [0u8; 65536];
-    let answer = chase::write_chase(m, &mut plan, &mut steps);
-    say(&rt, m, answer, &plan, &steps)
+    match chase::write_chase(m, &mut plan, &mut steps) {
+        Ok(size) => match steps.get(..size) {
+            Some(written) => keep_chase(&rt, m, &plan, written),
+            None => Ok(()),
+        },
+        Err(ChaseRefusal::TooMany) => print_refusal(&rt, 26),
+        Err(ChaseRefusal::OutputShort) => print_refusal(&rt, 20),
+    }
 }

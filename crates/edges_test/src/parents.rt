@@ -1,11 +1,11 @@
 // What 9 says of pointers to parents, at its limits, and a parent that moves while its child finishes.
 ghost use Rattle.std.specs.Prelude.{◌<◌};
 
-use crate::rigs::{is_after, take_step};
+use crate::rigs::{answer, deliver, depart, run, take_step};
 use crate::say;
 use plan::{ProcessorId, TaskId};
 use rules::channel::Hint;
-use rules::message::{Message, Slot};
+use rules::message::Message;
 use rules::system::System;
 use std::io;
 
@@ -13,7 +13,7 @@ use std::io;
 fn pointer(desk: u8, moves: u16) -> Hint {
     Hint {
         processor: ProcessorId(desk),
-        moves: moves,
+        moves,
     }
 }
 
@@ -29,14 +29,8 @@ fn own(
 ) -> io::Result<()>
     requires { k < 64 }
 {
-    let h = pointer(desk, moves);
-    let mut tasks = r.tasks;
-    let mut x = tasks.records[k];
-    x.origin = h;
-    tasks.records[k] = x;
-    r.tasks = tasks;
-    let a = take_step(r, 1, 2, 0);
-    say(rt, what, a.number == number)
+    r.tasks.records[k].origin = pointer(desk, moves);
+    say(rt, what, answer(r, run(2)) == number)
 }
 
 // With this entry of desk 6 for task 64, the last, a pointer and held children, a run of task 2 is answered so.
@@ -49,13 +43,10 @@ fn entry(
     held: u64,
     number: u8,
 ) -> io::Result<()> {
-    let mut parents = r.parents;
-    parents.hintprocessors[383] = desk;
-    parents.hintmoves[383] = moves;
-    parents.held[383] = held;
-    r.parents = parents;
-    let a = take_step(r, 1, 2, 0);
-    say(rt, what, a.number == number)
+    r.parents.hintprocessors[383] = desk;
+    r.parents.hintmoves[383] = moves;
+    r.parents.held[383] = held;
+    say(rt, what, answer(r, run(2)) == number)
 }
 
 // The ended letter of task 2 to this desk with this count, the only letter, is answered so.
@@ -67,14 +58,9 @@ fn ended(
     moves: u16,
     number: u8,
 ) -> io::Result<()> {
-    let h = pointer(desk, moves);
-    let letter = Message::Terminated(h, TaskId(2));
-    let mut network = r.network;
-    network.slots[0] = Slot { message: letter };
-    network.used = 1;
-    r.network = network;
-    let a = take_step(r, 2, 0, 1);
-    say(rt, what, a.number == number)
+    r.network.slots[0].message = Message::Terminated(pointer(desk, moves), TaskId(2));
+    r.network.used = 1;
+    say(rt, what, answer(r, deliver(1)) == number)
 }
 
 // Own pointers: "both 0 for an unborn task, and always for task 1", else in range. In the second rig task 2 is born.
@@ -145,35 +131,27 @@ fn ended_letters(rt: &impl Print, born: System) -> io::Result<()> {
 // Task 1 moves to desk 2 while task 2 lives; task 2 finishes. Its letter comes before task 1, and is held there until task 1
 // arrives. Where task 1 comes first, it has its child until the letter comes.
 fn moving_parent(rt: &impl Print, born: System) -> io::Result<()> {
-    let a = take_step(born, 3, 1, 2);
-    say(rt, "a task with a living child moves", is_after(a, 0, 2))?;
-    let left = a.system;
-    let b = take_step(left, 1, 2, 0);
-    say(rt, "its child finishes elsewhere", is_after(b, 0, 2))?;
-    let posted = b.system;
-    let c = take_step(posted, 2, 0, 2);
-    say(rt, "the ended letter comes first", is_after(c, 0, 2))?;
-    let held = c.system;
-    let d = take_step(held, 2, 0, 1);
-    say(rt, "the parent arrives", is_after(d, 0, 2))?;
-    let there = d.system;
-    let e = take_step(there, 1, 1, 0);
-    say(rt, "and finishes: no child is left", is_after(e, 0, 2))?;
-    let f = take_step(posted, 2, 0, 1);
-    say(rt, "the parent comes first", is_after(f, 0, 2))?;
-    let early = f.system;
-    let g = take_step(early, 1, 1, 0);
-    say(
+    let left = take_step(
         rt,
-        "and has its child until the letter comes: 12",
-        is_after(g, 12, 2),
-    )
+        "a task with a living child moves",
+        born,
+        depart(2),
+        0,
+        2,
+    )?;
+    let posted = take_step(rt, "its child finishes elsewhere", left, run(2), 0, 2)?;
+    let held = take_step(rt, "the ended letter comes first", posted, deliver(2), 0, 2)?;
+    let there = take_step(rt, "the parent arrives", held, deliver(1), 0, 2)?;
+    let _ = take_step(rt, "and finishes: no child is left", there, run(1), 0, 2)?;
+    let early = take_step(rt, "the parent comes first", posted, deliver(1), 0, 2)?;
+    let what = "and has its child until the letter comes: 12";
+    let _ = take_step(rt, what, early, run(1), 12, 2)?;
+    Ok(())
 }
 
 // Of a rig of two desks at its start, in which task 1 creates task 2.
 pub fn edges(rt: &impl Print, start: System) -> io::Result<()> {
-    let a = take_step(start, 1, 1, 0);
-    let born = a.system;
+    let born = rig_step::step(start, run(1)).system;
     own_pointers(rt, start, born)?;
     entries(rt, born)?;
     ended_letters(rt, born)?;

@@ -1,18 +1,45 @@
 // Rigs that are changed by hand, and one step of them: the last move of a task, an unborn task with a mark.
 use crate::say;
-use plan::{CREATE, FINISH, Instruction, Plan, PlanAnswer};
+use plan::{CREATE, FINISH, Instruction, Plan};
 use rules::step::Step;
 use rules::system::System;
 use std::io;
 
+// A run of a task.
+pub fn run(task: u8) -> Step {
+    Step {
+        kind: 1,
+        task,
+        number: 0,
+    }
+}
+
+// The delivery of the letter at a place of the mail.
+pub fn deliver(number: u16) -> Step {
+    Step {
+        kind: 2,
+        task: 0,
+        number,
+    }
+}
+
+// The departure of task 1 to a desk.
+pub fn depart(desk: u16) -> Step {
+    Step {
+        kind: 3,
+        task: 1,
+        number: desk,
+    }
+}
+
 // The four bytes of an instruction on no level.
 fn code(opcode: u8, operand: u16) -> u32 {
-    let i = Instruction {
-        opcode: opcode,
+    let instruction = Instruction {
+        opcode,
         level: 0,
-        operand: operand,
+        operand,
     };
-    i.code()
+    instruction.code()
 }
 
 // A plan of one task that only finishes.
@@ -23,72 +50,51 @@ fn single_finish() -> Plan {
     codes[0] = code(FINISH, 0);
     Plan {
         tasks: 1,
-        lengths: lengths,
-        codes: codes,
+        lengths,
+        codes,
     }
 }
 
-// The rig with this move count of task 1.
-fn with_moves(mut r: System, moves: u16) -> System {
-    let mut tasks = r.tasks;
-    let mut first = tasks.records[0];
-    first.moves = moves;
-    tasks.records[0] = first;
-    r.tasks = tasks;
-    r
-}
-
-// What a step was answered, the move count of task 1 then, and the rig then.
-#[derive(Clone, Copy)]
-pub struct After {
-    pub number: u8,
-    pub moves: u16,
-    pub system: System,
-}
-
-pub fn take_step(r: System, kind: u8, task: u8, number: u16) -> After {
-    let s = Step {
-        kind: kind,
-        task: task,
-        number: number,
+// The rig at the start of a plan on two desks, if that is accepted.
+fn start(plan: Plan) -> Option<System> {
+    let Ok(()) = plan_value::check(plan) else {
+        return None;
     };
-    let q = rig_step::step(r, s);
-    let report = q.report;
-    let answer = report.answer;
-    let system = q.system;
-    let tasks = system.tasks;
-    let first = tasks.records[0];
-    After {
-        number: trace::answer_number(answer),
-        moves: first.moves,
-        system: system,
-    }
+    Some(rig::start::start(2, plan, plan_index::ends::derive(plan)))
 }
 
-pub fn is_after(a: After, number: u8, moves: u16) -> bool {
-    if a.number != number {
-        return false;
-    }
-    a.moves == moves
+// What the step is answered.
+pub fn answer(r: System, step: Step) -> u8 {
+    trace::answer_number(rig_step::step(r, step).report.answer)
+}
+
+// A step is answered so and leaves task 1 with this move count: the rig then.
+pub fn take_step(
+    rt: &impl Print,
+    what: &str,
+    r: System,
+    step: Step,
+    number: u8,
+    moves: u16,
+) -> io::Result<System> {
+    let stepped = rig_step::step(r, step);
+    let answered = trace::answer_number(stepped.report.answer) == number;
+    let left = stepped.system;
+    say(rt, what, answered && left.tasks.records[0].moves == moves)?;
+    Ok(left)
 }
 
 // A task with a count of 9,998 moves to desk 2 and arrives there; it then moves no more.
 pub fn last_move(rt: &impl Print) -> io::Result<()> {
-    let plan = single_finish();
-    let answer = plan_value::check(plan);
-    let PlanAnswer::Accepted = answer else {
+    let Some(start) = start(single_finish()) else {
         return say(rt, "a plan of one finish accepted", false);
     };
-    let e = plan_index::ends::derive(plan);
-    let r = rig::start::start(2, plan, e);
-    let a = take_step(with_moves(r, 9998), 3, 1, 2);
-    say(rt, "move count 9,998 moves", is_after(a, 0, 9999))?;
-    let left = a.system;
-    let b = take_step(left, 2, 0, 1);
-    say(rt, "its mover letter delivered", is_after(b, 0, 9999))?;
-    let there = b.system;
-    let c = take_step(there, 3, 1, 1);
-    say(rt, "move count 9,999: 18", is_after(c, 18, 9999))
+    let mut r = start;
+    r.tasks.records[0].moves = 9998;
+    let left = take_step(rt, "move count 9,998 moves", r, depart(2), 0, 9999)?;
+    let there = take_step(rt, "its mover letter delivered", left, deliver(1), 0, 9999)?;
+    let _ = take_step(rt, "move count 9,999: 18", there, depart(1), 18, 9999)?;
+    Ok(())
 }
 
 // A plan of two tasks: the first creates the second, and both finish.
@@ -102,40 +108,37 @@ fn creating() -> Plan {
     codes[64] = code(FINISH, 0);
     Plan {
         tasks: 2,
-        lengths: lengths,
-        codes: codes,
+        lengths,
+        codes,
     }
 }
 
 // The rig with a mark on task 2.
 fn with_mark(mut r: System) -> System {
-    let mut tasks = r.tasks;
-    let mut second = tasks.records[1];
-    second.overflow = true;
-    tasks.records[1] = second;
-    r.tasks = tasks;
+    r.tasks.records[1].overflow = true;
     r
 }
 
 // A mark on task 2 is refused by 9 before its birth, and not after it.
 fn marked_unborn(rt: &impl Print, r: System) -> io::Result<()> {
-    let a = take_step(with_mark(r), 1, 1, 0);
-    say(rt, "an unborn task with a mark: 9", is_after(a, 9, 1))?;
-    let b = take_step(r, 1, 1, 0);
-    let born = b.system;
-    let c = take_step(with_mark(born), 1, 2, 0);
-    say(rt, "a ready task with a mark runs", is_after(c, 0, 1))
+    let _ = take_step(
+        rt,
+        "an unborn task with a mark: 9",
+        with_mark(r),
+        run(1),
+        9,
+        1,
+    )?;
+    let born = with_mark(rig_step::step(r, run(1)).system);
+    let _ = take_step(rt, "a ready task with a mark runs", born, run(2), 0, 1)?;
+    Ok(())
 }
 
 // The plan of two tasks at its start on two desks: marks, and pointers to parents.
 pub fn two_tasks(rt: &impl Print) -> io::Result<()> {
-    let plan = creating();
-    let answer = plan_value::check(plan);
-    let PlanAnswer::Accepted = answer else {
+    let Some(r) = start(creating()) else {
         return say(rt, "a plan of two tasks accepted", false);
     };
-    let e = plan_index::ends::derive(plan);
-    let r = rig::start::start(2, plan, e);
     marked_unborn(rt, r)?;
     crate::parents::edges(rt, r)
 }

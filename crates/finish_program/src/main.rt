@@ -3,28 +3,8 @@
 // `refused` and the number.
 #![tactic(auto)]
 
+use show_files::answers::print_answer;
 use std::io;
-
-fn print_refusal(rt: &impl Print, number: u64) -> io::Result<()> {
-    println!(rt; "refused {number}")
-}
-
-// The text is the first `filled` bytes.
-fn print_text(rt: &impl Print, out: &[u8], filled: usize) -> io::Result<()> {
-    if out.len() < filled {
-        return Ok(());
-    }
-    rt.write_all(&out[..filled])
-}
-
-// The answer is the number of the refusal, 0 for none, and 256 times how much of the output is filled.
-fn say(rt: &impl Print, answer: u64, out: &[u8]) -> io::Result<()> {
-    let number = answer % 256;
-    if number != 0 {
-        return print_refusal(rt, number);
-    }
-    print_text(rt, out, (answer / 256) as usize)
-}
 
 // The buffers are longer than any accepted file, of 16,644 bytes, so that a longer one is refused and not
 // cut, and than any text, of 392 bytes.
@@ -33,5 +13,5 @@ fn main(rt: HostRuntime) -> io::Result<()> {
     let mut out = [0u8; 4096];
     let size = show_files::load(&rt, "rig.plan", &mut plan);
     let answer = planner::finish_check::mortarsedge_finish(&plan[..size], &mut out);
-    say(&rt, answer, &out)
+    print_answer(&rt, answer, &out)
 }

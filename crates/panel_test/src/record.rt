@@ -1,29 +1,25 @@
 // A record: desks in 1 byte, the lengths of plan and steps in 2 bytes each, and then plan, steps and 27 counts of 2 bytes.
-ghost use Rattle.std.specs.Prelude.{◌<◌, ◌≤◌, length};
+use show_files::records::{Bytes, Record};
 
-use plan_file::fields::word_at;
-
-// Where the parts of a record start, and where the next record does.
+// What a record says.
 #[derive(Clone, Copy)]
-pub struct Parts {
-    pub plan: usize,
-    pub steps: usize,
-    pub counts: usize,
-    pub next: usize,
+pub struct Counted<'a> {
+    pub processors: u8,
+    pub plan: &'a [u8],
+    pub steps: &'a [u8],
+    pub counts: &'a [u8],
 }
 
-pub fn parts_at(file: &[u8], at: usize) -> Parts
-    requires { at < length file.now }
-    ensures { (at < result.plan) × (result.plan ≤ result.steps) × (result.steps ≤ result.counts) × (result.counts ≤ result.next) }
-{
-    let plan = at + 5;
-    let steps = plan + base::wide16(word_at(file, at + 1));
-    let counts = steps + base::wide16(word_at(file, at + 3));
-    let next = counts + 54;
-    Parts {
-        plan: plan,
-        steps: steps,
-        counts: counts,
-        next: next,
+impl<'a> Record<'a> for Counted<'a> {
+    fn read(file: &mut Bytes<'a>) -> Option<Counted<'a>> {
+        let processors = file.byte()?;
+        let size = file.word()?;
+        let stepped = file.word()?;
+        Some(Counted {
+            processors,
+            plan: file.part(size as usize)?,
+            steps: file.part(stepped as usize)?,
+            counts: file.part(54)?,
+        })
     }
 }

@@ -1,7 +1,13 @@
-// Files as the programs read them: into a buffer that they lend, as far as it goes.
+// What the programs share: files read into a buffer that they lend, as far as it goes, answers as they are printed, and
+// the records of tests.
 #![tactic(auto)]
 
-ghost use Rattle.std.specs.Prelude.{◌≡◌, ◌≤◌, length, take, IfOk};
+// What a program is told, and what it prints of a call's answer.
+pub mod answers;
+// The records of a test's file, and the output of a call beside them.
+pub mod records;
+
+ghost use Rattle.std.specs.Prelude.{◌≡◌, ◌≤◌, length, take, IfOk, IfSome};
 
 use std::fs::File;
 use std::io;
@@ -44,6 +50,23 @@ pub fn load_present(rt: &impl Files, name: &str, file: &mut [u8]) -> io::Result<
 {
     let mut input = File::open(rt, name)?;
     Ok(read_full(&mut input, file))
+}
+
+// The bytes of a file, in the lent buffer. Where it is not opened, that is said.
+pub fn load_or_say<'a>(
+    rt: &(impl Files + Eprint),
+    name: &str,
+    file: &'a mut [u8],
+) -> Option<&'a [u8]>
+    ensures { IfSome result (λ bytes. length bytes.now ≤ length file.old) }
+{
+    match load_present(rt, name, file) {
+        Ok(size) => Some(&file[..size]),
+        Err(why) => {
+            fail(rt, name, why);
+            None
+        }
+    }
 }
 
 // Says on standard error what failed and why.

@@ -1,177 +1,90 @@
-// Ordinary steps and calls of dispatchers compared: what each event gives, and the rig at the end.
-ghost use Rattle.std.specs.Prelude.{◌≤◌};
-
-use crate::seen::{Seen, byte, long, made, word};
-use plan::{PlanAnswer, ProcessorId};
-use plan_file::fields::{byte_at, word_at};
-use rules::dispatch::Turn;
-use rules::step::Step;
+// Ordinary steps and calls of dispatchers compared: what each event gives, and the rig at the end, as the bytes of a
+// record.
+use crate::record::Recorded;
+use plan::{ChannelId, ProcessorId, Word};
+use rules::step::{Report, Step};
 use rules::system::System;
-use std::num::wrapping_add_usize;
+use std::alloc::{AllocError, Global};
 
-// The step of a turn, if it has one.
-fn turned(expected: &[u8], s: Seen, t: Turn) -> Seen {
-    match t {
-        Turn::Skipped => s,
-        Turn::Made(x, r) => made(expected, s, x, r),
+// A step in its four bytes, its answer, and the channel of the received word, or 0, with its four levels, or zeros.
+fn put_made(seen: &mut Vec<u8>, step: Step, report: Report) -> Result<(), AllocError> {
+    let answer = trace::answer_number(report.answer);
+    let (channel, word) = report.received.unwrap_or((ChannelId(0), Word(0, 0, 0, 0)));
+    seen.extend_from_slice(&[step.kind, step.task])?;
+    seen.extend_from_slice(&step.number.to_le_bytes())?;
+    seen.extend_from_slice(&[answer, channel.0])?;
+    for level in [word.0, word.1, word.2, word.3] {
+        seen.extend_from_slice(&level.to_le_bytes())?;
     }
+    Ok(())
 }
 
-// How many steps a turn has.
-fn steps_of(t: Turn) -> u8
-    ensures { result ≤ 1 }
-{
-    match t {
-        Turn::Skipped => 0,
-        Turn::Made(_, _) => 1,
+// A call at a desk: its answer, how many steps it made, and these. A number above 255 names no desk of a rig, and
+// neither does 255.
+fn call(seen: &mut Vec<u8>, r: System, number: u16) -> Result<System, AllocError> {
+    let desk = ProcessorId(u8::try_from(number).unwrap_or(255));
+    let called = dispatch::dispatch(r, desk);
+    let steps = called.delivery.is_some() as u8 + called.run.is_some() as u8;
+    seen.extend_from_slice(&[trace::answer_number(called.answer), steps])?;
+    if let Some((step, report)) = called.delivery {
+        put_made(seen, step, report)?;
     }
-}
-
-// How many steps two turns have.
-fn steps_of_both(a: Turn, b: Turn) -> u8 {
-    let first = steps_of(a);
-    let second = steps_of(b);
-    first + second
-}
-
-// What was seen so far, and the rig then.
-#[derive(Clone, Copy)]
-pub struct Played {
-    pub seen: Seen,
-    pub system: System,
-}
-
-// The desk with a number. A number above 255 names no desk of a rig, and neither does 255.
-fn desk(number: u16) -> ProcessorId {
-    if number < 255 {
-        return ProcessorId(number as u8);
+    if let Some((step, report)) = called.run {
+        put_made(seen, step, report)?;
     }
-    ProcessorId(255)
+    Ok(called.system)
 }
 
-// A call at a desk.
-fn call(expected: &[u8], p: Played, number: u16) -> Played {
-    let r = p.system;
-    let q = dispatch::dispatch(r, desk(number));
-    let answer = q.answer;
-    let delivery = q.delivery;
-    let run = q.run;
-    let seen = p.seen;
-    let answered = byte(expected, seen, trace::answer_number(answer));
-    let counted = byte(expected, answered, steps_of_both(delivery, run));
-    let first = turned(expected, counted, delivery);
-    let both = turned(expected, first, run);
-    let after = q.system;
-    Played {
-        seen: both,
-        system: after,
-    }
+// An ordinary step: no refusal as a call, one step, and this.
+fn take_step(seen: &mut Vec<u8>, r: System, step: Step) -> Result<System, AllocError> {
+    let stepped = rig_step::step(r, step);
+    seen.extend_from_slice(&[0, 1])?;
+    put_made(seen, step, stepped.report)?;
+    Ok(stepped.system)
 }
 
-// An ordinary step.
-fn step(expected: &[u8], p: Played, s: Step) -> Played {
-    let r = p.system;
-    let q = rig_step::step(r, s);
-    let report = q.report;
-    let seen = p.seen;
-    let answered = byte(expected, seen, 0);
-    let counted = byte(expected, answered, 1);
-    let all = made(expected, counted, s, report);
-    let after = q.system;
-    Played {
-        seen: all,
-        system: after,
-    }
-}
-
-// The event at a place: a call has kind 255.
-fn event<'a>(events: &'a [u8], expected: &'a [u8], p: Played, at: usize) -> Played {
-    let kind = byte_at(events, at);
-    let number = word_at(events, wrapping_add_usize(at, 2));
+// An event has four bytes, those of a step. A call has kind 255.
+fn event(seen: &mut Vec<u8>, r: System, bytes: [u8; 4]) -> Result<System, AllocError> {
+    let [kind, task, low, high] = bytes;
+    let number = u16::from_le_bytes([low, high]);
     if kind == 255 {
-        return call(expected, p, number);
+        return call(seen, r, number);
     }
-    let s = Step {
-        kind: kind,
-        task: byte_at(events, wrapping_add_usize(at, 1)),
-        number: number,
+    take_step(seen, r, Step { kind, task, number })
+}
+
+// Rest, the number of letters, the last choices and the sets of ready tasks of the six desks.
+fn put_rig(seen: &mut Vec<u8>, r: System) -> Result<(), AllocError> {
+    let letters = (r.network.used % 65536) as u16;
+    seen.push(dispatch::rest::rests(r) as u8)?;
+    seen.extend_from_slice(&letters.to_le_bytes())?;
+    seen.extend_from_slice(&r.chosen)?;
+    for ready in r.tasks.ready {
+        seen.extend_from_slice(&ready.to_le_bytes())?;
+    }
+    Ok(())
+}
+
+// The rig at the start of a plan, if that is accepted.
+fn start(processors: u8, file: &[u8]) -> Option<System> {
+    let plan = plan_file::read_plan(file).plan;
+    let Ok(()) = plan_value::check(plan) else {
+        return None;
     };
-    step(expected, p, s)
+    Some(rig::start::start(processors, plan, plan_index::ends::derive(plan)))
 }
 
-fn one_if(b: bool) -> u8 {
-    if b { 1 } else { 0 }
-}
-
-// The last choices of the six desks.
-fn choices(expected: &[u8], seen: Seen, chosen: [u8; 6]) -> Seen {
-    let mut s = seen;
-    let mut k: usize = 0;
-    while k < 6 {
-        let t = chosen[k];
-        s = byte(expected, s, t);
-        k += 1;
-    }
-    s
-}
-
-// The sets of ready tasks of the six desks.
-fn sets(expected: &[u8], seen: Seen, ready: [u64; 6]) -> Seen {
-    let mut s = seen;
-    let mut k: usize = 0;
-    while k < 6 {
-        let h = ready[k];
-        s = long(expected, s, h);
-        k += 1;
-    }
-    s
-}
-
-// Rest, the letters, the last choices and the sets of ready tasks; and nothing behind them.
-fn last(expected: &[u8], p: Played) -> bool {
-    let r = p.system;
-    let network = r.network;
-    let letters = (network.used % 65536) as u16;
-    let chosen = r.chosen;
-    let tasks = r.tasks;
-    let ready = tasks.ready;
-    let seen = p.seen;
-    let rested = byte(expected, seen, one_if(dispatch::rest::rests(r)));
-    let posted = word(expected, rested, letters);
-    let s = sets(expected, choices(expected, posted, chosen), ready);
-    base::both(s.ok, s.at == expected.len())
-}
-
-// The events one by one, of four bytes each.
-fn replay<'a>(r: System, events: &'a [u8], expected: &'a [u8]) -> bool {
-    let end = events.len();
-    let seen = Seen { at: 0, ok: true };
-    let mut p = Played {
-        seen: seen,
-        system: r,
+// The events from the start of an accepted plan give the expected bytes, and no others.
+pub fn agrees(alloc: Global, record: &Recorded) -> Result<bool, AllocError> {
+    let Some(start) = start(record.processors, record.plan) else {
+        return Ok(false);
     };
-    let mut at: usize = 0;
-    while at < end {
-        let left = end - at;
-        if left < 4 {
-            return false;
-        }
-        let here = at;
-        at += 4;
-        p = event(events, expected, p, here);
+    let mut r = start;
+    let mut seen = Vec::new(alloc);
+    let (events, rest) = record.steps.as_chunks::<4>();
+    for bytes in events {
+        r = event(&mut seen, r, *bytes)?;
     }
-    last(expected, p)
-}
-
-// The events from the start of an accepted plan agree.
-pub fn agrees<'a>(n: u8, file: &'a [u8], events: &'a [u8], expected: &'a [u8]) -> bool {
-    let read = plan_file::read_plan(file);
-    let plan = read.plan;
-    let answer = plan_value::check(plan);
-    let PlanAnswer::Accepted = answer else {
-        return false;
-    };
-    let e = plan_index::ends::derive(plan);
-    let r = rig::start::start(n, plan, e);
-    replay(r, events, expected)
+    put_rig(&mut seen, r)?;
+    Ok(rest.is_empty() && seen.as_slice() == record.output)
 }

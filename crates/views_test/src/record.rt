@@ -1,31 +1,54 @@
 // A record: processors in 1 byte, the lengths of plan and steps in 2 bytes each, and then plan, steps and, for each
 // of the plan's tasks, 20 bytes: number, state, desk and place, the four levels of its word, its children.
-ghost use Rattle.std.specs.Prelude.{◌<◌, ◌≤◌, length};
-
+use plan::{ProcessorId, TaskId, Word};
 use plan_file::fields::word_at;
+use show_files::records::{Bytes, Record};
 
-// Where the parts of a record start, and where the next record does.
+// What a record says.
 #[derive(Clone, Copy)]
-pub struct Parts {
-    pub plan: usize,
-    pub steps: usize,
-    pub views: usize,
-    pub next: usize,
+pub struct Shown<'a> {
+    pub processors: u8,
+    pub plan: &'a [u8],
+    pub steps: &'a [u8],
+    pub views: &'a [u8],
 }
 
 // The first field of the plan is how many tasks it has.
-pub fn parts_at(file: &[u8], at: usize) -> Parts
-    requires { at < length file.now }
-    ensures { (at < result.plan) × (result.plan ≤ result.steps) × (result.steps ≤ result.views) × (result.views ≤ result.next) }
-{
-    let plan = at + 5;
-    let steps = plan + base::wide16(word_at(file, at + 1));
-    let views = steps + base::wide16(word_at(file, at + 3));
-    let next = views + 20 * base::wide16(word_at(file, plan));
-    Parts {
-        plan: plan,
-        steps: steps,
-        views: views,
-        next: next,
+impl<'a> Record<'a> for Shown<'a> {
+    fn read(file: &mut Bytes<'a>) -> Option<Shown<'a>> {
+        let processors = file.byte()?;
+        let size = file.word()?;
+        let stepped = file.word()?;
+        let plan = file.part(size as usize)?;
+        Some(Shown {
+            processors,
+            plan,
+            steps: file.part(stepped as usize)?,
+            views: file.part(20 * word_at(plan, 0) as usize)?,
+        })
+    }
+}
+
+// What is shown of one task.
+#[derive(Clone, Copy)]
+pub struct View {
+    pub task: TaskId,
+    pub state: u8,
+    pub processor: ProcessorId,
+    pub pc: u8,
+    pub word: Word,
+    pub children: u64,
+}
+
+impl<'a> Record<'a> for View {
+    fn read(file: &mut Bytes<'a>) -> Option<View> {
+        Some(View {
+            task: TaskId(file.byte()?),
+            state: file.byte()?,
+            processor: ProcessorId(file.byte()?),
+            pc: file.byte()?,
+            word: Word(file.word()?, file.word()?, file.word()?, file.word()?),
+            children: file.long()?,
+        })
     }
 }

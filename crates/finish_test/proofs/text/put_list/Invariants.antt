@@ -1,9 +1,0 @@
--- `put_list` ends, and the output stays as long as it was.
-use Rattle.std.proofs.Common.{length, ◌-◌, ◌≡◌}
-use Rattle.finish_test.proofs.text.put_list.Given as goal
-
-abbrev pub invariant-loop-i : goal.invariant-loop-i
-invariant-loop-i l = length l.out ≡ length l.initial.out
-
-abbrev pub decreases-loop-i : goal.decreases-loop-i
-decreases-loop-i l = length l.list - l.i

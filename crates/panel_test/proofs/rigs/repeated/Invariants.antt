@@ -1,9 +1,0 @@
--- `repeated` ends: each round is one more.
-use Rattle.std.proofs.Common.{◌-◌, ◌≤◌}
-use Rattle.panel_test.proofs.rigs.repeated.Given as goal
-
-abbrev pub invariant-loop-k : goal.invariant-loop-k
-invariant-loop-k l = l.k ≤ l.rounds
-
-abbrev pub decreases-loop-k : goal.decreases-loop-k
-decreases-loop-k l = l.rounds - l.k

@@ -1,9 +1,0 @@
--- `compare_views` goes through the tasks and ends.
-use Rattle.std.proofs.Common.{◌-◌, ◌≤◌}
-use Rattle.views_test.proofs.compare_views.Given as goal
-
-abbrev pub invariant-loop-k : goal.invariant-loop-k
-invariant-loop-k l = l.k ≤ l.count
-
-abbrev pub decreases-loop-k : goal.decreases-loop-k
-decreases-loop-k l = l.count - l.k
