@@ -10,8 +10,8 @@ import re
 import sys
 
 TOP = pathlib.Path(__file__).resolve().parent.parent
-# docs/PORT.md names what there was before the port as well.
-PAGES = [TOP / "README.md"] + sorted(p for p in (TOP / "docs").rglob("*.md") if p.name != "PORT.md")
+# docs/PORT.md and docs/DESIGN-PASS.md name what there was before as well.
+PAGES = [TOP / "README.md"] + sorted(p for p in (TOP / "docs").rglob("*.md") if p.name not in ("PORT.md", "DESIGN-PASS.md"))
 SOURCES = ["crates", "include", "driver", "bench", "tools", "examples", "scripts", ".ci"]
 SUFFIXES = {".rt", ".antt", ".edit", ".h", ".c", ".sh", ".py", ".txt", ""}
 PATH = re.compile(r"^(crates|docs|scripts|include|driver|bench)/[\w./*-]*$|^(crates\.txt|Makefile|README\.md)$")
