@@ -1,7 +1,7 @@
 // What one instruction more of task t says, where `old` is the first task that has such an instruction,
 // 0 for none.
 ghost use Rattle.std.specs.Prelude.{◌≡◌, ◌≤◌};
-ghost use Rattle.plan_value.specs.Marks.{kept_of, create_mark, end_mark};
+ghost use Rattle.plan_value.specs.Marks.{kept_of, create_mark, end_mark, same_test};
 ghost use Rattle.plan_value.specs.Ends.{one_there, unpaired_then};
 
 // The first of them then.
@@ -15,7 +15,10 @@ pub fn kept(old: u8, t: u8) -> u8
 pub fn create_fits(old: u8, t: u8, u: usize) -> bool
     ensures { result ≡ create_mark old t u }
 {
-    old == 0 && (t as usize) < u
+    if old != 0 {
+        return false;
+    }
+    base::wide8(t) < u
 }
 
 // Of one end of a channel, whose other end is task `other`: t is the only task at this end and not at
@@ -23,7 +26,13 @@ pub fn create_fits(old: u8, t: u8, u: usize) -> bool
 pub fn end_fits(old: u8, other: u8, t: u8) -> bool
     ensures { result ≡ end_mark old other t }
 {
-    other != t && (old == 0 || old == t)
+    if other == t {
+        return false;
+    }
+    if old == 0 {
+        return true;
+    }
+    old == t
 }
 
 // How many channels have one end only, n before, with the first task at an end whose other end is task
@@ -32,5 +41,15 @@ pub fn unpaired_then(n: usize, other: u8) -> usize
     requires { (one_there 0 other ≤ n) × (n ≤ 128) }
     ensures { result ≡ unpaired_then n other }
 {
-    if other == 0 { n + 1 } else { n - 1 }
+    if other == 0 {
+        return n + 1;
+    }
+    n - 1
+}
+
+// Both hold or neither.
+pub fn same(a: bool, b: bool) -> bool
+    ensures { result ≡ same_test a b }
+{
+    if a { b } else { !b }
 }

@@ -7,8 +7,8 @@ ghost use Rattle.plan_value.specs.Ends.{Counted, EndEntered};
 ghost use Rattle.plan_value.specs.Pass.{seen, start_pass, next_seen, pass_answer};
 
 use crate::instruction::{Edition, is_allowed, is_channel_allowed};
-use crate::marks::{create_fits, end_fits, kept, unpaired_then};
-use plan::{CREATE, FINISH, Instruction, RECEIVE, Refusal, SEND};
+use crate::marks::{create_fits, end_fits, kept, same, unpaired_then};
+use plan::{CREATE, FINISH, Instruction, RECEIVE, Refusal, SEND, SET};
 
 // An instruction where it stands: its task, and whether it is the last one there.
 #[derive(Clone, Copy)]
@@ -45,8 +45,8 @@ impl Pass {
         ensures { result ≡ start_pass tasks instructions }
     {
         Pass {
-            instructions,
-            tasks,
+            instructions: instructions,
+            tasks: tasks,
             finishes: instructions,
             creates: instructions,
             channels: instructions,
@@ -73,19 +73,22 @@ fn enter_end<'a>(t: u8, a: usize, n: usize, ends: &'a mut [u8; 129], others: &'a
 {
     let old = ends[a];
     let other = others[a];
-    let fits = end_fits(old, other, t);
     if old != 0 {
-        return End { fits, unpaired: n };
+        return End {
+            fits: end_fits(old, other, t),
+            unpaired: n,
+        };
     }
     ends[a] = t;
     End {
-        fits,
+        fits: end_fits(old, other, t),
         unpaired: unpaired_then(n, other),
     }
 }
 
-// One instruction more. The tables take, by argument, the first task that creates, sends and receives. Sends and receives, which are the
-// most, are told before the others.
+// One instruction more. The tables take, by argument, the first task that creates, sends and receives. Sends and receives are told by the
+// kind and the second byte at once, and before the others: with a match over the kinds the check of the largest plan took
+// 38 of 100 instructions more.
 pub fn next<'a>(
     p: Pass,
     e: Edition,
@@ -99,46 +102,78 @@ pub fn next<'a>(
         ≡ next_seen e x (seen p parents.old senders.old receivers.old) }
 {
     let i = x.instruction;
-    let a = i.operand as usize;
-    let going = p.finishes & !x.last;
-    if i.opcode == SEND && i.level == 0 {
+    let opcode = i.opcode;
+    let level = i.level;
+    let a = base::wide16(i.operand);
+    let t = x.task;
+    let head = base::wide8(opcode) + 256 * base::wide8(level);
+    let going = base::both(p.finishes, !x.last);
+    if head == 4 {
         if !is_channel_allowed(e, SEND, a) {
             return Pass::new(p.tasks, false);
         }
-        let sent = enter_end(x.task, a, p.unpaired, senders, receivers);
+        let sent = enter_end(t, a, p.unpaired, senders, receivers);
+        let channels = base::both(p.channels, sent.fits);
         return Pass {
+            instructions: p.instructions,
+            tasks: p.tasks,
             finishes: going,
-            channels: p.channels & sent.fits,
+            creates: p.creates,
+            channels: channels,
             unpaired: sent.unpaired,
-            ..p
         };
     }
-    if i.opcode == RECEIVE && i.level == 0 {
+    if head == 5 {
         if !is_channel_allowed(e, RECEIVE, a) {
             return Pass::new(p.tasks, false);
         }
-        let received = enter_end(x.task, a, p.unpaired, receivers, senders);
+        let received = enter_end(t, a, p.unpaired, receivers, senders);
+        let channels = base::both(p.channels, received.fits);
         return Pass {
+            instructions: p.instructions,
+            tasks: p.tasks,
             finishes: going,
-            channels: p.channels & received.fits,
+            creates: p.creates,
+            channels: channels,
             unpaired: received.unpaired,
-            ..p
+        };
+    }
+    if opcode >= SET {
+        if !is_allowed(e, p.tasks, i) {
+            return Pass::new(p.tasks, false);
+        }
+        return Pass {
+            instructions: p.instructions,
+            tasks: p.tasks,
+            finishes: going,
+            creates: p.creates,
+            channels: p.channels,
+            unpaired: p.unpaired,
         };
     }
     if !is_allowed(e, p.tasks, i) {
         return Pass::new(p.tasks, false);
     }
-    if i.opcode == CREATE {
-        let fits = enter_create(x.task, a, parents);
+    if opcode == CREATE {
+        let creates = base::both(p.creates, enter_create(t, a, parents));
         return Pass {
+            instructions: p.instructions,
+            tasks: p.tasks,
             finishes: going,
-            creates: p.creates & fits,
-            ..p
+            creates: creates,
+            channels: p.channels,
+            unpaired: p.unpaired,
         };
     }
+    let finish = opcode == FINISH;
+    let finishes = base::both(p.finishes, same(finish, x.last));
     Pass {
-        finishes: p.finishes & ((i.opcode == FINISH) == x.last),
-        ..p
+        instructions: p.instructions,
+        tasks: p.tasks,
+        finishes: finishes,
+        creates: p.creates,
+        channels: p.channels,
+        unpaired: p.unpaired,
     }
 }
 
@@ -169,10 +204,13 @@ pub fn answer(p: Pass, parents: &[u8; 129]) -> Result<(), Refusal>
     if !p.finishes {
         return Err(Refusal::BadFinish);
     }
-    if !(p.creates && all_created(p.tasks, parents)) {
+    if !p.creates {
         return Err(Refusal::BadCreate);
     }
-    if !(p.channels && p.unpaired == 0) {
+    if !all_created(p.tasks, parents) {
+        return Err(Refusal::BadCreate);
+    }
+    if !base::both(p.channels, p.unpaired == 0) {
         return Err(Refusal::BadChannel);
     }
     Ok(())

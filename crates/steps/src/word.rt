@@ -11,7 +11,8 @@ use plan::{Instruction, SET, TaskId};
 use rules::step::Step;
 use rules::task::{Task, TaskState};
 
-// What a set or an add leaves of its task.
+// What a set or an add leaves of its task. It is compiled into both callers, of which one knows the level.
+#[inline(always)]
 fn word_changed(x: Task, i: Instruction) -> Task
     requires { x.pc < 255 }
     ensures { result ≡ word_changed x i }
