@@ -27,7 +27,9 @@ fn read_bytes<'a>(rig: &'a [u8], at: usize, table: &'a mut [u8; 768])
     requires { (at + 768 ≤ length rig.now) × (length table.old ≡ 768) }
     ensures { table.new ≡ numbers_at 1 768 rig.now at }
 {
-    table.copy_from_slice(&rig[at..at + 768]);
+    for k in 0..768 {
+        table[k] = rig[at + k];
+    }
 }
 
 // A table of counts, from a place on.

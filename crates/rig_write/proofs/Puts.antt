@@ -1,10 +1,11 @@
 -- Bytes put at a place: stores one behind the other, a run behind another, numbers and pairs of numbers one more.
 use mathlib.Core.Path.{◌≡◌, refl, sym, ap, ◌∙◌}
 use mathlib.Core.List.{List, [], ◌∷◌, ◌++◌, append_assoc, append-nil}
-use Prim.Native.Nat.{ℕ, ◌+◌, ◌*◌, ◌/◌, ◌%◌, ◌≤◌}
+use Prim.Native.Nat.{ℕ, ◌+◌, ◌*◌, ◌/◌, ◌%◌, ◌<◌, ◌≤◌}
+use native.Mathlib.Numerals.{add-one}
 use native.Mathlib.Omega.{arith}
-use lib.ListN.{length, take, length-append, replicate, length-replicate}
-use lib.Seq.{drop-drop}
+use lib.ListN.{length, take, drop, set, get_or, length-append, replicate, length-replicate}
+use lib.Seq.{drop-drop, sets-eq, take-suc, length-take-le}
 use borrow.Rule.Slice.PartMut.{put_mid}
 use Rattle.std.specs.Int.{w16, w64, to_le_bytes}
 use Rattle.base.specs.Lists.{table, table_before}
@@ -135,6 +136,18 @@ module _ (w : ℕ) (out : List ℕ) (at : ℕ) where
 
 pub none_put : (out : List ℕ) (at : ℕ) → out ≡ overlay out at []
 none_put out at = sym (overlay_none out at)
+
+-- the first bytes of a list, one more
+pub bytes_step : (out now xs : List ℕ) (at k : ℕ) → k < length xs → at + k < length out → now ≡ overlay out at (take k xs)
+    → set now (at + k) (get_or xs k 0) ≡ overlay out at (take (k + 1) xs)
+unfolding overlay
+bytes_step out now xs at k l h e =
+    let v = get_or xs k 0 in
+    let few : length (take k xs) ≡ k = length-take-le k xs (omega arith) in
+    let long : length now ≡ length out = put_length out now at (take k xs) (omega (arith, few)) e in
+    let one : set now (at + k) v ≡ overlay now (at + k) (v ∷ []) =
+    sets-eq (v ∷ []) now (at + k) (omega (arith, long)) ∙ append_assoc (take (at + k) now) (v ∷ []) (drop (at + k + 1) now) in
+    put_more out now (set now (at + k) v) at (at + k) (take k xs) (v ∷ []) (omega arith) e (omega (arith, few)) one ∙ rw (add-one k, take-suc xs k 0 l) refl
 
 -- three runs, and five, one behind the other
 pub three_puts : (out o1 o2 o3 x1 x2 x3 : List ℕ) (a1 a2 a3 : ℕ) → a1 ≤ length out → a2 ≡ a1 + length x1 → a3 ≡ a2 + length x2

@@ -32,7 +32,9 @@ pub fn put_bytes(b: &mut [u8], at: usize, xs: &[u8])
     requires { at + length xs.now ≤ length b.old }
     ensures { b.new ≡ overlay b.old at xs.now }
 {
-    b[at..at + xs.len()].copy_from_slice(xs);
+    for k in 0..xs.len() {
+        b[at + k] = xs[k];
+    }
 }
 
 // So many zeros.
