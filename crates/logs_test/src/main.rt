@@ -3,8 +3,10 @@
 // byte, and then the two logs and the line: `yes`, `no` and a channel, or `refused` and a number.
 #![tactic(auto)]
 
+ghost use Rattle.std.specs.Prelude.{◌≤◌};
+
 use driver::log_files::mortarsedge_logs;
-use show_files::records::{Bytes, Record, number_behind, records};
+use show_files::records::{Bytes, Record};
 use std::io;
 
 // Two logs, and the line that is printed of them.
@@ -29,14 +31,27 @@ impl<'a> Record<'a> for Pair<'a> {
     }
 }
 
-// What the export answers where this line is printed.
-fn expected(line: &[u8]) -> Option<u64> {
-    if line.starts_with(b"yes") {
-        return Some(0);
+// The decimal number of the first digits in a line, from a place on; 0 where there is none. It ends at four digits.
+fn number_in(line: &[u8], start: usize) -> u64
+    ensures { result ≤ 10000 }
+{
+    let mut number: u64 = 0;
+    for digit in line.get(start..).unwrap_or(b"") {
+        match *digit {
+            b'0'..=b'9' if number < 1000 => number = 10 * number + u64::from(*digit - b'0'),
+            _ => return number,
+        }
     }
-    match number_behind(b"no ", line) {
-        Some(channel) => Some(256 * u64::from(channel)),
-        None => number_behind(b"refused ", line).map(u64::from),
+    number
+}
+
+// What the export answers where this line is printed. The first byte tells the lines apart.
+fn expected(line: &[u8]) -> Option<u64> {
+    match line.first() {
+        Some(b'y') => Some(0),
+        Some(b'n') => Some(256 * number_in(line, 3)),
+        Some(b'r') => Some(number_in(line, 8)),
+        _ => None,
     }
 }
 
@@ -44,13 +59,23 @@ fn agrees(pair: &Pair) -> bool {
     Some(mortarsedge_logs(pair.sent, pair.received)) == expected(pair.line)
 }
 
+// How many whole records the file has, and how many of them agree.
+fn compare_all(file: &[u8]) -> (u64, u64) {
+    let mut total: u64 = 0;
+    let mut agree: u64 = 0;
+    let mut rest = Bytes::of(file);
+    while let Some(pair) = Pair::read(&mut rest) {
+        total = total.wrapping_add(1);
+        agree = agree.wrapping_add(agrees(&pair) as u64);
+    }
+    (total, agree)
+}
+
 fn main(rt: HostRuntime) -> io::Result<()> {
     let mut file = [0u8; 200000];
     let Some(file) = show_files::load_or_say(&rt, "logs.bin", &mut file) else {
         return Ok(());
     };
-    let pairs: Vec<Pair> = records(rt.alloc(), file)?;
-    let total = pairs.len();
-    let agree = pairs.iter().filter(|pair| agrees(*pair)).count();
+    let (total, agree) = compare_all(file);
     println!(rt; "{total} pairs of logs, {agree} answers agree")
 }

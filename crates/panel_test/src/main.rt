@@ -11,7 +11,7 @@ mod rigs;
 use record::Counted;
 use rules::system::System;
 use show_files::answers::digit;
-use show_files::records::records;
+use show_files::records::{Bytes, Record};
 use std::io;
 
 // The counts are those of the record.
@@ -27,6 +27,18 @@ fn is_recorded(counts: [u16; 27], expected: &[u8]) -> bool {
 fn agrees(record: &Counted, rounds: u64) -> bool {
     let counts = rigs::panel_after(record.processors, record.plan, record.steps, rounds);
     is_recorded(counts, record.counts)
+}
+
+// How many whole records the file has, and how many of them agree.
+fn compare_all(file: &[u8], rounds: u64) -> (u64, u64) {
+    let mut total: u64 = 0;
+    let mut same: u64 = 0;
+    let mut rest = Bytes::of(file);
+    while let Some(record) = Counted::read(&mut rest) {
+        total = total.wrapping_add(1);
+        same = same.wrapping_add(agrees(&record, rounds) as u64);
+    }
+    (total, same)
 }
 
 // The panel of a rig of seven desks has no count.
@@ -48,10 +60,8 @@ fn main(rt: HostRuntime) -> io::Result<()> {
     let Some(file) = show_files::load_or_say(&rt, "panel.bin", &mut file) else {
         return Ok(());
     };
-    let all: Vec<Counted> = records(rt.alloc(), file)?;
     let rounds = 10000 * u64::from(digit(&rt).unwrap_or(0));
-    let total = all.len();
-    let same = all.iter().filter(|record| agrees(*record, rounds)).count();
+    let (total, same) = compare_all(file, rounds);
     println!(rt; "{total} records: {same} panels agree")?;
     let Some(r) = rigs::single_finish() else {
         return println!(rt; "a plan of one finish: WRONG");

@@ -1,5 +1,5 @@
 // What a program is told, and what it prints of a call's answer.
-ghost use Rattle.std.specs.Prelude.{◌<◌, IfSome};
+ghost use Rattle.std.specs.Prelude.{◌≡◌, ◌<◌, ◌/◌, ◌%◌, IfSome};
 
 use std::io;
 use std::io::Read;
@@ -26,11 +26,22 @@ pub struct Answer {
 }
 
 impl From<u64> for Answer {
-    fn from(answer: u64) -> Answer {
+    fn from(answer: u64) -> Answer
+        ensures { (result.number ≡ answer % 256) × (result.filled ≡ answer / 256) }
+    {
         Answer {
             number: answer % 256,
             filled: (answer / 256) as usize,
         }
+    }
+}
+
+impl Answer {
+    // What a call answers, taken apart.
+    pub fn of(answer: u64) -> Answer
+        ensures { (result.number ≡ answer % 256) × (result.filled ≡ answer / 256) }
+    {
+        Answer::from(answer)
     }
 }
 

@@ -27,7 +27,8 @@ impl<'a> Bytes<'a> {
 
     // The next bytes, so many; nothing where fewer are left.
     pub fn part(&mut self, size: usize) -> Option<&'a [u8]>
-        ensures { MatchOption result
+        ensures left { length self.new.rest.now ≤ length self.old.rest.now }
+        ensures next { MatchOption result
             ((length self.old.rest.now < size) × (self.new.rest.now ≡ self.old.rest.now))
             (λ p. (p.now ≡ take size self.old.rest.now) × (self.new.rest.now ≡ drop size self.old.rest.now)) }
     {
@@ -38,7 +39,9 @@ impl<'a> Bytes<'a> {
 
     // The next byte.
     pub fn byte(&mut self) -> Option<u8>
-        ensures { MatchOption result
+        ensures left { length self.new.rest.now ≤ length self.old.rest.now }
+        ensures goes_on { IfSome result (λ _. length self.new.rest.now < length self.old.rest.now) }
+        ensures next { MatchOption result
             ((length self.old.rest.now ≡ 0) × (self.new.rest.now ≡ self.old.rest.now))
             (λ b. (b ≡ get_or self.old.rest.now 0 0) × (self.new.rest.now ≡ drop 1 self.old.rest.now)) }
     {
@@ -49,7 +52,8 @@ impl<'a> Bytes<'a> {
 
     // The next two bytes, the lower first.
     pub fn word(&mut self) -> Option<u16>
-        ensures { MatchOption result
+        ensures left { length self.new.rest.now ≤ length self.old.rest.now }
+        ensures next { MatchOption result
             ((length self.old.rest.now < 2) × (self.new.rest.now ≡ self.old.rest.now))
             (λ w. (w ≡ from_le_bytes w16 (take 2 self.old.rest.now)) × (self.new.rest.now ≡ drop 2 self.old.rest.now)) }
     {
@@ -60,7 +64,8 @@ impl<'a> Bytes<'a> {
 
     // The next eight bytes, the lowest first.
     pub fn long(&mut self) -> Option<u64>
-        ensures { MatchOption result
+        ensures left { length self.new.rest.now ≤ length self.old.rest.now }
+        ensures next { MatchOption result
             ((length self.old.rest.now < 8) × (self.new.rest.now ≡ self.old.rest.now))
             (λ n. (n ≡ from_le_bytes w64 (take 8 self.old.rest.now)) × (self.new.rest.now ≡ drop 8 self.old.rest.now)) }
     {
@@ -73,7 +78,8 @@ impl<'a> Bytes<'a> {
 // A record of a test's file.
 pub trait Record<'a>: Drop {
     // The next record, one byte at least; nothing where the file ends before it does.
-    fn read(file: &mut Bytes<'a>) -> Option<Self>;
+    fn read(file: &mut Bytes<'a>) -> Option<Self>
+        ensures { IfSome result (λ _. length file.new.rest.now < length file.old.rest.now) };
 }
 
 // Every whole record of the file, which has no more of them than bytes.
@@ -117,5 +123,49 @@ pub fn is_left(out: &[u8], written: &[u8]) -> bool
     match out.strip_prefix(written) {
         Some(rest) => rest.iter().all(|b| *b == UNTOUCHED),
         None => false,
+    }
+}
+
+#[cfg(test)]
+mod tests {
+    use super::*;
+    use std::test::Fail;
+
+    // A record of a length in one byte, and of so many bytes.
+    #[derive(Clone, Copy)]
+    struct Counted<'a> {
+        bytes: &'a [u8],
+    }
+
+    impl<'a> Record<'a> for Counted<'a> {
+        fn read(file: &mut Bytes<'a>) -> Option<Counted<'a>> {
+            let size = file.byte()?;
+            Some(Counted {
+                bytes: file.part(size as usize)?,
+            })
+        }
+    }
+
+    // Two records, and a third that is cut.
+    #[test]
+    fn keeps_whole_records(rt: HostRuntime) -> Result<(), Fail> {
+        let all: Vec<Counted> = records(rt.alloc(), b"\x02ab\x00\x03cd")?;
+        assert_eq!(rt; all.len(), 2);
+        assert!(rt; all[0].bytes == b"ab".as_slice());
+        assert!(rt; all[1].bytes.is_empty());
+        Ok(())
+    }
+
+    #[test]
+    fn finds_numbers(rt: HostRuntime) {
+        assert_eq!(rt; number_behind(b"no ", b"no 7\n"), Some(7));
+        assert_eq!(rt; number_behind(b"refused ", b"refused 24\n"), Some(24));
+        assert_eq!(rt; number_behind(b"no ", b"no 7"), None, "no line feed");
+        assert_eq!(rt;
+            number_behind(b"no ", b"no 256\n"),
+            None,
+            "more than a byte"
+        );
+        assert_eq!(rt; number_behind(b"no ", b"yes\n"), None, "other words");
     }
 }

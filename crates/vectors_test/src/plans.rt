@@ -1,12 +1,12 @@
 // A plan compared: the number of its check; and it is written back and read again.
+use crate::record::Recorded;
 use plan_write::round_trip;
-use show_files::records::number_behind;
 
 // The number that plan check should answer: a refusal of the step file, 8, says that the plan was
 // accepted.
-pub fn expected_number(output: &[u8]) -> u32 {
-    match number_behind(b"refused ", output) {
-        Some(number @ 1..=6) => u32::from(number),
+pub fn expected_number(record: &Recorded) -> u32 {
+    match record.number() {
+        number @ 1..=6 => u32::from(number),
         _ => 0,
     }
 }

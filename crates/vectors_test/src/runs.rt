@@ -1,7 +1,7 @@
 // A run compared: its answer, and every byte of the output.
 use crate::record::Recorded;
 use show_files::answers::Answer;
-use show_files::records::{UNTOUCHED, is_left, number_behind};
+use show_files::records::{UNTOUCHED, is_left};
 
 // The output is longer than any trace of the records and holds a byte that no trace has. A refused run leaves it as it
 // was.
@@ -14,9 +14,10 @@ pub fn agrees(record: &Recorded) -> bool {
         record.steps,
         &mut out,
     ));
-    let (number, trace) = match number_behind(b"refused ", record.output) {
-        Some(number) => (number, &record.output[..0]),
-        None => (0, record.output),
+    let number = record.number();
+    let trace = match number {
+        0 => record.output,
+        _ => &record.output[..0],
     };
     answer.number == u64::from(number) && answer.filled == trace.len() && is_left(&out, trace)
 }

@@ -11,7 +11,7 @@ use plan::TaskId;
 use record::{Shown, View};
 use rules::step::Step;
 use rules::system::System;
-use show_files::records::{Bytes, Record, records};
+use show_files::records::{Bytes, Record};
 use shown::{driver_shows, refused_by_ten, tablet_shows};
 use std::io;
 
@@ -78,18 +78,47 @@ fn compare(record: &Shown) -> Compared {
     }
 }
 
+// What the records of a file came to.
+#[derive(Clone, Copy, Default)]
+pub struct Tally {
+    pub records: u64,
+    pub tablets: u64,
+    pub drivers: u64,
+    pub refused: u64,
+}
+
+impl Tally {
+    // One record more.
+    fn count(&mut self, c: Compared) {
+        self.records = self.records.wrapping_add(1);
+        self.tablets = self.tablets.wrapping_add(c.tablets as u64);
+        self.drivers = self.drivers.wrapping_add(c.drivers as u64);
+        self.refused = self.refused.wrapping_add(c.refused as u64);
+    }
+}
+
+// Every whole record of the file.
+fn compare_all(file: &[u8]) -> Tally {
+    let mut tally = Tally::default();
+    let mut rest = Bytes::of(file);
+    while let Some(record) = Shown::read(&mut rest) {
+        tally.count(compare(&record));
+    }
+    tally
+}
+
 fn main(rt: HostRuntime) -> io::Result<()> {
     let mut file = [0u8; 300000];
     let Some(file) = show_files::load_or_say(&rt, "views.bin", &mut file) else {
         return Ok(());
     };
-    let all: Vec<Shown> = records(rt.alloc(), file)?;
-    let compared: Vec<Compared> = all.iter().map(compare).collect(rt.alloc())?;
-    let total = compared.len();
-    let tablets = compared.iter().filter(|c| c.tablets).count();
-    let drivers = compared.iter().filter(|c| c.drivers).count();
-    let refused = compared.iter().filter(|c| c.refused).count();
+    let Tally {
+        records,
+        tablets,
+        drivers,
+        refused,
+    } = compare_all(file);
     println!(rt;
-        "{total} records: {tablets} tablets and {drivers} drivers agree; {refused} refuse tasks 0 and T + 1 by 10"
+        "{records} records: {tablets} tablets and {drivers} drivers agree; {refused} refuse tasks 0 and T + 1 by 10"
     )
 }

@@ -13,18 +13,18 @@ pub struct Shown<'a> {
     pub views: &'a [u8],
 }
 
-// The first field of the plan is how many tasks it has.
+// The first field of the plan is how many tasks it has: the two bytes at its place, however long it is.
 impl<'a> Record<'a> for Shown<'a> {
     fn read(file: &mut Bytes<'a>) -> Option<Shown<'a>> {
         let processors = file.byte()?;
         let size = file.word()?;
         let stepped = file.word()?;
-        let plan = file.part(size as usize)?;
+        let tasks = word_at(file.rest, 0);
         Some(Shown {
             processors,
-            plan,
+            plan: file.part(size as usize)?,
             steps: file.part(stepped as usize)?,
-            views: file.part(20 * word_at(plan, 0) as usize)?,
+            views: file.part(20 * tasks as usize)?,
         })
     }
 }

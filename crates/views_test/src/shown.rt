@@ -1,7 +1,6 @@
 // What a view shows, compared with a record.
 use crate::record::View;
 use plan::TaskId;
-use rules::step::StepRefusal;
 use rules::system::System;
 use rules::view::TabletView;
 
@@ -36,6 +35,10 @@ pub fn driver_shows(r: System, expected: View, t: TaskId) -> bool {
 
 // Both views of task t are refused by 10.
 pub fn refused_by_ten(r: System, t: TaskId) -> bool {
-    let tablet = matches!(views::tablet(r, t), Err(StepRefusal::NoTask));
-    tablet && matches!(views::driver(r, t), Err(StepRefusal::NoTask))
+    match (views::tablet(r, t), views::driver(r, t)) {
+        (Err(x), Err(y)) => {
+            trace::answer_number(Err(x)) == 10 && trace::answer_number(Err(y)) == 10
+        }
+        _ => false,
+    }
 }
