@@ -5,13 +5,15 @@ ghost use Rattle.rules.specs.Tasks.{advanced, readied, taking, marked};
 use plan::Word;
 use rules::task::{Task, TaskState};
 
-// The place goes on by one.
-pub fn advanced(mut x: Task) -> Task
+// The place goes on by one. The record is made anew: a store to the place alone is waited for where the record is next read.
+pub fn advanced(x: Task) -> Task
     requires { x.pc < 255 }
     ensures { result ≡ advanced x }
 {
-    x.pc += 1;
-    x
+    Task {
+        pc: x.pc + 1,
+        ..x
+    }
 }
 
 // The task is ready.
