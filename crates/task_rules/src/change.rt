@@ -10,10 +10,7 @@ pub fn advanced(x: Task) -> Task
     requires { x.pc < 255 }
     ensures { result ≡ advanced x }
 {
-    Task {
-        pc: x.pc + 1,
-        ..x
-    }
+    Task { pc: x.pc + 1, ..x }
 }
 
 // The task is ready.
