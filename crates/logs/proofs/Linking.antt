@@ -91,19 +91,25 @@ module _ (b : List ℕ) where
       rw (z, here) (stage_more k first next stage size (rw here at on))
 
   -- all records
-  pub stage_last : (first next : List ℕ) → Stage b 0 first next → Linked b (record { first = first; next = next })
+  pub stage_last : (first next : List ℕ) → Stage b 0 first next → Linked b (record { ok = true; first = first; next = next })
   unfolding log_channels_ok
   stage_last first next stage =
       record {
-        ok = below_all (λ k. within 1 128 (record_channel b k)) (records_in b) (λ k l. stage.fine k (omega arith) l);
-        first = stage.first;
-        next = stage.next ∙ table_same 4096 _ _ (λ k h. rw (le-ltb k 0 (omega arith)) refl);
+        ok = sym (below_all (λ k. within 1 128 (record_channel b k)) (records_in b) (λ k l. stage.fine k (omega arith) l));
+        first = λ e. stage.first;
+        next = λ e. stage.next ∙ table_same 4096 _ _ (λ k h. rw (le-ltb k 0 (omega arith)) refl);
       }
 
   -- a record that 25 refuses
-  pub stage_refused : (k : ℕ) → k < records_in b → within 1 128 (record_channel b k) ≡ false → log_channels_ok b ≡ false
+  pub stage_refused : (k : ℕ) → k < records_in b → within 1 128 (record_channel b k) ≡ false → (first next : List ℕ)
+      → Linked b (record { ok = false; first = first; next = next })
   unfolding log_channels_ok
-  stage_refused k l e = below_fails (λ k. within 1 128 (record_channel b k)) (records_in b) k l e
+  stage_refused k l e first next =
+      record {
+        ok = sym (below_fails (λ k. within 1 128 (record_channel b k)) (records_in b) k l e);
+        first = λ z. absurd (tests_differ z refl);
+        next = λ z. absurd (tests_differ z refl);
+      }
 
 -- what 24 does not refuse has at most 4,096 records
 pub records_few : (b : List ℕ) → log_length_ok b ≡ true → records_in b ≤ 4096

@@ -1,5 +1,5 @@
 -- Where the records of a channel stand in a log. A place is a record's number from 1 on, and 0 is none.
-use Rattle.std.specs.Prelude.{◌≡◌, true, false, Option, Some, None, List, [], ◌∷◌, ◌++◌, ℕ, zero, suc, ◌-◌, eqb}
+use Rattle.std.specs.Prelude.{◌≡◌, true, List, [], ◌∷◌, ◌++◌, ℕ, zero, suc, ◌-◌, eqb}
 use Rattle.base.specs.Choice.{pick}
 use Rattle.base.specs.Lists.{table}
 use Rattle.plan.specs.declared.Word.{Word}
@@ -27,13 +27,8 @@ place_behind b i c = place_from b c (records_in b - i) i
 abbrev pub next_of : List ℕ → ℕ → ℕ
 next_of b k = place_behind b (suc k) (record_channel b k)
 
--- the links of a log of which 25 refuses no record
+-- the links of a log
 pub record Linked (b : List ℕ) (l : Links) : Type 0 where
-  pub ok : log_channels_ok b ≡ true
-  pub first : l.first ≡ table 129 (place_behind b 0)
-  pub next : l.next ≡ table 4096 (next_of b)
-
--- there are none where it refuses one
-abbrev pub LinkedIf : List ℕ → Option Links → Type 0
-LinkedIf b None = log_channels_ok b ≡ false
-LinkedIf b (Some l) = Linked b l
+  pub ok : l.ok ≡ log_channels_ok b
+  pub first : l.ok ≡ true → l.first ≡ table 129 (place_behind b 0)
+  pub next : l.ok ≡ true → l.next ≡ table 4096 (next_of b)

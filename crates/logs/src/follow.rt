@@ -38,10 +38,11 @@ fn verdict(lowest: usize) -> LogsAnswer
 }
 
 // One pass, from the first record to the last. The place of a channel is that of its next word in the sent log.
-pub fn follow<'a>(sent: &'a [u8], received: &'a [u8], links: &'a Links) -> LogsAnswer
-    requires { (log_length_ok sent.now ≡ true) × (log_length_ok received.now ≡ true) × Linked sent.now links.now }
+pub fn follow<'a>(sent: &'a [u8], received: &'a [u8], links: Links) -> LogsAnswer
+    requires { (log_length_ok sent.now ≡ true) × (log_length_ok received.now ≡ true) × Linked sent.now links × (links.ok ≡ true) }
     ensures { result ≡ followed_answer sent.now received.now }
 {
+    let next = links.next;
     let mut places = links.first;
     let mut lowest: usize = 0;
     for k in 0..received.len() / 10 {
@@ -51,7 +52,7 @@ pub fn follow<'a>(sent: &'a [u8], received: &'a [u8], links: &'a Links) -> LogsA
         }
         let place = places[c] as usize;
         if matches(received, k, sent, place) {
-            places[c] = links.next[place - 1];
+            places[c] = next[place - 1];
         } else {
             lowest = lower(lowest, c);
         }

@@ -24,9 +24,9 @@ pub fn check_logs<'a>(sent: &'a [u8], received: &'a [u8]) -> LogsAnswer
     if !length_ok(sent) || !length_ok(received) {
         return LogsAnswer::BadLength;
     }
-    // The links are lent where they stand: they are 8 KB.
-    match &link(sent) {
-        Some(links) => follow(sent, received, links),
-        None => LogsAnswer::BadRecord,
+    let links = link(sent);
+    if !links.ok {
+        return LogsAnswer::BadRecord;
     }
+    follow(sent, received, links)
 }

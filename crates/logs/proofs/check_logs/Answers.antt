@@ -1,9 +1,9 @@
 -- `check_logs`.
 use mathlib.Core.Path.{◌≡◌, refl, sym, ◌∙◌}
 use mathlib.Core.Bool.{true, false, ◌&&◌}
+use borrow.Author.Tests.{not-true, not-false}
 use Rattle.base.proofs.Tests.{and_false}
 use Rattle.rules.specs.LogFiles.{log_length_ok, log_channels_ok, logs_answer}
-use Rattle.logs.specs.Places.{Linked}
 use Rattle.logs.specs.Following.{followed_answer}
 use Rattle.logs.proofs.check_logs.Goals as goal
 use Rattle.logs.proofs.check_logs.Goals.{then-not-length_ok-via-then-not-length_ok, then-not-length_ok-via-else-not-length_ok+then-not-length_ok-2}
@@ -21,24 +21,25 @@ returns-then-not-length_ok c =
     ] in
     rw e refl
 
-pub link-requires : goal.link-requires
-link-requires c = sym c.if-not-length_ok.ensures
+pub link-links-requires : goal.link-links-requires
+link-links-requires c = sym c.if-not-length_ok.ensures
 
-pub returns-in-None : goal.returns-in-None
+pub returns-then-not-links : goal.returns-then-not-links
 unfolding logs_answer
-returns-in-None c =
+returns-then-not-links c =
     let s : log_length_ok c.args.sent.now ≡ true = sym c.if-not-length_ok.ensures in
     let r : log_length_ok c.args.received.now ≡ true = sym c.if-not-length_ok-2.ensures in
-    let none : log_channels_ok c.args.sent.now ≡ false = rw c.in-None.is at c.link.ensures in
-    rw (s, r, none) refl
+    let e : log_channels_ok c.args.sent.now ≡ false = sym c.link-links.ensures.ok ∙ not-true c.link-links.result.ok c.if-not-links.true in
+    rw (s, r, e) refl
 
 pub follow-requires : goal.follow-requires
-follow-requires c = (sym c.if-not-length_ok.ensures, sym c.if-not-length_ok-2.ensures, rw c.in-Some.is at c.link.ensures)
+follow-requires c =
+    (sym c.if-not-length_ok.ensures, sym c.if-not-length_ok-2.ensures, c.link-links.ensures, not-false c.link-links.result.ok c.if-not-links.false)
 
-pub returns-in-Some : goal.returns-in-Some
+pub returns : goal.returns
 unfolding logs_answer followed_answer
-returns-in-Some c =
+returns c =
     let s : log_length_ok c.args.sent.now ≡ true = sym c.if-not-length_ok.ensures in
     let r : log_length_ok c.args.received.now ≡ true = sym c.if-not-length_ok-2.ensures in
-    let linked : Linked c.args.sent.now c.in-Some.links = rw c.in-Some.is at c.link.ensures in
-    c.follow.ensures ∙ rw (s, r, linked.ok) refl
+    let e : log_channels_ok c.args.sent.now ≡ true = sym c.link-links.ensures.ok ∙ not-false c.link-links.result.ok c.if-not-links.false in
+    c.follow.ensures ∙ rw (s, r, e) refl

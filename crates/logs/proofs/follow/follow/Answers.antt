@@ -12,7 +12,7 @@ use Rattle.logs.proofs.follow.follow.Goals as goal
 use Rattle.logs.proofs.follow.follow.Goals.{then-matches, else-matches}
 
 pub loop-k-init : goal.loop-k-init
-loop-k-init c = stage_first c.args.sent.now c.args.received.now c.args.links.now.first c.requires.2.first
+loop-k-init c = stage_first c.args.sent.now c.args.received.now c.args.links.first (c.requires.2.first c.requires.3)
 
 pub channel-c-requires : goal.channel-c-requires
 channel-c-requires c = omega (arith, records_few c.args.received.now c.requires.1)
@@ -36,11 +36,11 @@ overflow_sub-places c =
     omega (
       arith,
       some a.sent.now a.received.now c.loop-k.k c.loop-k.places c.loop-k.lowest c.loop-k.invariant c.channel-c.result c.channel-c.ensures fine
-          (sym c.matches.ensures ∙ c.if-matches.true) a.links.now.next c.requires.2.next (records_few a.sent.now c.requires.0),
+          (sym c.matches.ensures ∙ c.if-matches.true) a.links.next (c.requires.2.next c.requires.3) (records_few a.sent.now c.requires.0),
     )
 
-pub bounds-links-place : goal.bounds-links-place
-bounds-links-place c =
+pub bounds-next-place : goal.bounds-next-place
+bounds-next-place c =
     let test : c.contains.result ≡ within 1 128 c.channel-c.result = search rules in
     let few = within_high 1 128 c.channel-c.result (sym test ∙ c.if-not-contains.false) in
     omega (arith, c.loop-k.invariant.few c.channel-c.result few, records_few c.args.sent.now c.requires.0)
@@ -54,8 +54,8 @@ loop-k-preserved c =
     elim c.if-matches.branch [
       | then-matches w ↦
           rw (w.places-is, w.lowest-is)
-          (stage_agrees a.sent.now a.received.now l.k l.places l.lowest l.invariant c.channel-c.result c.channel-c.ensures fine (sym w.if-matches.ensures) a.links.now.next
-          c.requires.2.next (records_few a.sent.now c.requires.0))
+          (stage_agrees a.sent.now a.received.now l.k l.places l.lowest l.invariant c.channel-c.result c.channel-c.ensures fine (sym w.if-matches.ensures) a.links.next
+          (c.requires.2.next c.requires.3) (records_few a.sent.now c.requires.0))
       | else-matches w ↦
           rw (w.places-is, w.lowest-is, w.lower-lowest.ensures)
           (stage_differs a.sent.now a.received.now l.k l.places l.lowest l.invariant c.channel-c.result c.channel-c.ensures fine (sym w.if-matches.ensures))

@@ -16,7 +16,7 @@ channel-c-requires c = omega (arith, records_few c.args.log.now c.requires, c.lo
 pub returns-then-not-contains : goal.returns-then-not-contains
 returns-then-not-contains c =
     let test : c.contains.result ≡ within 1 128 c.channel-c.result = search rules in
-    stage_refused c.args.log.now (c.loop-k.k - 1) (omega (arith, c.loop-k.invariant.few)) (rw c.channel-c.ensures at (sym test ∙ c.if-not-contains.true))
+    stage_refused c.args.log.now (c.loop-k.k - 1) (omega (arith, c.loop-k.invariant.few)) (rw c.channel-c.ensures at (sym test ∙ c.if-not-contains.true)) c.loop-k.first c.loop-k.next
 
 pub bounds-next-k : goal.bounds-next-k
 bounds-next-k c = omega (arith, records_few c.args.log.now c.requires, c.loop-k.invariant.few)
