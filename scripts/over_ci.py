@@ -3,7 +3,7 @@
 
 `rt ci` leaves each library that it proved in crates/NAME/out/rlib, and proves a static library without making it. `rt lib` would prove
 all of them once more. So the crate is proved and built here over those libraries, which is what `rt ci` does of a program. Where one of them is not
-there, `rt lib` makes the archive.
+there, or where `rt ci` kept some of them from different runs, so that they do not fit together, `rt lib` makes the archive.
 """
 import os
 import re
@@ -37,7 +37,9 @@ def main():
     words += ["--antt-project", f"{kit}/rattle/logic/antt-project.json", "--logic-built", f"{kit}/logic_built"]
     words += ["--toolchain", f"{kit}/toolchain", "--backend", "llvm"]
     os.makedirs("out", exist_ok=True)
-    return subprocess.run([f"{kit}/bin/rattle", "build", *words, "-o", f"out/lib{name}.a"]).returncode
+    if subprocess.run([f"{kit}/bin/rattle", "build", *words, "-o", f"out/lib{name}.a"]).returncode == 0:
+        return 0
+    return subprocess.run(["rt", "lib"]).returncode
 
 
 if __name__ == "__main__":
